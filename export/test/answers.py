@@ -40,7 +40,8 @@ class Answers:
         self.assertEqual([line for line in lines if line.startswith("text")], [f"text  (in {FOLDER}, 5 bytes)"])
         for told in (f"  {self.label(self.two)}: other bytes on the disk; size and time are as recorded",
                      "    block 0 differs (1 of 1 block of 128 KiB; the first is block 0)", f"  as recorded on: {self.label(self.one)}",
-                     f"  to do: Syncthing won't repair it: copy it from {self.label(self.one)} to {self.label(self.two)}"):
+                     "  to do: Syncthing won't repair it, and sends these bytes to all once another device fetches the\n"
+                     f"         file from {self.label(self.two)}. Before that, copy it from {self.label(self.one)} to {self.label(self.two)} with "):
             self.assertIn(told, text)
 
     def test_a_person_reads_of_a_rename(self):

@@ -17,6 +17,7 @@ class Conflict(Exporting):
         (self.one.files / "text").write_text("changed on one")
         (self.two.files / "text").write_text("changed on two")
         self.assertEqual(self.verdict("--names", "text")[:25], "not settled: StoreDiffers")
+        self.assert_a_person_reads_of_the_conflict()
         self.start()
         wait_until("both devices have the conflict copy", self.have_copies)
         wait_until_in_step(self.one, self.two)
@@ -27,6 +28,14 @@ class Conflict(Exporting):
             texts = {one["name"][:18]: one["text"] for one in share["store"]}
             self.assertEqual(sorted(texts), ["text", "text.sync-conflict"])
             self.assertEqual(sorted(texts.values()), ["changed on one", "changed on two"])
+
+    def assert_a_person_reads_of_the_conflict(self):
+        """Nobody is told that each change goes to all."""
+        told = self.on_homes("check", [device.home for device in self.devices], "--syncaudit", self.auditor).stdout
+        devices = ", ".join(sorted(device.id[:7] for device in self.devices))
+        self.assertIn(f"to do: start Syncthing on {devices} and 'Rescan': what they have there is then in conflict. Syncthing keeps the one that was "
+                      "modified later, and the other one as a conflict copy.", " ".join(told.split()))
+        self.assertNotIn("goes to all", " ".join(told.split()))
 
     def have_copies(self):
         """Whether both devices hold a conflict copy, after a scan of each."""

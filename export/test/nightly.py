@@ -229,7 +229,9 @@ class Nightly(Audited):
             shutil.copy(path, units)
         ran = subprocess.run(["systemd-analyze", "--user", "verify", "--man=no", *units.iterdir()], capture_output=True, text=True,
                              env={"HOME": str(self.user), "PATH": os.environ["PATH"], "XDG_RUNTIME_DIR": str(self.user)})
-        self.assertEqual((ran.returncode, ran.stderr), (0, ""))
+        # The system's own units are read, too. A socket of theirs has too long a path where the temporary directory has a long one.
+        of_these = tuple(word for unit in units.iterdir() for word in (str(unit), unit.name))
+        self.assertEqual((ran.returncode, [line for line in ran.stderr.splitlines() if line.startswith(of_these)]), (0, []))
 
 
 class NightlySlices(Audited):

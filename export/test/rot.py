@@ -1,6 +1,6 @@
 #!/usr/bin/env python3
 """The audit of two real Syncthing devices one of which has rotten files: rot in many blocks, rot together with another
-mode, where scans look at attributes, and rot in files of each block size.
+mode, and rot in files of each block size.
 
     export/test/rot.py
 """
@@ -8,11 +8,10 @@ mode, where scans look at attributes, and rot in files of each block size.
 import gzip
 import json
 import os
-import unittest
 
 from exporting import Exporting, main
 from large_folders import MEGA, rot
-from syncthing import FOLDER, programs, version_of, wait_until
+from syncthing import FOLDER, wait_until
 
 KILO = 1 << 10
 
@@ -107,59 +106,6 @@ class RotWithAnotherMode(Rotten):
         self.two.scan()
         wait_until("the rotten bytes are on the other device", lambda: text_of(self.one.files / "text") == "hallo")
         self.stop()
-
-
-class WhereAttributesAreScanned(Rotten):
-    """A device whose scans look at extended attributes, too. They hash each file whose inode changed."""
-
-    @classmethod
-    def setUpClass(cls):
-        if any(version_of(one).startswith("syncthing v1.19") for one in programs()):
-            raise unittest.SkipTest("Syncthing 1.19 doesn't scan attributes")
-        super().setUpClass()
-
-    @classmethod
-    def configure(cls):
-        super().configure()
-        cls.two.choose(sendXattrs="true")
-
-    def assert_told(self, *told):
-        """Other bytes of the same size and time are wrong, and a person reads this of them."""
-        path = self.two.files / "text"
-        times = path.stat()
-        path.write_text("hallo")
-        os.utime(path, ns=(times.st_atime_ns, times.st_mtime_ns))
-        self.assertEqual(self.verdict(), self.fault("StoreDiffers", "text", self.two))
-        text = " ".join(self.answer()[1].split())
-        for one in told:
-            self.assertIn(one, text)
-
-
-class RotWhereAttributesAreScanned(WhereAttributesAreScanned):
-    """Other bytes of the same size and time."""
-
-    def test_a_scan_may_see_them_and_does(self):
-        self.assert_told("size and time are as recorded, but a scan of owners or attributes may see it",
-                         "before Syncthing scans there (the scan may send these bytes to all), copy it from")
-        self.start()
-        self.two.scan()
-        wait_until("the other bytes are on the other device", lambda: text_of(self.one.files / "text") == "hallo")
-        self.stop()
-
-
-class RotThatAScanDrops(WhereAttributesAreScanned):
-    """The same on a device that only receives: a scan finds them, and Syncthing keeps the record that all others have."""
-
-    kinds = {"two": "receiveonly"}
-
-    def test_no_local_change_is_told(self):
-        told = ("size and time are as recorded, so no scan sees it", "Syncthing won't repair it: copy it from")
-        self.assert_told(*told)
-        self.start()
-        self.two.scan()
-        self.assertEqual(self.two.api("GET", f"db/status?folder={FOLDER}")["receiveOnlyTotalItems"], 0)
-        self.stop()
-        self.assert_told(*told)
 
 
 class BlockSizes(Rotten):

@@ -100,7 +100,7 @@ class TwoDevices(Answers, Exporting):
         self.assertEqual(self.check_parts([path, self.part(self.two)]).stdout.splitlines()[0], "settled")
         ran = run([self.program, "part", "-o", path], env={**os.environ, "HOME": str(user)})
         self.assertEqual(ran.returncode, 3)
-        self.assertIn(f"no Syncthing home is at {user}/.config/syncthing or {user}/.local/state/syncthing: --home names it", ran.stderr)
+        self.assertIn(f"no Syncthing home is at {user}/.config/syncthing or {user}/.local/state/syncthing: give it as --home DIR", ran.stderr)
 
     def test_a_part_in_a_folder_of_another_home_is_refused(self):
         """The marker shows it, whichever way the part goes there."""
@@ -255,7 +255,8 @@ class TwoDevices(Answers, Exporting):
         self.one.configure([self.one, self.two], password="secret")
         try:
             self.assertIn("the folder is shared encrypted with it by device", self.refused())
-            self.assertIn("there is nothing to audit", self.refused("--leave-out", "encrypted"))
+            ran = self.check("--leave-out", "encrypted")
+            self.assertEqual((ran.returncode, ran.stdout.splitlines()[:2]), (6, ["settled as far as audited", f"folder {FOLDER}: 6 names, 1 deleted, 1 devices"]))
         finally:
             self.one.configure([self.one, self.two])
 

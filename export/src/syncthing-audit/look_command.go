@@ -150,10 +150,10 @@ func (o *options) takeDefaultHome() error {
 	}
 	switch len(found) {
 	case 0:
-		return &wrongUsage{fmt.Sprintf("no Syncthing home is at %s: --home names it, for 'run' MACHINE:DIR; 'syncthing --paths' says where it is",
+		return &wrongUsage{fmt.Sprintf("no Syncthing home is at %s: give it as --home DIR, to 'run' as MACHINE:DIR; 'syncthing --paths' says where it is",
 			strings.Join(usual, " or "))}
 	case 2:
-		return &wrongUsage{fmt.Sprintf("homes are at %s: --home says which one, for 'run' MACHINE:DIR", strings.Join(found, " and "))}
+		return &wrongUsage{fmt.Sprintf("homes are at %s: give one of them as --home DIR, to 'run' as MACHINE:DIR", strings.Join(found, " and "))}
 	}
 	o.homes = found
 	return nil

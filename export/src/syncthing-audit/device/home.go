@@ -77,17 +77,25 @@ func openWith(dir string, open func(*Home) error) (*Home, error) {
 // readAbout reads whose home a directory is, and how it is configured.
 func readAbout(dir string) (protocol.DeviceID, config.Configuration, error) {
 	id, err := readDeviceID(filepath.Join(dir, "cert.pem"))
-	if errors.Is(err, os.ErrNotExist) {
-		err = fmt.Errorf("%w: is this a Syncthing home? 'syncthing --paths' says where it is", err)
-	}
 	if err != nil {
-		return id, config.Configuration{}, err
+		return id, config.Configuration{}, withHint(err)
 	}
 	if err := checkOne(dir); err != nil {
 		return id, config.Configuration{}, err
 	}
 	read, err := readConfig(filepath.Join(dir, "config.xml"), id)
 	return id, read, err
+}
+
+// withHint says beside why a home can't be read what that may come from.
+func withHint(err error) error {
+	switch {
+	case errors.Is(err, os.ErrNotExist) || errors.Is(err, syscall.ENOTDIR):
+		return fmt.Errorf("%w: is this a Syncthing home? 'syncthing --paths' says where it is", err)
+	case errors.Is(err, os.ErrPermission):
+		return fmt.Errorf("%w: a home is for its own user alone: run this as the user whose Syncthing it is", err)
+	}
+	return err
 }
 
 // checkOne refuses a home on which Syncthing 2 ran.

@@ -4,6 +4,7 @@ import (
 	"os"
 	"path/filepath"
 	"strings"
+	"syscall"
 	"testing"
 
 	"github.com/syncthing/syncthing/lib/config"
@@ -25,6 +26,26 @@ func TestACopyWithoutAPlace(t *testing.T) {
 	err := home.openIndex()
 	home.Close()
 	if err == nil || !strings.Contains(err.Error(), "can't be copied to /nowhere (TMPDIR may name another directory)") {
+		t.Error(err)
+	}
+}
+
+// What can't be read as a home is told with what that may come from.
+func TestHintsOnAHome(t *testing.T) {
+	file := filepath.Join(t.TempDir(), "config.xml")
+	if err := os.WriteFile(file, nil, 0o600); err != nil {
+		t.Fatal(err)
+	}
+	for _, dir := range []string{t.TempDir(), file, filepath.Join(file, "nowhere")} {
+		if _, _, err := readAbout(dir); err == nil || !strings.Contains(err.Error(), "is this a Syncthing home? 'syncthing --paths' says where it is") {
+			t.Errorf("%s: %v", dir, err)
+		}
+	}
+	err := withHint(&os.PathError{Op: "open", Path: "/home/ann/cert.pem", Err: syscall.EACCES})
+	if err.Error() != "open /home/ann/cert.pem: permission denied: a home is for its own user alone: run this as the user whose Syncthing it is" {
+		t.Error(err)
+	}
+	if err := withHint(syscall.EIO); err != syscall.EIO {
 		t.Error(err)
 	}
 }

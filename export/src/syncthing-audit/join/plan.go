@@ -131,8 +131,12 @@ func (p *Plan) check(folder *Folder) bool {
 	if len(p.Refusals) > before {
 		return false
 	}
+	encrypted := p.takeOutEncrypted(folder)
+	if len(folder.Members) == 0 {
+		return false
+	}
 	p.checkApart(folder)
-	if !p.checkSharing(folder) {
+	if !p.checkSharing(folder, encrypted) {
 		return false
 	}
 	p.checkMoments(folder)
@@ -153,28 +157,18 @@ func (p *Plan) checkWhole(folder *Folder) {
 	if len(folder.Members) > limits.MostDevices {
 		p.refuse("", folder, "", "", fmt.Sprintf("%d devices, at most %d go into a document", len(folder.Members), limits.MostDevices))
 	}
-	for _, one := range folder.Members {
-		if one.About.Kind == part.KindEncrypted {
-			p.refuse(part.Encrypted, folder, one.Head.Device, one.Head.Name, "the folder is encrypted there")
-		}
-		for _, other := range one.About.Sharing {
-			if other.Encrypted {
-				p.refuse(part.Encrypted, folder, other.Device, other.Name, "the folder is shared encrypted with it by "+one.Label())
-			}
-		}
-	}
 }
 
 // checkSharing refuses a device without a part. It also refuses a folder that one device shares with another, if the other
-// is here and doesn't share it back. It says whether there is no such folder.
-func (p *Plan) checkSharing(folder *Folder) bool {
+// is here and doesn't share it back. It says whether there is no such folder. Of those on which it is encrypted it says nothing.
+func (p *Plan) checkSharing(folder *Folder, encrypted map[string]bool) bool {
 	absent := map[string]bool{}
 	isShared := true
 	for _, one := range folder.Members {
 		for _, other := range one.About.Sharing {
 			at := folder.Member(other.Device)
 			switch {
-			case at < 0 && p.IsLeftOut(folder.ID, other.Device):
+			case encrypted[other.Device], at < 0 && p.IsLeftOut(folder.ID, other.Device):
 			case at >= 0 && !sharesWith(folder.Members[at].About, one.Head.Device):
 				isShared = false
 				p.refuse(part.Unshared, folder, other.Device, other.Name, "it doesn't share the folder with "+one.Label()+", which shares it with this one")

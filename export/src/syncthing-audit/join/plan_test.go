@@ -78,7 +78,26 @@ func TestSharing(t *testing.T) {
 			if device == 2 {
 				folder.Kind = "encrypted"
 			}
-		}, part.Encrypted, 0},
+		}, part.Encrypted, 1},
+		{"encrypted on all", map[byte]string{1: "12", 2: "12"}, func(_ byte, folder *part.Folder) { folder.Kind = "encrypted" }, "encrypted encrypted", 0},
+		{"encrypted on one of three", map[byte]string{1: "123", 2: "123", 3: "123"}, func(device byte, folder *part.Folder) {
+			if device == 3 {
+				folder.Kind = "encrypted"
+			}
+			for place := range folder.Sharing {
+				folder.Sharing[place].Encrypted = device != 3 && folder.Sharing[place].Device == deviceID(3)
+			}
+		}, part.Encrypted, 2},
+		{"encrypted on one that is missing", map[byte]string{1: "123", 2: "123"}, func(_ byte, folder *part.Folder) {
+			for place := range folder.Sharing {
+				folder.Sharing[place].Encrypted = folder.Sharing[place].Device == deviceID(3)
+			}
+		}, part.Encrypted, 2},
+		{"by way of one alone, on which it is encrypted", map[byte]string{1: "13", 2: "23", 3: "123"}, func(device byte, folder *part.Folder) {
+			if device == 3 {
+				folder.Kind = "encrypted"
+			}
+		}, part.Encrypted, 2},
 		{"an odd id", map[byte]string{1: "12", 2: "12"}, func(_ byte, folder *part.Folder) { folder.ID = "my docs" }, part.OddName, 0},
 	}
 	for _, one := range cases {

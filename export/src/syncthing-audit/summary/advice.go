@@ -49,20 +49,6 @@ func adviceOf(file *File, named labels) []string {
 	return made
 }
 
-// isReplaced says whether a device's other bytes go away by themselves, once it takes what it is behind with: where no scan sees them before.
-// Syncthing keeps no copy of them then.
-func isReplaced(one *Fault, file *File) bool {
-	if one.Cause != OtherBytes || one.Kind == sendOnly || one.isSeen || one.mayShow() {
-		return false
-	}
-	for _, other := range file.Faults {
-		if other.Device == one.Device && other.Cause == Behind {
-			return true
-		}
-	}
-	return false
-}
-
 // addOnce adds a text that isn't there yet.
 func addOnce(all []string, text string) []string {
 	if slices.Contains(all, text) {
@@ -70,10 +56,6 @@ func addOnce(all []string, text string) []string {
 	}
 	return append(all, text)
 }
-
-// mayShow says whether a scan may take other bytes for a change: it hashes a file whose inode changed. In a folder that only
-// receives, Syncthing 1.29 then keeps the record that all others have, and tells no local change.
-func (f *Fault) mayShow() bool { return f.Cause == OtherBytes && f.isWide && f.Kind != receiveOnly }
 
 // adviceOfFault says what to do about one fault.
 func adviceOfFault(one *Fault, file *File, named labels) string {
@@ -101,7 +83,7 @@ func adviceOfFault(one *Fault, file *File, named labels) string {
 		return "'Revert Local Changes' on " + at + " deletes what was added there: copy elsewhere first what is to stay. To have it " +
 			file.spread("everywhere", "recorded as any other file") + ", make the folder 'Send & Receive' there"
 	case NotScanned:
-		return notScannedAdvice(one, file, at)
+		return notScannedAdvice(one, file, at, named)
 	case OnlySeen, NewerKnown:
 		return "start Syncthing on all of these devices and let them connect: they then tell each other what they have"
 	case OtherTime:
@@ -146,7 +128,7 @@ func localChangeAdvice(one *Fault, file *File, at string) string {
 }
 
 // notScannedAdvice says what a scan does with what it hasn't seen yet.
-func notScannedAdvice(one *Fault, file *File, at string) string {
+func notScannedAdvice(one *Fault, file *File, at string, named labels) string {
 	told := "start Syncthing on " + at + " and 'Rescan': "
 	late := lateAdvice(one, file, at)
 	switch {
@@ -155,6 +137,8 @@ func notScannedAdvice(one *Fault, file *File, at string) string {
 	case file.isOdd:
 		return "rename " + file.say("it", "them") + " on " + at + ": " + file.say("its name isn't", "their names aren't") + " in Unicode's form NFC, in which " +
 			"Syncthing has names. A scan does that by itself only where nothing stands at the other name; else it passes over " + file.say("it", "them")
+	case one.isRival:
+		return rivalsAdvice(file, named)
 	case one.Kind == receiveOnly && file.isOwn:
 		return "make the folder 'Send & Receive' on " + at + " and 'Rescan': " + file.say("it is then recorded", "they are then recorded") +
 			". While the folder only receives, a scan takes " + file.say("it for a local addition, which keeps", "them for local additions, which keep") +
@@ -179,35 +163,6 @@ func otherTimeAdvice(one *Fault, file *File, at string) string {
 	return told
 }
 
-func otherBytesAdvice(one *Fault, file *File, at string, named labels) string {
-	if late := lateAdvice(one, file, at); late != "" && (one.isSeen || one.mayShow()) {
-		return late
-	}
-	if isReplaced(one, file) {
-		return "once " + at + " takes what is newest, these bytes are gone, without a conflict copy: copy elsewhere first what is to stay"
-	}
-	mend := file.say("Syncthing won't repair it: ", "Syncthing won't repair them: ")
-	switch {
-	case one.isSeen && one.Kind == receiveOnly:
-		mend = "before Syncthing scans there (the scan takes these bytes for a local change), "
-	case one.isSeen:
-		mend = "before Syncthing scans there (the scan " + file.spread("sends these bytes to all", "records these bytes") + "), "
-	case one.Kind == sendOnly && file.lacks(one.Device):
-		mend = "before 'Override Changes' there (it " + file.spread("sends these bytes to all", "records these bytes") + "), "
-	case one.isAsked:
-		mend = "before Syncthing starts there (once a device asks it for " + file.say("the file, it hashes it anew and sends these bytes to all",
-			"one of the files, it hashes that anew and sends its bytes to all") + "), "
-	case one.mayShow():
-		mend = "before Syncthing scans there (the scan may " + file.spread("send these bytes to all", "record these bytes") + "), "
-	}
-	mend += copying(one, file, named, overFile)
-	if one.Kind == receiveOnly || len(file.sendersOfOtherBytes()) > 1 {
-		return mend
-	}
-	return mend + ". If instead the bytes on " + at + " are the right ones, 'touch' the " + file.say("file", "files") +
-		" there and let Syncthing scan: it " + file.spread("sends them to all", "records them")
-}
-
 func changedAdvice(one *Fault, file *File, at string, named labels) string {
 	how := overAnother
 	if one.isFileForFile() {
@@ -216,6 +171,9 @@ func changedAdvice(one *Fault, file *File, at string, named labels) string {
 	told := "start Syncthing on " + at + " and 'Rescan': "
 	if late := lateAdvice(one, file, at); late != "" {
 		return late
+	}
+	if one.isRival {
+		return rivalsAdvice(file, named)
 	}
 	if one.Kind == receiveOnly {
 		return told + file.say("the change stays there as a local one", "the changes stay there as local ones") + file.revert(one)

@@ -43,7 +43,7 @@ var ofMany = []struct {
 	{lateFaults("send-receive", OtherTime, lateChange), nil, "the one of each that was modified later"},
 	{lateFaults("send-receive", OtherTime, lateDeletion), nil, "first delete the files there"},
 	{lateFaults(receiveOnly, Changed, lateChange), nil, "conflict copies, local additions"},
-	{append(faultsOf("send-receive", OtherBytes), Fault{Device: phone, Kind: "send-receive", Cause: Behind}), []string{laptop}, "one of the files, it hashes that anew"},
+	{append(faultsOf("send-receive", OtherBytes), Fault{Device: phone, Kind: "send-receive", Cause: Behind}), []string{laptop}, "another device may fetch them from server, and then these bytes go to all"},
 }
 
 // lateFaults gives a fault at a device whose version lacks what others have, and recorded what no other one has.
@@ -56,7 +56,7 @@ func TestAdviceOfMany(t *testing.T) {
 	named := labels{laptop: "laptop", server: "server", phone: "phone"}
 	for _, one := range ofMany {
 		many := &File{Faults: one.faults, Have: one.have, isMany: true}
-		many.markAsked()
+		many.noteFetched()
 		told := strings.Join(adviceOf(many, named), ". ")
 		if !strings.Contains(told, one.has) || ofOne.MatchString(told) {
 			t.Errorf("%s of many: %s", one.faults[0].Cause, told)

@@ -183,25 +183,3 @@ func TestAdviceKeepsAttributes(t *testing.T) {
 		}
 	}
 }
-
-// Whether the next scan sees other bytes, and whether an audited device has the recorded ones, is told.
-func TestAdviceOnOtherBytes(t *testing.T) {
-	for kind, has := range map[string]string{"send-receive": "the scan sends these bytes to all", receiveOnly: "takes these bytes for a local change"} {
-		seen := faultsOf(kind, OtherBytes)
-		seen[0].isSeen = true
-		if told := adviceOf(&File{Faults: seen, Have: []string{laptop}}, labels{}); !strings.Contains(told[0], has) {
-			t.Errorf("other bytes with another mode, %s: %s", kind, told)
-		}
-	}
-	for kind, has := range map[string]string{"send-receive": "the scan may send these bytes to all", receiveOnly: "Syncthing won't repair it"} {
-		seen := faultsOf(kind, OtherBytes)
-		seen[0].isWide = true
-		if told := adviceOf(&File{Faults: seen, Have: []string{laptop}}, labels{}); !strings.Contains(told[0], has) || !strings.Contains(told[0], "cp --preserve=timestamps") {
-			t.Errorf("other bytes where scans look at attributes, %s: %s", kind, told)
-		}
-	}
-	told := adviceOf(&File{Faults: faultsOf("send-receive", OtherBytes)}, labels{})
-	if !strings.Contains(told[0], "look among old versions and backups for the recorded bytes, which no audited device has") {
-		t.Errorf("where no device has the bytes: %s", told)
-	}
-}

@@ -43,7 +43,7 @@ func (f *File) sendersOfOtherBytes() []string {
 	made := []string{}
 	for place := range f.Faults {
 		one := &f.Faults[place]
-		if one.Cause == OtherBytes && one.Kind != receiveOnly && !isReplaced(one, f) {
+		if one.Cause == OtherBytes && one.Kind != receiveOnly && f.lackOn(one.Device) == nil {
 			made = append(made, one.Device)
 		}
 	}

@@ -47,9 +47,12 @@ type Fault struct {
 	late     late // what others have and the device's own version lacks
 	isDue    bool // what stands on the disk is what is due, whatever the device recorded
 	isAlone  bool // of Missing: the device recorded a change that no other one has
-	isAsked  bool // another device will ask for the file there
 	isSeen   bool // by the next scan, since the mode isn't as recorded
 	isWide   bool // the device's scans look at owners or extended attributes, too
+	// Another device has to take the file, and may fetch it from there.
+	isFetched bool
+	// A scan of another device finds other contents there, of which neither's record knows.
+	isRival bool
 }
 
 // State is what a record or a disk says of a name.

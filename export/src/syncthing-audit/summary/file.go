@@ -73,6 +73,8 @@ func fileOf(folder *finding.Folder, told *finding.Told) *File {
 	if told.Damaged != nil {
 		made.addDamage(folder, told.Damaged)
 	}
+	made.noteFetched()
+	made.noteRivals()
 	if told.Permissions != nil {
 		made.Permissions = modesOf(folder, told.Permissions)
 	}
@@ -96,6 +98,9 @@ func addUnwon(file *File, folder *finding.Folder, one *finding.Unwon) {
 			fault.Recorded, fault.Found = recorded(row.At[at.Member].Own), found(row.At[at.Member].Disk)
 			fault.Deletion = fault.Recorded != nil && fault.Recorded.Deleted
 			fault.ends = endsOf(&fault, row.At[at.Member], nil)
+			if row.At[at.Member].Disk != nil {
+				fault.contents = row.At[at.Member].Disk.Contents
+			}
 		}
 		file.Faults = append(file.Faults, fault)
 	}

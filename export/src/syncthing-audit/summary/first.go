@@ -54,7 +54,7 @@ func note(faults []Fault, loses, starts map[string]bool) {
 var isStarted = map[Cause]bool{Changed: true, NotScanned: true, OtherTime: true, OnlySeen: true, NewerKnown: true, OtherBlocks: true, Behind: true,
 	Conflicting: true}
 
-// losesByScan says whether Syncthing may send to all what is wrong on this device, or lose what it alone recorded, once it scans or is asked.
+// losesByScan says whether Syncthing may send to all what is wrong on this device, or lose what it alone recorded, once it scans or another device fetches the file.
 func (f *Fault) losesByScan() bool {
 	switch {
 	case f.Kind == receiveOnly:
@@ -62,5 +62,5 @@ func (f *Fault) losesByScan() bool {
 	case f.Cause == Missing:
 		return f.late != lateChange || f.isAlone
 	}
-	return f.Cause == Back || f.Cause == Damaged || f.Cause == OtherBytes && (f.isSeen || f.isAsked || f.mayShow())
+	return f.Cause == Back || f.Cause == Damaged || f.Cause == OtherBytes && (f.isSeen || f.isFetched || f.mayShow())
 }

@@ -39,6 +39,14 @@ func TestWhatComesFirst(t *testing.T) {
 			}
 			fresh(folder, 1)
 		}, true},
+		"other bytes that a device which is behind may fetch": {func(folder *finding.Folder) {
+			fails(folder, "a", []*part.Name{nil, with(file(1, 1), rotten)}, "RecordMissing 1", "StoreDiffers 2")
+			fresh(folder, 1)
+		}, true},
+		"other bytes": {func(folder *finding.Folder) {
+			fails(folder, "a", []*part.Name{file(1, 1), with(file(1, 1), rotten)}, "StoreDiffers 2")
+			fresh(folder, 1)
+		}, false},
 		"on two devices":     {func(folder *finding.Folder) { missing(folder, "a", 1); fresh(folder, 0) }, false},
 		"one is missing":     {func(folder *finding.Folder) { missing(folder, "a", 1) }, false},
 		"nothing is missing": {func(folder *finding.Folder) { fresh(folder, 1) }, false},

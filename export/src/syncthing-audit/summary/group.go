@@ -52,6 +52,9 @@ func keyOf(file *File) string {
 		if one.Cause != Behind {
 			key += fmt.Sprint(" ", one.late, one.isAlone)
 		}
+		if one.isRival {
+			key += " in conflict"
+		}
 	}
 	return key + " of " + strings.Join(file.Have, " ")
 }
@@ -92,7 +95,6 @@ func (f *folding) take(one *File) {
 	one.sortDevices(f.named)
 	one.Same = sameOtherBytes(one.Faults)
 	one.markSeen()
-	one.markAsked()
 	key := keyOf(one)
 	if !one.hasDetails && (key == "" || f.alike[key] == nil && len(f.alike) >= mostKinds) {
 		one.shorten()
@@ -167,7 +169,7 @@ func withoutDetails(faults []Fault) []Fault {
 	made := []Fault{}
 	for _, one := range faults {
 		made = append(made, Fault{Device: one.Device, Cause: one.Cause, Kind: one.Kind, Deletion: one.Deletion, isWide: one.isWide, late: one.late,
-			isAlone: one.isAlone})
+			isAlone: one.isAlone, isRival: one.isRival})
 	}
 	return made
 }

@@ -79,7 +79,7 @@ var behindAndMore = []struct {
 		"what stands there is what the others have, so nothing is copied, and no conflict copy is made", "in conflict"},
 	{"another one, in no index", "", []*part.Name{file(2, 2), {Disk: file(2, 3).Disk}}, "RecordMissing 2,StoreDiffers 2", "is then in conflict with what the others have", "so nothing"},
 	{"other bytes on a device that only sends", sendOnly, []*part.Name{file(2, 2), with(file(1, 1), rotten)}, "RecordDiffers 2,StoreDiffers 2",
-		"before 'Override Changes' there (it sends these bytes to all), copy it", "conflict"},
+		"don't 'Override Changes' on server before the bytes that it recorded are back there", "conflict"},
 }
 
 // Where others have what a device's version lacks, nobody is told that what a scan finds there just goes to all. The disk comes first.
@@ -100,21 +100,9 @@ func TestDisksOfDevicesThatAreBehind(t *testing.T) {
 	}
 }
 
-// Other bytes that a scan sees are in conflict with what the others have; those that none sees are replaced.
-func TestOtherBytesOfADeviceThatIsBehind(t *testing.T) {
-	for isSeen, has := range map[bool]string{true: "is then in conflict with what the others have", false: "once server takes what is newest, these bytes are gone, without a conflict copy"} {
-		faults := faultsOf("send-receive", OtherBytes, Behind)
-		faults[0].late, faults[0].isSeen = lateChange, isSeen
-		told := adviceOf(&File{Faults: faults, Have: []string{laptop}}, labels{server: "server", laptop: "laptop"})
-		if !strings.Contains(told[0], has) || strings.Contains(strings.Join(told, " "), "copy it from") {
-			t.Errorf("%v: %s", isSeen, told)
-		}
-	}
-}
-
-// A device that is asked for a file of other bytes sends these to all. Nobody is told to start it before they are mended.
-func TestOtherBytesThatAreAskedFor(t *testing.T) {
-	const told = "before Syncthing starts there (once a device asks it for the file, it hashes it anew and sends these bytes to all), copy it from laptop"
+// A device from which another one fetches a file of other bytes sends these to all. Nobody is told to start it before they are mended.
+func TestOtherBytesThatAnAuditedDeviceFetches(t *testing.T) {
+	const told = "before Syncthing starts there (another device may fetch it from server, and then these bytes go to all), copy it from laptop"
 	for _, one := range []struct {
 		why  string
 		kind string

@@ -215,6 +215,8 @@ func (p *printer) since(one *Fault) string {
 	switch {
 	case one.Cause == Damaged && one.Why != "":
 		return " (" + one.Why + ")"
+	case one.Cause == Behind && one.Due.isUndated() || one.Cause == LocalChange && one.Recorded.isUndated():
+		return ""
 	case one.Cause == OtherBytes && one.Recorded != nil:
 		return " (modified " + p.when(one.Recorded.Modified) + ")"
 	case one.Cause == LocalChange && one.Recorded != nil && one.Deletion:
@@ -231,6 +233,9 @@ func (p *printer) since(one *Fault) string {
 	}
 	return ""
 }
+
+// isUndated says whether a state has no time, as that of a symlink.
+func (s *State) isUndated() bool { return s != nil && s.Type == "symlink" && !s.Deleted }
 
 func (p *printer) when(at time.Time) string { return at.In(p.zone).Format("2006-01-02 15:04:05 MST") }
 

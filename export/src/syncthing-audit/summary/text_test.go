@@ -112,7 +112,8 @@ var textsForAPerson = []struct {
     block 2 differs (1 of 3 blocks of 128 KiB; the first is block 0)
     the first of them: SHA-256 abcd0000.. recorded, 12000000.. on the disk
   as recorded on: laptop
-  to do: Syncthing won't repair it: copy it from laptop to server with its time (cp -p, or rsync
+  to do: Syncthing won't repair it, and sends these bytes to all once another device fetches the
+         file from server. Before that, copy it from laptop to server with its time (cp -p, or rsync
          --times --ignore-times) while Syncthing is stopped there. If instead the bytes on server
          are the right ones, 'touch' the file there and let Syncthing scan: it sends them to all.
 ` + lastLine},
@@ -144,12 +145,25 @@ a  (in docs, 300.0 kB)
     the first of them: SHA-256 abcd0000.. recorded, 12000000.. on the disk
   the same other bytes on: phone, server
   as recorded on: laptop
-  to do: Syncthing won't repair it: copy it from laptop to phone with its time (cp -p, or rsync
+  to do: Syncthing won't repair it, and sends these bytes to all once another device fetches the
+         file from phone. Before that, copy it from laptop to phone with its time (cp -p, or rsync
          --times --ignore-times) while Syncthing is stopped there.
-  to do: Syncthing won't repair it: copy it from laptop to server with its time (cp -p, or rsync
+  to do: Syncthing won't repair it, and sends these bytes to all once another device fetches the
+         file from server. Before that, copy it from laptop to server with its time (cp -p, or rsync
          --times --ignore-times) while Syncthing is stopped there.
   to do: if instead the bytes on phone, server are the right ones, which are the same, 'touch' the
          file on phone alone and let Syncthing scan: it sends them to all.
+` + lastLine},
+	{"a symlink, whose record has no time, that a device lacks", 2, func(folder *finding.Folder) {
+		link := &part.Name{Own: &part.Record{Type: 4, Target: "a", ModifiedBy: 1, Version: [][2]uint64{{1, 1}}, Sequence: 1}, Disk: &part.Node{Type: 4, Target: "a"}}
+		fails(folder, "link", []*part.Name{link, nil}, "RecordMissing 2", "StoreDiffers 2")
+	}, lineOfFolder + `
+link  (in docs)
+  server: behind: doesn't have it yet
+  as recorded on: laptop
+  to do: let Syncthing run on server and on laptop, and let them finish. If it stays so, see whether
+         a device or the folder is paused, whether they are connected, whether a disk is full, and
+         whether Syncthing's page lists 'Failed Items'.
 ` + lastLine},
 	{"a deletion on its way", 2, func(folder *finding.Folder) {
 		folder.Deleting = 1

@@ -29,7 +29,8 @@ func TestManyNamesOfOtherBytes(t *testing.T) {
   server: other bytes on the disk; size and time are as recorded, so no scan sees it; 40 blocks differ in all (--json tells them)
   the first: photos/00 photos/01 photos/02 photos/03 photos/04, and 35 more (--lines has all)
   as recorded on: laptop, phone
-  to do: Syncthing won't repair them: copy them from laptop to server with their times (cp -p, or
+  to do: Syncthing won't repair them, and sends these bytes to all once another device fetches the
+         files from server. Before that, copy them from laptop to server with their times (cp -p, or
          rsync --times --ignore-times) while Syncthing is stopped there. If instead the bytes on
          server are the right ones, 'touch' the files there and let Syncthing scan: it sends them to
          all.

@@ -1,0 +1,112 @@
+package summary
+
+// mayShow says whether a scan may take other bytes for a change: it hashes a file whose inode changed. In a folder that only
+// receives, Syncthing 1.29 then keeps the record that all others have, and tells no local change.
+func (f *Fault) mayShow() bool { return f.Cause == OtherBytes && f.isWide && f.Kind != receiveOnly }
+
+// noteFetched notes which other bytes another device may fetch, since it has still to take the file. Syncthing compares each block that it
+// sends with its record. Where a block differs, it hashes the file anew, and sends its bytes to all as a change. No device keeps the recorded
+// bytes then, not even as a conflict copy.
+func (f *File) noteFetched() {
+	for place := range f.Faults {
+		one := &f.Faults[place]
+		if one.Cause != OtherBytes || one.Kind == receiveOnly || f.lackOn(one.Device) != nil {
+			continue
+		}
+		for _, other := range f.Faults {
+			one.isFetched = one.isFetched || other.Device != one.Device && other.fetches()
+		}
+	}
+}
+
+// fetches says whether the device is to take the file from another one, be it only once its local changes are reverted.
+func (f *Fault) fetches() bool {
+	switch f.Cause {
+	case Behind:
+		return !f.Deletion && f.Kind != sendOnly
+	case Conflicting:
+		return f.Kind != sendOnly
+	}
+	return f.Kind == receiveOnly && (f.Cause == LocalChange || f.Cause == Missing)
+}
+
+// lackOn gives that a device has still to take what others have of the name; nothing where it hasn't. Another one fetches nothing from it then.
+func (f *File) lackOn(device string) *Fault {
+	for place := range f.Faults {
+		if one := &f.Faults[place]; one.Device == device && (one.Cause == Behind || one.Cause == Conflicting) {
+			return one
+		}
+	}
+	return nil
+}
+
+// otherBytesAdvice says what to do about other bytes of the size and time that are recorded.
+func otherBytesAdvice(one *Fault, file *File, at string, named labels) string {
+	if lack := file.lackOn(one.Device); lack != nil {
+		return lateBytesAdvice(one, lack, file, at, named)
+	}
+	mend := whenToMend(one, file, at) + copying(one, file, named, overFile)
+	if one.Kind == receiveOnly || len(file.sendersOfOtherBytes()) > 1 {
+		return mend
+	}
+	return mend + ". If instead the bytes on " + at + " are the right ones, 'touch' the " + file.say("file", "files") +
+		" there and let Syncthing scan: it " + file.spread("sends them to all", "records them")
+}
+
+// whenToMend says what becomes of other bytes as long as they stand there.
+func whenToMend(one *Fault, file *File, at string) string {
+	it := file.say("it", "them")
+	switch {
+	case one.isSeen && one.Kind == receiveOnly:
+		return "before Syncthing scans there (the scan takes these bytes for a local change), "
+	case one.isSeen:
+		return "before Syncthing scans there (the scan " + file.spread("sends these bytes to all", "records these bytes") + "), "
+	case one.isFetched:
+		return "before Syncthing starts there (another device may fetch " + it + " from " + at + ", and then these bytes go to all), "
+	case one.mayShow():
+		return "before Syncthing scans there (the scan may " + file.spread("send these bytes to all", "record these bytes") + "), "
+	case one.Kind == receiveOnly || file.isOwn:
+		return "Syncthing won't repair " + it + ": "
+	}
+	return "Syncthing won't repair " + it + ", and sends these bytes to all once another device fetches " + file.say("the file", "the files") +
+		" from " + at + ". Before that, "
+}
+
+// lateBytesAdvice says what to do about other bytes on a device that has still to take what others have of the file. Syncthing looks at a file
+// before it replaces it: where size, time and mode are as recorded, it takes the bytes for those that it recorded.
+func lateBytesAdvice(one, lack *Fault, file *File, at string, named labels) string {
+	isShown := one.isSeen || one.mayShow()
+	switch {
+	case lack.Cause == Conflicting:
+		return "before Syncthing starts there, put the bytes back that " + at + " recorded, from old versions or backups: else the conflict copy " +
+			"has these other bytes"
+	case !isShown && one.Kind == sendOnly:
+		return "don't 'Override Changes' on " + at + " before the bytes that it recorded are back there, from old versions or backups: it would " +
+			"send these other bytes to all"
+	case !isShown:
+		return "once " + at + " takes what is newest, these bytes are gone, without a conflict copy: copy elsewhere first what is to stay"
+	}
+	told := "before Syncthing scans there (the scan " + whatAScanTakes(one, lack) + "), "
+	switch {
+	case lack.Deletion:
+		return told + "delete " + file.say("it", "them") + " there while Syncthing is stopped"
+	case one.isWide:
+		return told + copying(one, file, named, toNothing)
+	}
+	return told + copying(one, file, named, overFile)
+}
+
+// whatAScanTakes says for what a scan takes other bytes on a device that is behind with the file.
+func whatAScanTakes(one, lack *Fault) string {
+	takes := "may take these bytes for a "
+	if one.isSeen {
+		takes = "takes these bytes for a "
+	}
+	switch {
+	case one.Kind == receiveOnly:
+		return takes + "local change"
+	case lack.Deletion:
+		return takes + "change, which goes before the deletion"
+	}
+	return takes + "change, in conflict with what the others have"
+}

@@ -1,0 +1,105 @@
+package summary
+
+import (
+	"strings"
+	"testing"
+)
+
+// Whether the next scan sees other bytes, and whether an audited device has the recorded ones, is told.
+func TestAdviceOnOtherBytes(t *testing.T) {
+	for kind, has := range map[string]string{"send-receive": "the scan sends these bytes to all", receiveOnly: "takes these bytes for a local change"} {
+		seen := faultsOf(kind, OtherBytes)
+		seen[0].isSeen = true
+		if told := adviceOf(&File{Faults: seen, Have: []string{laptop}}, labels{}); !strings.Contains(told[0], has) {
+			t.Errorf("other bytes with another mode, %s: %s", kind, told)
+		}
+	}
+	for kind, has := range map[string]string{"send-receive": "the scan may send these bytes to all", receiveOnly: "Syncthing won't repair it"} {
+		seen := faultsOf(kind, OtherBytes)
+		seen[0].isWide = true
+		if told := adviceOf(&File{Faults: seen, Have: []string{laptop}}, labels{}); !strings.Contains(told[0], has) || !strings.Contains(told[0], "cp --preserve=timestamps") {
+			t.Errorf("other bytes where scans look at attributes, %s: %s", kind, told)
+		}
+	}
+	told := adviceOf(&File{Faults: faultsOf("send-receive", OtherBytes)}, labels{})
+	if !strings.Contains(told[0], "look among old versions and backups for the recorded bytes, which no audited device has") {
+		t.Errorf("where no device has the bytes: %s", told)
+	}
+}
+
+// Other bytes on a device that is behind go away only where Syncthing finds the file as it is recorded. Where a scan may see them, they are
+// to be mended before it, and before Syncthing runs. So they are where the device only sends, or where its own change is in conflict.
+func TestAdviceOnOtherBytesOfADeviceThatIsBehind(t *testing.T) {
+	const replaced = "once server takes what is newest, these bytes are gone, without a conflict copy: copy elsewhere first what is to stay"
+	for _, one := range []struct {
+		kind           string
+		isSeen, isWide bool
+		isDeletion     bool
+		lack           Cause
+		first, last    string
+	}{
+		{kind: "send-receive", first: replaced, last: "let Syncthing run"},
+		{kind: receiveOnly, isWide: true, first: replaced, last: "let Syncthing run"},
+		{kind: "send-receive", isSeen: true, first: "(the scan takes these bytes for a change, in conflict with what the others have), copy it from laptop to server with its time (cp -p",
+			last: "let Syncthing run"},
+		{kind: "send-receive", isWide: true, first: "(the scan may take these bytes for a change, in conflict with what the others have), copy it from laptop to server as it is (cp -a",
+			last: "let Syncthing run"},
+		{kind: receiveOnly, isSeen: true, first: "(the scan takes these bytes for a local change), copy it from laptop to server", last: "let Syncthing run"},
+		{kind: "send-receive", isSeen: true, isDeletion: true, first: "(the scan takes these bytes for a change, which goes before the deletion), delete it there while Syncthing is stopped",
+			last: "let Syncthing run"},
+		{kind: sendOnly, first: "don't 'Override Changes' on server before the bytes that it recorded are back there", last: "server only sends"},
+		{kind: sendOnly, isSeen: true, first: "(the scan takes these bytes for a change, in conflict with what the others have), copy it from laptop to server",
+			last: "server only sends"},
+		{kind: "send-receive", lack: Conflicting, first: "put the bytes back that server recorded, from old versions or backups: else the conflict copy has",
+			last: "start Syncthing on all of these devices"},
+	} {
+		faults := faultsOf(one.kind, Behind, OtherBytes)
+		if one.lack != "" {
+			faults[0].Cause = one.lack
+		}
+		faults[0].Deletion, faults[1].isSeen, faults[1].isWide = one.isDeletion, one.isSeen, one.isWide
+		told := adviceOf(&File{Faults: faults, Have: []string{laptop}, areWide: map[string]bool{laptop: true}}, labels{laptop: "laptop", server: "server"})
+		if !strings.Contains(told[0], one.first) || !strings.Contains(told[len(told)-1], one.last) || len(told) != 2 {
+			t.Errorf("%+v: %q", one, told)
+		}
+		if text := strings.Join(told, ". "); strings.Contains(text, "touch") {
+			t.Errorf("%+v: %s", one, text)
+		}
+	}
+}
+
+// Syncthing hashes a file anew whose blocks it sends, and whose bytes it then sends to all. A folder that only receives tells no change,
+// and one that is shared with nobody sends nothing.
+func TestAdviceOnOtherBytesThatOthersFetch(t *testing.T) {
+	const general, urgent = "sends these bytes to all once another device fetches the file from server. Before that, copy it", "before Syncthing starts there (another device may fetch it from server, and then these bytes go to all), copy it"
+	for _, one := range []struct {
+		kind                string
+		isOwn, other        bool
+		deletion, isLateToo bool
+		onlySends           bool
+		has                 string
+	}{
+		{kind: "send-receive", has: general}, {kind: sendOnly, has: general},
+		{kind: "send-receive", other: true, has: urgent}, {kind: sendOnly, other: true, has: urgent},
+		{kind: "send-receive", other: true, onlySends: true, has: general},
+		{kind: "send-receive", other: true, deletion: true, has: general}, {kind: "send-receive", other: true, isLateToo: true, has: "once server takes what is newest"},
+		{kind: receiveOnly, has: "won't repair it: copy"}, {kind: receiveOnly, other: true, has: "won't repair it: copy"},
+		{kind: "send-receive", isOwn: true, has: "won't repair it: copy"},
+	} {
+		file := &File{Faults: faultsOf(one.kind, OtherBytes), Have: []string{laptop}, isOwn: one.isOwn}
+		if one.other {
+			file.Faults = append(file.Faults, Fault{Device: phone, Kind: "send-receive", Cause: Behind, Deletion: one.deletion})
+		}
+		if one.onlySends {
+			file.Faults[1].Kind = sendOnly
+		}
+		if one.isLateToo {
+			file.Faults = append(file.Faults, Fault{Device: server, Kind: "send-receive", Cause: Behind})
+		}
+		file.noteFetched()
+		told := adviceOf(file, labels{laptop: "laptop", server: "server", phone: "phone"})
+		if !strings.Contains(told[0], one.has) || file.Faults[0].losesByScan() != (one.has == urgent) {
+			t.Errorf("%+v: %q", one, told)
+		}
+	}
+}
