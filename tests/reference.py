@@ -160,16 +160,37 @@ pub fn call(n: u64)
 fn helper(n: u64)
     ensures { IsKept n }
 {}
+
+pub struct Lent {
+    part: Part,
+}
+
+struct Part {
+    n: u64,
+}
+
+impl Model for Part {
+    ghost use Rattle.lender.specs.inner.Seen.{IsSeen};
+}
+
+struct Room {
+    n: u64,
+}
+
+impl Model for Room {
+    ghost use Rattle.lender.specs.inner.Held.{IsHeld};
+}
 """
 
 
 def wrong_places():
-    """What stands in the wrong place: an inner file that a public contract names, and one that isn't inner and none names."""
+    """What stands in the wrong place: an inner file that a public contract names, or a type that is in a public one, and a file
+    that isn't inner and none names."""
     with tempfile.TemporaryDirectory() as top:
         crate = Path(top) / "lender"
-        for name, text in [("src/lib.rt", "mod call;\npub use call::call;\n"), ("src/call.rt", LENDER),
+        for name, text in [("src/lib.rt", "mod call;\npub use call::{Lent, call};\n"), ("src/call.rt", LENDER),
                            *((f"specs/{module}.antt", f"abbrev pub Is{module[-4:]} : Type 0\n")
-                             for module in ("Open", "Shut", "inner/Kept", "inner/Told"))]:
+                             for module in ("Open", "Shut", "inner/Held", "inner/Kept", "inner/Seen", "inner/Told"))]:
             file = crate / name
             file.parent.mkdir(parents=True, exist_ok=True)
             file.write_text(text)
@@ -209,7 +230,7 @@ def main():
            [(one.name, one.comment) for one in found])
     expect("what a clause rests on", ({("upper", "Kinds"): ["◌of◌"], ("lower", "Number"): ["IsSmall", "most"]}, {("lower", "kind")}),
            reading_list())
-    expect("what stands in the wrong place", ["Shut", "inner.Told"], wrong_places())
+    expect("what stands in the wrong place", ["Shut", "inner.Seen", "inner.Told"], wrong_places())
     check(count, pages())
     return count.told()
 

@@ -4,17 +4,37 @@ definition and no other crate names anything of it; and what none of these names
 import re
 
 from reading import WORD, is_used
-from rust import items, program_names, public_names
+from rust import OWNER, items, program_names, public_names
 
 USE = re.compile(r"^(\s*)(?:ghost )?use Rattle\.(\w+)\.specs\.([\w.]+)(?:\.\{([^}]*)\}| as (\w+));?$", re.MULTILINE)
+TYPE = re.compile(r"^(?:pub(?:\(\w+\))? )?(?:struct|enum) (\w+)[^{;]*\{(.*?)^\}", re.MULTILINE | re.DOTALL)
 DEFINES = re.compile(r"^(?:abbrev |unfoldable |opaque )*pub (?!mod |use )", re.MULTILINE)
 INNER = "inner."
 
 
 def uses(text):
-    """The files of specs/ that a file names: of each its crate, its module, the names, and whether a block alone has them."""
-    for indent, crate, module, names, alias in USE.findall(text):
-        yield crate, module, [alias] if alias else [name.split(" as ")[-1].strip() for name in names.split(",")], bool(indent)
+    """The files of specs/ that a file names: of each its crate, its module, the names, and the type or trait in whose block alone
+    they stand, '' where none is."""
+    for found in USE.finditer(text):
+        indent, crate, module, names, alias = found.groups()
+        owner = owner_of(text[:found.start()]) if indent else ""
+        yield crate, module, [alias] if alias else [name.split(" as ")[-1].strip() for name in names.split(",")], owner
+
+
+def owner_of(before):
+    """The type or trait of the block that a text begins last."""
+    return [found[2] for found in map(OWNER.match, before.splitlines()) if found][-1]
+
+
+def shown_types(texts, names):
+    """The types and traits of these names, those in their fields, and so on: what a caller sees of a type may rest on them."""
+    fields = {name: set(WORD.findall(body)) for text in texts for name, body in TYPE.findall(text)}
+    shown, left = set(), set(names)
+    while left:
+        one = left.pop()
+        shown.add(one)
+        left |= (fields.get(one, set()) & fields.keys()) - shown
+    return shown
 
 
 def clause_words(text, names):
@@ -33,14 +53,15 @@ def clause_words(text, names):
 
 
 def named(crate):
-    """The modules of specs/ that a crate's public contracts and its types name."""
+    """The modules of specs/ that a crate's public contracts name, and the types that its callers see."""
     folder = crate / "src"
     names = public_names(folder) or program_names(folder)
-    for file in folder.rglob("*.rt"):
-        text = file.read_text()
+    texts = [file.read_text() for file in folder.rglob("*.rt")]
+    shown = shown_types(texts, names)
+    for text in texts:
         words = clause_words(text, names)
-        for of, module, imported, is_of_block in uses(text):
-            if of == crate.name and (is_of_block or any(is_used(name, words) for name in imported)):
+        for of, module, imported, owner in uses(text):
+            if of == crate.name and (owner in shown or any(is_used(name, words) for name in imported)):
                 yield of, module
 
 
