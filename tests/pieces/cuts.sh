@@ -33,6 +33,21 @@ print(json.dumps(document))' "$@" | first_line check
 expect 'a row of another device with an equal record' 'not settled: NotWinner docs hello' "$(row_told docs 2)"
 expect 'a further row of no folder' 'not settled: NameUnknown x hello' "$(row_told x 1)"
 
+# ---- what an index has
+
+# told_of CHANGE COMMAND..: what is told of that example once the statement in Python changed its devices.
+told_of() {
+  python3 -c '
+import json, sys
+document = json.load(open("examples/one-equal-file.json"))
+devices = document["cut"]["folders"][0]["devices"]
+exec(sys.argv[1])
+print(json.dumps(document))' "$1" | first_line "${@:2}"
+}
+
+expect 'a record of an index that gave none' 'refused: 188 SequenceBad docs 1 hello' "$(told_of 'devices[0]["max"] = 0' check)"
+expect 'files that no index has' 'not settled: NotWinner docs hello' "$(told_of 'for one in devices: one["own"] = []' certify)"
+
 # ---- names as they are printed
 
 # printed NAME: how a report prints the name of a directory that no device recorded, which JSON writes so.

@@ -105,6 +105,12 @@ expect 'one record in two messages' 'read' \
     {\"folder\":\"docs\",\"full\":true,\"records\":[$(records 'a 2')]},
     {\"folder\":\"docs\",\"full\":false,\"records\":[$(records 'a 2')]}]}$end_of_links")"
 
+# Within each of them sequences rise, whatever came before.
+expect 'a sequence twice in the second of two messages' '188 SequenceBad docs 2 b' \
+  "$(answer <<< "$begin$folder$device$others{\"a\":1,\"b\":2,\"up\":true,\"epoch\":1,\"to_b\":[
+    {\"folder\":\"docs\",\"full\":true,\"records\":[$(records 'a 1, b 2')]},
+    {\"folder\":\"docs\",\"full\":false,\"records\":[$(records 'a 2, b 2')]}]}$end_of_links")"
+
 # ---- the smallest number is told, and of one number the first place
 
 # on_a_down_link VIEWS RECORDS LINKS: what is told of these views of device 1, these records on their way to it on a link that

@@ -5,7 +5,7 @@ import json
 import subprocess
 from pathlib import Path
 
-from scenario import announce, edit, finish, meet, messages, pull, put, share, take, tell
+from scenario import announce, edit, finish, meet, messages, pull, put, scenario, share, take, tell
 
 HERE = Path(__file__).resolve().parent
 MOST_SECONDS, LEAST_SECONDS = 2**63 - 1, -(2**63)
@@ -189,5 +189,17 @@ def blocks(program):
                    program.first_line(["check"], end.text))
 
 
+def overtaken_pull(program):
+    """Device 1, whose index begins anew, pulls its own file back from device 2. Meanwhile it changes the file twice. Its pull
+    is dropped then, which is no refusal, and is gone: only a second end of it is refused."""
+    sent_back = [["announce", 2, 1, "docs"], ["deliver", 1, 2], ["pull", 1, "docs", "hello"]]
+    end = [["finish", 1, "docs", "hello"]]
+    steps_made = (put("hello", 1000, text="hello") + meet() + tell() + take("hello") + [["reset", 1, 21]] + meet() + sent_back
+                  + put("hello", 2000, text="abc") + put("hello", 3000, text="abcd") + end + end)
+    told, _ = program.run(["run"], scenario(steps_made, [share(1), share(2)], [[1, 2]], version=2))
+    program.expect("a pull that changes overtake", f"step {len(steps_made)}: 142 NotNeeded", told[0])
+    program.expect("the record after it", "docs hello 1 0 present 1:2 131072", told[-1])
+
+
 ROWS = (steps, conflict_names, records_in_order, full_index, views, sent_anew, stores, on_its_way, full_link, links,
-        devices_and_folders, blocks)
+        devices_and_folders, blocks, overtaken_pull)

@@ -17,9 +17,9 @@ fn is_written(alloc: Global, cut: &Cut, tree: &Value) -> bool {
     }
 }
 
-// Whether the cut that is read of the tree is written as the tree.
-fn is_read(alloc: Global, tree: &Value) -> bool {
-    match Cut::from_value(alloc, DocVersion::Two, tree) {
+// Whether the cut that is read of the tree, as one of a document of this version, is written as the tree.
+fn is_read(alloc: Global, version: DocVersion, tree: &Value) -> bool {
+    match Cut::from_value(alloc, version, tree) {
         Ok(cut) => is_written(alloc, &cut, tree),
         Err(_) => false,
     }
@@ -27,7 +27,9 @@ fn is_read(alloc: Global, tree: &Value) -> bool {
 
 fn is_written_again(alloc: Global) -> bool {
     match Value::from_str(alloc, WRITTEN) {
-        Ok(tree) => is_read(alloc, &tree),
+        Ok(tree) => {
+            is_read(alloc, DocVersion::One, &tree) && is_read(alloc, DocVersion::Two, &tree)
+        }
         Err(_) => false,
     }
 }
