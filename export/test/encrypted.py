@@ -34,6 +34,7 @@ class Encrypted(Exporting):
     def scan_and_wait(cls):
         cls.one.scan()
         wait_until_in_step(cls.one, cls.two)
+        wait_until("the vault has something", lambda: any(path.name.endswith(".syncthing-enc") for path in cls.vault.files.iterdir()))
         wait_until("the vault has all", lambda: all(one.api("GET", f"db/completion?folder={FOLDER}&device={cls.vault.id}")["completion"] == 100
                                                     for one in (cls.one, cls.two)))
 

@@ -30,7 +30,8 @@ func (f *Fault) fetches() bool {
 	return f.Kind == receiveOnly && (f.Cause == LocalChange || f.Cause == Missing)
 }
 
-// lackOn gives that a device has still to take what others have of the name; nothing where it hasn't. Another one fetches nothing from it then.
+// lackOn gives the fault by which a device has still to take what others have of the name; nothing where it has none. No other device fetches
+// the file from such a device.
 func (f *File) lackOn(device string) *Fault {
 	for place := range f.Faults {
 		if one := &f.Faults[place]; one.Device == device && (one.Cause == Behind || one.Cause == Conflicting) {
