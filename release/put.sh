@@ -2,6 +2,7 @@
 # Puts what release/files lists below a prefix, for the scripts that have read lib.sh and have chosen 'program'.
 
 packages=/usr/share/gocode
+architecture= # of Go, for which the exporter is built: nothing for that of this machine
 packages_of_exporter='golang-go golang-github-syncthing-syncthing-dev'
 
 # has_exporter: the exporter's sources are there, and Go with Syncthing's packages, which builds it.
@@ -9,10 +10,11 @@ has_exporter() {
   [ -d "$top/export" ] && command -v go > /dev/null 2>&1 && [ -d "$packages/src/github.com/syncthing/syncthing/lib/db" ]
 }
 
-# build_exporter TO: builds the exporter, which needs no C library. Its bytes don't tell where that was.
+# build_exporter TO: builds the exporter. It is static: it needs no C library and no loader. 32-bit ARM is that of the oldest
+# Raspberry Pi. Its bytes don't tell where it was built.
 build_exporter() {
-  CGO_ENABLED=0 GO111MODULE=off GOPATH=$top/export:$packages \
-    go build -trimpath -buildmode=pie -ldflags='-s -w' -o "$1" syncthing-audit < /dev/null
+  CGO_ENABLED=0 GO111MODULE=off GOPATH=$top/export:$packages GOARCH=$architecture GOARM=6 \
+    go build -trimpath -ldflags='-s -w' -o "$1" syncthing-audit < /dev/null
 }
 
 # put MODE FILE TO: puts a file of the repository, or the program or the exporter, in this place.
@@ -25,11 +27,11 @@ put() {
   esac
 }
 
-# is_for_program PLACE: what stands in this place is there to run the program.
+# is_for_program PLACE: what stands in this place is of the program, and not of the exporter.
 is_for_program() {
   case $1 in
-    bin/syncaudit | lib/syncaudit/*) true ;;
-    *) false ;;
+    *syncthing-audit*) false ;;
+    *) true ;;
   esac
 }
 
@@ -42,7 +44,7 @@ is_missing() {
   fi
 }
 
-# put_all PREFIX: puts all that is listed below the prefix, and tells each place. What is missing is told last.
+# put_all PREFIX: puts all that is listed and can be had here below the prefix, and tells each place.
 put_all() {
   local mode file place
   grep '^[0-9]' "$release/files" | while read -r mode file place; do
@@ -51,6 +53,10 @@ put_all() {
       echo "$1/$place"
     fi
   done
+}
+
+# tell_missing: tells what can't be had here.
+tell_missing() {
   [ -n "$program" ] || echo "without the program there is no bin/syncaudit" >&2
   has_exporter || echo "without Go and Syncthing's packages there is no bin/syncthing-audit: apt-get install $packages_of_exporter" >&2
 }

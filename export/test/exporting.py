@@ -1,6 +1,7 @@
 """Real Syncthing devices in step, stopped, and the audit run on them."""
 
 import functools
+import gzip
 import json
 import os
 import shutil
@@ -197,6 +198,16 @@ class Exporting(unittest.TestCase):
         path = cls.room / f"{device.home.parent.name}.part"
         run([cls.program, "part", "--home", device.home, "-o", path, *words], check=True)
         return path
+
+    @classmethod
+    def lines(cls, program, device):
+        """The lines of a device's part, as a program makes it, but for when that was."""
+        made = cls.room / "made.part"
+        run([program, "part", "--home", device.home, "-o", made], check=True)
+        with gzip.open(made, "rt") as part:
+            lines = [json.loads(line) for line in part]
+        del lines[0]["made"]
+        return lines
 
     @classmethod
     def device_numbers(cls):

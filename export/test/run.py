@@ -24,7 +24,7 @@ from pathlib import Path
 HERE = Path(__file__).resolve().parent
 # The longest first.
 CLASSES = [("rot", "BlockSizes"), ("large_folders", "LargeFiles"), ("large_folders", "LargeFolder"), ("large_folders", "ManyFiles"), ("three_devices", "LeftBehind"), ("three_devices", "EachKind"),
-           ("live_changes", "LiveWriter"), ("live_changes", "LiveReceiver"), ("live_devices", "LiveDevices"), ("live_run", "LiveRun"),
+           ("live_changes", "LiveWriter"), ("live_changes", "LiveReceiver"), ("live_devices", "LiveDevices"), ("live_run", "LiveRun"), ("emulated", "OnARM"),
            ("firm_devices", "Firm"), ("unasked", "OtherFolders"), ("unasked", "OwnFolders"), ("unasked", "AwayFolders"), ("damage", "Damage"), ("encrypted", "Encrypted"), ("conflict", "Conflict"), ("sliced", "Slices"), ("sliced", "SlicesOfRunningDevices"),
            ("two_devices", "TwoDevices"), ("one_way", "SendOnly"), ("one_way", "ReceiveOnly"), ("one_way", "OwnReceiveOnly"), ("one_way", "ReceiveOnlyOfWhatIsDeleted"), ("one_way", "OwnReceiveOnlyWithAFile"),
            ("one_way", "ReceiveOnlyThatIsToSend"), ("three_devices", "Chain"), ("three_devices", "ThreeDevices"),
@@ -38,7 +38,7 @@ SIDE_BY_SIDE = 4
 # What devices may run.
 VERSIONS = ("syncthing v1.19", "syncthing v1.29")
 # Go's tests take some seconds. One of the others fails by itself where a wait takes 300; this is for what else may hang.
-SECONDS_OF_GO = 120
+SECONDS_OF_GO = 240
 SECONDS_OF_A_CASE = 600
 
 

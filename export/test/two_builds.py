@@ -7,8 +7,6 @@ Each makes a part of each device: in step, with what waits to be taken, and with
 same but for when they were made, and so are the answers.
 """
 
-import gzip
-import json
 import os
 import sys
 import unittest
@@ -32,15 +30,6 @@ class TwoBuilds(Exporting):
         for device in cls.devices:
             if not version_of(device.program).startswith("syncthing v1.19"):
                 device.choose(sendXattrs="true")
-
-    def lines(self, program, device):
-        """The lines of a device's part, as a program makes it."""
-        made = self.room / "made.part"
-        run([program, "part", "--home", device.home, "-o", made], check=True)
-        with gzip.open(made, "rt") as part:
-            lines = [json.loads(line) for line in part]
-        del lines[0]["made"]
-        return lines
 
     def answer(self, program):
         """What a program answers of all devices."""

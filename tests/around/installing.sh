@@ -87,6 +87,34 @@ if command -v dpkg-deb > /dev/null 2>&1; then
   expect "the Debian package's sums aren't those of its files" \
     env -C "$work/deb" md5sum --quiet --check DEBIAN/md5sums
 fi
+# A 'go' that builds nothing, and writes for what it is to build.
+fake_go() {
+  mkdir -p "$place/export"
+  printf '#!/bin/sh\nwhile [ "$1" != -o ]; do shift; done\necho "exporter $GOARCH" > "$2"\n' > "$work/tools/go"
+  chmod +x "$work/tools/go"
+}
+
+expect "package without Go makes archives for ARM" [ "$(ls "$place"/out/syncthing-audit-* 2> /dev/null | wc -l)" = 0 ]
+if [ -d /usr/share/gocode/src/github.com/syncthing/syncthing/lib/db ]; then
+  fake_go
+  for out in out again; do
+    PATH=$work/tools:$PATH "$place/package" > "$work/output" 2> "$work/error" || expect "package with Go has a status other than 0" false
+    cp -r "$place/out" "$work/$out"
+  done
+  for machine in arm64:arm64 arm:armv6; do
+    archive=syncthing-audit-1.2.3-linux-${machine#*:}
+    expect "package doesn't say that it makes $archive" says "out/$archive.tar.gz" "$work/output"
+    expect "the same files give other bytes of $archive" cmp -s "$work/out/$archive.tar.gz" "$work/again/$archive.tar.gz"
+    tar -C "$work" -xf "$place/out/$archive.tar.gz"
+    expect "$archive has the exporter for another machine" [ "$(cat "$work/$archive/bin/syncthing-audit")" = "exporter ${machine%:*}" ]
+    for file in share/man/man1/syncthing-audit.1 share/bash-completion/completions/syncthing-audit share/zsh/site-functions/_syncthing-audit \
+      share/fish/vendor_completions.d/syncthing-audit.fish README.md CHANGELOG.md; do
+      expect "$archive has no $file" [ -f "$work/$archive/$file" ]
+    done
+    expect "$archive has files of the program that answers" [ "$(find "$work/$archive" -path '*syncaudit*' | wc -l)" = 0 ]
+  done
+  rm -r "$place/export" "$work/tools/go"
+fi
 change_sources
 status=0
 "$place/package" > "$work/output" 2>&1 || status=$?
@@ -107,14 +135,11 @@ bare_install
 expect "install without the program has status $status" [ "$status" = 127 ]
 expect "install without the program and Go puts something in place" [ ! -e "$work/bare" ]
 if [ -d /usr/share/gocode/src/github.com/syncthing/syncthing/lib/db ]; then
-  mkdir "$place/export"
-  # A 'go' that builds nothing, and writes what it is to write.
-  printf '#!/bin/sh\nwhile [ "$1" != -o ]; do shift; done\necho exporter > "$2"\n' > "$work/tools/go"
-  chmod +x "$work/tools/go"
+  fake_go
   bare_install
   expect "install without the program doesn't tell so by its status: $status" [ "$status" = 127 ]
-  expect "install without the program puts no syncthing-audit in place" [ "$(cat "$work/bare/bin/syncthing-audit")" = exporter ]
+  expect "install without the program puts no syncthing-audit in place" [ "$(cat "$work/bare/bin/syncthing-audit")" = "exporter " ]
   expect "install puts a program in place that isn't there" [ ! -e "$work/bare/bin/syncaudit" ]
-  expect "install puts what runs the program in place without it" [ ! -e "$work/bare/lib" ]
+  expect "install puts what is of the program in place without it" [ "$(find "$work/bare" -path '*syncaudit*' | wc -l)" = 0 ]
   expect "install doesn't say what is missing: $(cat "$work/error")" says 'without the program there is no bin/syncaudit' "$work/error"
 fi

@@ -5,6 +5,7 @@ import (
 	"encoding/binary"
 	"fmt"
 	"io"
+	"math"
 	"os"
 
 	"github.com/syndtr/goleveldb/leveldb/journal"
@@ -79,7 +80,7 @@ func (m *manifest) read(from *bufio.Reader) error {
 		for _, kind := range parts {
 			number, err := binary.ReadUvarint(from)
 			if err == nil && kind == 't' {
-				_, err = from.Discard(int(number))
+				err = passOver(from, number)
 			}
 			if err != nil {
 				return err
@@ -88,6 +89,16 @@ func (m *manifest) read(from *bufio.Reader) error {
 		}
 		m.take(field, numbers)
 	}
+}
+
+// passOver passes over a text of so many bytes. On a 32-bit machine an 'int' would cut a length that no text has to one that a text
+// may have.
+func passOver(from *bufio.Reader, bytes uint64) error {
+	if bytes > math.MaxInt32 {
+		return fmt.Errorf("it has a text of %d bytes", bytes)
+	}
+	_, err := from.Discard(int(bytes))
+	return err
 }
 
 // take takes the numbers of a field, of texts their lengths.

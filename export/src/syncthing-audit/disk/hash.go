@@ -42,8 +42,8 @@ type Pool struct {
 	tasks   chan func()
 	workers sync.WaitGroup
 	hashing chan struct{} // one for each that hashes at this moment
-	hashed  int64
-	skips   uint32
+	hashed  atomic.Int64
+	skips   atomic.Bool
 	sums    chooser
 }
 
@@ -69,11 +69,11 @@ func (p *Pool) Close() {
 }
 
 // Hashed gives how many bytes were hashed up to now.
-func (p *Pool) Hashed() int64 { return atomic.LoadInt64(&p.hashed) }
+func (p *Pool) Hashed() int64 { return p.hashed.Load() }
 
 // Skip has no bytes read from now on. Contents are those of no file then. It is for callers that look for other things
 // alone.
-func (p *Pool) Skip() { atomic.StoreUint32(&p.skips, 1) }
+func (p *Pool) Skip() { p.skips.Store(true) }
 
 // Job is a file that is being hashed.
 type Job struct {
@@ -117,7 +117,7 @@ func (j *Job) fail(err error) {
 
 // hash hashes one piece of a file.
 func (p *Pool) hash(job *Job, offset int64) error {
-	if atomic.LoadUint32(&p.skips) == 1 {
+	if p.skips.Load() {
 		return nil
 	}
 	length := job.file.Node.Size - offset
@@ -207,7 +207,7 @@ func (p *Pool) read(file io.ReaderAt, job *Job, offset, length int64, cuts []*cu
 			copy(job.data[offset+done:], next)
 		}
 		done += int64(len(next))
-		atomic.AddInt64(&p.hashed, int64(len(next)))
+		p.hashed.Add(int64(len(next)))
 	}
 	return nil
 }

@@ -3,6 +3,7 @@ package disk
 import (
 	"bytes"
 	"context"
+	"crypto/sha256"
 	"errors"
 	"os"
 	"path/filepath"
@@ -101,6 +102,33 @@ func TestFilesThatChange(t *testing.T) {
 		if _, _, _, err := pool.Begin(file).Wait(); !errors.Is(err, ErrChanged) {
 			t.Errorf("%s: %v", one.why, err)
 		}
+	}
+}
+
+// What stands behind 4 GiB of a file is read from its place, also where a machine's numbers have 32 bits.
+func TestBytesBehindFourGiga(t *testing.T) {
+	path := filepath.Join(t.TempDir(), "file")
+	made, err := os.Create(path)
+	if err != nil {
+		t.Fatal(err)
+	}
+	const last, text = int64(1 << 32), "the end"
+	_, err = made.WriteAt([]byte(text), last)
+	made.Close()
+	if err != nil {
+		t.Skip("no file is as long here: ", err)
+	}
+	node := nodeAt(t, path)
+	job := &Job{file: File{Disk: fs.NewFilesystem(fs.FilesystemTypeBasic, filepath.Dir(path)), Name: "file", Stamp: Stamp(path), Node: node,
+		BlockSizes: []int64{pieceBytes}}, hashes: [][][32]byte{make([][32]byte, part.CountOfBlocks(node.Size, pieceBytes))}}
+	pool := NewPool(1)
+	defer pool.Close()
+	if err := pool.hash(job, last); err != nil {
+		t.Fatal(err)
+	}
+	hashes := job.hashes[0]
+	if node.Size != last+int64(len(text)) || hashes[len(hashes)-1] != sha256.Sum256([]byte(text)) || pool.Hashed() != int64(len(text)) {
+		t.Errorf("%d bytes, %x", node.Size, hashes[len(hashes)-1])
 	}
 }
 

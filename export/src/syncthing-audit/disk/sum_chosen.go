@@ -19,20 +19,20 @@ const bytesBeforeChoice = 64 << 20
 // small folder takes alone.
 type chooser struct {
 	once   sync.Once
-	hashed int64
-	chosen uint32
+	hashed atomic.Int64
+	chosen atomic.Bool
 }
 
 // new gives a hash for so many bytes.
 func (c *chooser) new(bytes int64) hash.Hash {
-	if atomic.LoadUint32(&c.chosen) == 1 {
+	if c.chosen.Load() {
 		return sha256.New()
 	}
-	if atomic.AddInt64(&c.hashed, bytes) > bytesBeforeChoice {
+	if c.hashed.Add(bytes) > bytesBeforeChoice {
 		c.once.Do(func() {
 			go func() {
 				sha256.SelectAlgo()
-				atomic.StoreUint32(&c.chosen, 1)
+				c.chosen.Store(true)
 			}()
 		})
 	}

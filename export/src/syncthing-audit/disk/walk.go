@@ -114,8 +114,7 @@ func (w *Walker) found(name string, info fs.FileInfo) Found {
 	case info.IsSymlink():
 		target, err := w.Disk.ReadSymlink(name)
 		if err != nil {
-			made.Out = outOf("its target", err)
-			return made
+			return Found{Name: name, Out: outOf("its target", err)}
 		}
 		if err := limits.CheckTarget(target); err != nil {
 			return out(part.OddTarget, err.Error())
@@ -123,6 +122,8 @@ func (w *Walker) found(name string, info fs.FileInfo) Found {
 		node.Type, node.Target = int(protocol.FileInfoTypeSymlink), target
 	case info.IsDir():
 		node.Type = int(protocol.FileInfoTypeDirectory)
+	case info.IsRegular() && isTimeCut(w.PathOf(name)):
+		return out(part.Unreadable, "a 32-bit program can't read its time, which isn't between December 1901 and January 2038")
 	case info.IsRegular():
 		node.Type, node.Size = int(protocol.FileInfoTypeFile), info.Size()
 	default:

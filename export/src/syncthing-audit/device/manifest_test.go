@@ -1,0 +1,24 @@
+package device
+
+import (
+	"bufio"
+	"bytes"
+	"encoding/binary"
+	"testing"
+)
+
+// A text that is said to be longer than any is no text of the length that its last 32 bits say.
+func TestATextThatIsTooLong(t *testing.T) {
+	const comparer = 1 // the field has a text
+	for _, one := range []struct {
+		length uint64
+		isText bool
+	}{{3, true}, {1<<32 + 3, false}, {1<<63 + 3, false}} {
+		entry := binary.AppendUvarint([]byte{comparer}, one.length)
+		entry = append(entry, "abc"...)
+		made := &manifest{}
+		if err := made.read(bufio.NewReader(bytes.NewReader(entry))); (err == nil) != one.isText {
+			t.Errorf("%d bytes: %v", one.length, err)
+		}
+	}
+}
