@@ -22,8 +22,8 @@ def uses(text):
 
 
 def owner_of(before):
-    """The type or trait of the block that a text begins last."""
-    return [found[2] for found in map(OWNER.match, before.splitlines()) if found][-1]
+    """The type or trait of the block that a text begins last; '' where it begins none, as a file of proofs does."""
+    return next((found[2] for found in map(OWNER.match, reversed(before.splitlines())) if found), "")
 
 
 def shown_types(texts, names):
