@@ -18,33 +18,21 @@ expect 'names in order' 'settled' "$(in_order a.d/b b)"
 expect 'names in another order' 'not settled: CertificateOrder docs a.d/b' "$(in_order b a.d/b)"
 expect 'a name twice' 'not settled: CertificateOrder docs a.d/b' "$(in_order a.d/b a.d/b)"
 
-# ---- rows that say what isn't so
+# ---- rows that say what isn't so, and what an index has
 
-# row_told FOLDER DEVICE: what is told of the example of one equal file where its row, or one more of another folder, says so.
-row_told() {
-  python3 -c '
-import json, sys
-document = json.load(open("examples/one-equal-file.json"))
-row = document["certificate"][0] | {"folder": sys.argv[1], "device": int(sys.argv[2])}
-document["certificate"] = [row] if sys.argv[1] == "docs" else document["certificate"] + [row]
-print(json.dumps(document))' "$@" | first_line check
-}
-
-expect 'a row of another device with an equal record' 'not settled: NotWinner docs hello' "$(row_told docs 2)"
-expect 'a further row of no folder' 'not settled: NameUnknown x hello' "$(row_told x 1)"
-
-# ---- what an index has
-
-# told_of CHANGE COMMAND..: what is told of that example once the statement in Python changed its devices.
+# told_of CHANGE COMMAND..: what is told of the example of one equal file once a statement in Python changed its devices or
+# its rows.
 told_of() {
   python3 -c '
 import json, sys
 document = json.load(open("examples/one-equal-file.json"))
-devices = document["cut"]["folders"][0]["devices"]
+devices, rows = document["cut"]["folders"][0]["devices"], document["certificate"]
 exec(sys.argv[1])
 print(json.dumps(document))' "$1" | first_line "${@:2}"
 }
 
+expect 'a row of another device with an equal record' 'not settled: NotWinner docs hello' "$(told_of 'rows[0]["device"] = 2' check)"
+expect 'a further row of no folder' 'not settled: NameUnknown x hello' "$(told_of 'rows.append(rows[0] | {"folder": "x"})' check)"
 expect 'a record of an index that gave none' 'refused: 188 SequenceBad docs 1 hello' "$(told_of 'devices[0]["max"] = 0' check)"
 expect 'files that no index has' 'not settled: NotWinner docs hello' "$(told_of 'for one in devices: one["own"] = []' certify)"
 
