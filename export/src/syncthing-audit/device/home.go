@@ -7,9 +7,11 @@ import (
 	"encoding/xml"
 	"errors"
 	"fmt"
+	"math"
 	"os"
 	"path/filepath"
 	"syscall"
+	"time"
 
 	"github.com/syncthing/syncthing/lib/config"
 	"github.com/syncthing/syncthing/lib/db"
@@ -234,8 +236,12 @@ func (h *Home) openIndex() error {
 	return h.openCopy()
 }
 
+// never says that Syncthing's package never checks a copy anew. Such a check, once a month, may give an index another id: without the ids
+// parts of two moments can't be told apart.
+const never = time.Duration(math.MaxInt64)
+
 // openCopy opens the copy of the index.
-func (h *Home) openCopy(options ...db.Option) error {
+func (h *Home) openCopy() error {
 	var err error
 	if h.backend, err = backend.Open(h.copied, backend.TuningAuto); err != nil {
 		return err
@@ -246,7 +252,7 @@ func (h *Home) openCopy(options ...db.Option) error {
 	if h.Syncthing, _, err = db.NewMiscDataNamespace(h.backend).String(keyOfRan); err != nil {
 		return err
 	}
-	h.index, err = db.NewLowlevel(h.backend, events.NoopLogger, options...)
+	h.index, err = db.NewLowlevel(h.backend, events.NoopLogger, db.WithRecheckInterval(never))
 	return err
 }
 

@@ -4,11 +4,9 @@ import (
 	"encoding/binary"
 	"errors"
 	"fmt"
-	"math"
 	"os"
 	"path/filepath"
 	"syscall"
-	"time"
 
 	"github.com/syncthing/syncthing/lib/db"
 	"github.com/syndtr/goleveldb/leveldb"
@@ -28,9 +26,6 @@ func (h *Home) Identity() (string, error) { return DirectoryOf(filepath.Join(h.D
 // bytesOfFolder is how long the number of a folder is in keys; the key that has its id has room for more.
 const bytesOfFolder = 4
 
-// never says that Syncthing's package never checks a copy anew. Such a check may change the index's ids.
-const never = time.Duration(math.MaxInt64)
-
 // openLiveIndex copies the index to a temporary folder and opens the copy.
 func (h *Home) openLiveIndex() error {
 	h.isLive = true
@@ -48,7 +43,7 @@ func (h *Home) openLiveIndex() error {
 		}
 		return fmt.Errorf("refused: %s: its index wasn't copied in %d rounds: %w", h.Dir, h.Copied.Rounds, err)
 	}
-	return h.openCopy(db.WithRecheckInterval(never))
+	return h.openCopy()
 }
 
 // checkLive says why a copy isn't whole, or has entries behind a folder's greatest sequence.

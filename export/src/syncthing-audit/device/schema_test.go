@@ -10,6 +10,7 @@ import (
 	"github.com/syncthing/syncthing/lib/db/backend"
 	"github.com/syncthing/syncthing/lib/events"
 	"github.com/syncthing/syncthing/lib/protocol"
+	"google.golang.org/protobuf/encoding/protowire"
 )
 
 // indexWith makes an index, has it changed, and gives its directory.
@@ -85,6 +86,51 @@ func TestAnIndexOfAnOlderSyncthingKeepsItsIDs(t *testing.T) {
 	}
 	if set.IndexID(protocol.LocalDeviceID) != own || set.IndexID(other) != 7 {
 		t.Error("the ids aren't those of the index")
+	}
+}
+
+// Once a month Syncthing's packages count an index anew as they open it. Where its last change was forgotten, they give it another id then.
+// A copy is read as the device has it.
+func TestAnIndexThatWasNotCountedForLongKeepsItsID(t *testing.T) {
+	const folder = "docs"
+	var own protocol.IndexID
+	home, err := opened(t, indexWith(t, func(index *db.Lowlevel) {
+		set, err := db.NewFileSet(folder, index)
+		if err != nil {
+			t.Fatal(err)
+		}
+		for _, name := range []string{"a", "b"} {
+			set.Update(protocol.LocalDeviceID, []protocol.FileInfo{{Name: name, Type: protocol.FileInfoTypeDirectory, Version: protocol.Vector{}.Update(1)}})
+		}
+		set.RemoveLocalItems([]string{"b"})
+		own = set.IndexID(protocol.LocalDeviceID)
+		countedLongAgo(t, index)
+	}))
+	if err != nil {
+		t.Fatal(err)
+	}
+	set, err := db.NewFileSet(folder, home.index)
+	if err != nil {
+		t.Fatal(err)
+	}
+	if set.IndexID(protocol.LocalDeviceID) != own || set.Sequence(protocol.LocalDeviceID) != 2 {
+		t.Errorf("id %v, not %v; sequence %d", set.IndexID(protocol.LocalDeviceID), own, set.Sequence(protocol.LocalDeviceID))
+	}
+}
+
+// countedLongAgo has the counts of an index say that they were made in 1970. Of two values of a field the last one counts.
+func countedLongAgo(t *testing.T, index *db.Lowlevel) {
+	const created protowire.Number = 2
+	counts, err := index.NewPrefixIterator([]byte{db.KeyTypeFolderMeta})
+	if err != nil {
+		t.Fatal(err)
+	}
+	defer counts.Release()
+	for counts.Next() {
+		text := protowire.AppendVarint(protowire.AppendTag(append([]byte{}, counts.Value()...), created, protowire.VarintType), 1)
+		if err := index.Put(append([]byte{}, counts.Key()...), text); err != nil {
+			t.Fatal(err)
+		}
 	}
 }
 
