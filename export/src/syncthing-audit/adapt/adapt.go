@@ -14,12 +14,15 @@ import (
 func Filesystem[Method func() fs.Filesystem | func(*db.FileSet) fs.Filesystem](method Method, index *db.FileSet) fs.Filesystem {
 	switch open := any(method).(type) {
 	case func(*db.FileSet) fs.Filesystem:
-		return open(index)
+		if index != nil {
+			return &timed{open(index), open(nil)}
+		}
+		return open(nil)
 	case func() fs.Filesystem:
 		if index != nil {
-			return any(index).(interface {
+			return &timed{any(index).(interface {
 				MtimeFS(fs.Filesystem) fs.Filesystem
-			}).MtimeFS(open())
+			}).MtimeFS(open()), open()}
 		}
 		return open()
 	}

@@ -1,0 +1,39 @@
+package adapt
+
+import (
+	"time"
+
+	"github.com/syncthing/syncthing/lib/fs"
+)
+
+// timed are files with their times as an index has them, where their disk can't keep these. 1.19 finds them there only in the time zone in
+// which it kept them, and 1.29 in each one. Here they are found in each one, whichever it is built with.
+type timed struct {
+	fs.Filesystem               // with times by the index
+	plain         fs.Filesystem // with those of the disk
+}
+
+// Lstat says what stands under a name.
+func (t *timed) Lstat(name string) (fs.FileInfo, error) {
+	info, err := t.plain.Lstat(name)
+	if err != nil {
+		return nil, err
+	}
+	kept, err := fs.GetMtimeMapping(t.Filesystem, name)
+	if err != nil {
+		return nil, err
+	}
+	if kept.Real.Equal(info.ModTime()) {
+		return &timedInfo{info, kept.Virtual}, nil
+	}
+	return info, nil
+}
+
+// timedInfo is what stands under a name, with its time by the index.
+type timedInfo struct {
+	fs.FileInfo
+	modified time.Time
+}
+
+// ModTime gives that time.
+func (t *timedInfo) ModTime() time.Time { return t.modified }
