@@ -6,6 +6,8 @@
 It installs nothing, and says what is missing.
 """
 
+import os
+
 from exporting import Exporting, main
 from syncthing import wait_until, wait_until_in_step
 
@@ -42,6 +44,28 @@ class Conflict(Exporting):
         self.one.scan()
         self.two.scan()
         return all(list(device.files.glob("text.sync-conflict-*")) for device in (self.one, self.two))
+
+
+class ConflictOfSymlinks(Exporting):
+    """Both devices gave a symlink another target, and recorded that, while the other one was off."""
+
+    def test_no_copy_is_kept(self):
+        """The answer says so, and real Syncthing keeps none: one of the two targets is gone."""
+        for device, target in ((self.one, "text"), (self.two, "empty")):
+            (device.files / "link").unlink()
+            (device.files / "link").symlink_to(target)
+            device.start()
+            device.scan()
+            device.stop()
+        told = " ".join(self.on_homes("check", [device.home for device in self.devices], "--syncaudit", self.auditor).stdout.split())
+        self.assertIn("in conflict: has one change of it, and lacks another", told)
+        self.assertIn("it keeps one version, and of a symlink or a directory no copy: save first what is to stay", told)
+        self.start()
+        wait_until("both have one target", lambda: os.readlink(self.one.files / "link") == os.readlink(self.two.files / "link"))
+        wait_until_in_step(self.one, self.two)
+        self.stop()
+        for device in self.devices:
+            self.assertEqual(list(device.files.glob("*.sync-conflict-*")), [])
 
 
 if __name__ == "__main__":

@@ -99,6 +99,61 @@ class ReceiveOnlyOfWhatIsDeleted(Exporting):
         self.stop()
 
 
+class ReceiveOnlyThatChangedItBefore(Exporting):
+    """A device that changed files while it sent, too, and that only receives now: it changed them again, and its user reverts that."""
+
+    @classmethod
+    def synchronise(cls):
+        super().synchronise()
+        for name in ("dropped", "changed"):
+            (cls.two.files / name).write_text("of two")
+        cls.two.scan()
+        wait_until_in_step(cls.one, cls.two)
+
+    def entries(self):
+        """What a person reads, an entry for each file, in one line each."""
+        ran = self.on_homes("check", [device.home for device in self.devices], "--syncaudit", self.auditor)
+        self.assertEqual(ran.returncode, 1, ran.stderr)
+        return {entry.split("  (in ")[0]: " ".join(entry.split()) for entry in ran.stdout.split("\n\n")}
+
+    def test_reverting_keeps_it(self):
+        """Real Syncthing does what the answers say of it: it keeps what the other one deleted, and shows 'Up to Date'; a copy of what was
+        changed stays. A deletion by hand ends that."""
+        self.two.configure(self.devices, kind="receiveonly")
+        self.start()
+        for name in ("dropped", "changed"):
+            (self.two.files / name).write_text("changed on two")
+        self.two.scan()
+        (self.one.files / "dropped").unlink()
+        self.one.scan()
+        wait_until("the other device knows of the deletion", lambda: self.two.knows_all_of(self.one))
+        self.stop()
+        entries = self.entries()
+        self.assertIn(f"'Revert Local Changes' on {self.two.id[:7]} doesn't delete it, though the other devices have deleted it", entries["dropped"])
+        self.assertIn("Syncthing may keep what stands there now as a conflict copy", entries["changed"])
+        self.start()
+        wait_until("the devices are connected", lambda: self.two.knows_all_of(self.one))
+        self.two.api("POST", f"db/revert?folder={FOLDER}")
+        wait_until("the change is reverted", lambda: (self.two.files / "changed").read_text() == "of two")
+        wait_until("both show 'Up to Date'", lambda: self.one.is_in_step_with(self.two) and self.two.is_in_step_with(self.one))
+        self.assertEqual((self.two.files / "dropped").read_text(), "changed on two")
+        self.assertEqual([path.read_text() for path in self.two.files.glob("changed.sync-conflict-*")], ["changed on two"])
+        self.stop()
+        self.assertIn(f"{self.one.id[:7]}: has something else under the same version, so Syncthing takes the two for the same", self.entries()["dropped"])
+        self.assert_a_deletion_ends_it()
+
+    def assert_a_deletion_ends_it(self):
+        """Once the file is deleted where it stands and the copy is gone, both devices are in step."""
+        self.two.configure(self.devices)
+        for path in ((self.two.files / "dropped"), *self.two.files.glob("changed.sync-conflict-*")):
+            path.unlink()
+        self.start()
+        self.two.scan()
+        wait_until_in_step(self.one, self.two)
+        self.stop()
+        self.assertEqual(self.verdict(), "settled")
+
+
 class OwnReceiveOnly(Exporting):
     """A folder of a device that only receives, which the device shares with nobody any more."""
 

@@ -10,6 +10,9 @@ func IsAtMost(version, other [][2]uint64) bool {
 	return true
 }
 
+// Counts says whether a version counts a change of this device.
+func Counts(version [][2]uint64, device uint64) bool { return valueAt(version, device) > 0 }
+
 // valueAt gives a version's value for an id; 0 where it isn't listed.
 func valueAt(version [][2]uint64, id uint64) uint64 {
 	for _, one := range version {

@@ -89,8 +89,8 @@ func adviceOfFault(one *Fault, file *File, named labels) string {
 	case OtherTime:
 		return otherTimeAdvice(one, file, at)
 	case OtherBlocks:
-		return "nothing is lost: the bytes are the same. Once the devices connect, Syncthing takes one of the records" +
-			file.say("", " of each")
+		return "nothing is lost: the bytes are the same. Once the devices connect, Syncthing takes one of the records" + file.say("", " of each") +
+			". Where neither is of a later version, it may keep " + file.say("a conflict copy, which has", "conflict copies, which have") + " the same bytes"
 	}
 	return file.say("audit it by itself: --names with this name tells more", "audit some of them by themselves: --names with how they begin tells more")
 }
@@ -106,25 +106,6 @@ func spreads(one *Fault, file *File) string {
 		return file.say(", a local addition", ", local additions")
 	}
 	return file.spread(" and sends "+file.say("it", "them")+" to all", " and records "+file.say("it", "them"))
-}
-
-// localChangeAdvice says what becomes of a local change of a device that only receives, where it is reverted or sent.
-func localChangeAdvice(one *Fault, file *File, at string) string {
-	it := file.say("it", "them")
-	switch {
-	case file.isOwn:
-		return "'Revert Local Changes' on " + at + file.say(" deletes the file", " deletes the files") + noOther
-	case one.Due != nil && one.Due.Deleted:
-		return "'Revert Local Changes' on " + at + " deletes " + it + ", since the other devices have deleted " + it + ": copy elsewhere first what is " +
-			"to stay. To have " + it + " everywhere, make the folder 'Send & Receive' there"
-	}
-	told := "'Revert Local Changes' on " + at + " takes back what was changed there, for all such files of the folder: added files are " +
-		"deleted, so copy elsewhere what is to stay. To have " + file.say("the change", "the changes") + " everywhere, make the folder " +
-		"'Send & Receive' there"
-	if one.Deletion {
-		return told
-	}
-	return told + ": " + file.say("it is", "they are") + " then in conflict with what the others have. Syncthing " + file.conflicting()
 }
 
 // notScannedAdvice says what a scan does with what it hasn't seen yet.
@@ -158,7 +139,7 @@ func otherTimeAdvice(one *Fault, file *File, at string) string {
 	case late != "":
 		return late
 	case one.Kind == receiveOnly:
-		return told + ": " + file.say("the time stays there as a local change", "the times stay there as local changes") + file.revert(one)
+		return told + ": " + file.say("the time stays there as a local change", "the times stay there as local changes") + file.revert(one, at)
 	}
 	return told
 }
@@ -176,28 +157,11 @@ func changedAdvice(one *Fault, file *File, at string, named labels) string {
 		return rivalsAdvice(file, named)
 	}
 	if one.Kind == receiveOnly {
-		return told + file.say("the change stays there as a local one", "the changes stay there as local ones") + file.revert(one)
+		return told + file.say("the change stays there as a local one", "the changes stay there as local ones") + file.revert(one, at)
 	}
 	told += file.spread(file.say("the change then goes to all", "the changes then go to all"),
 		file.say("the change is then recorded", "the changes are then recorded"))
 	return told + file.say(". If the change isn't wanted", ". If they aren't wanted") + ", first " + copying(one, file, named, how)
-}
-
-// noOther says what follows from a device's sharing its folder with nobody.
-const noOther = ": no other device has the folder"
-
-// revert says what becomes of a local change of a device that only receives, once it is recorded. Syncthing gets back what another device
-// has. Where the device shares its folder with nobody, it takes what it has itself for added there.
-func (f *File) revert(one *Fault) string {
-	switch {
-	case f.isOwn:
-		return ". Don't 'Revert Local Changes' then: that deletes " + f.say("the file", "the files") + noOther
-	case one.Due != nil && one.Due.Deleted:
-		return ". 'Revert Local Changes' then deletes " + f.say("the file", "the files") + ", since the other devices have deleted " + f.say("it", "them")
-	case len(f.Have) == 0:
-		return ", which 'Revert Local Changes' takes back only from a device that has the recorded bytes: no audited one has"
-	}
-	return ", which 'Revert Local Changes' takes back"
 }
 
 // isFileForFile says whether a file stands where a file is recorded.
@@ -242,7 +206,9 @@ func behindAdvice(one *Fault, file *File, at string, named labels) string {
 	case one.Cause == Conflicting && one.Deletion:
 		return "start Syncthing on all of these devices: it keeps " + file.say("the file", "the files") + ", since a change goes before a deletion"
 	case one.Cause == Conflicting:
-		return "start Syncthing on all of these devices: it " + file.conflicting()
+		return "start Syncthing on all of these devices: it " + file.conflicting(one.noCopy)
+	case one.isTied:
+		return tiedAdvice(one, file, at, named)
 	}
 	told := "let Syncthing run on " + at + " and on " + holders(file, named) + ", and let them finish. If it stays so, see whether a device " +
 		"or the folder is paused, whether they are connected, whether a disk is full, and whether Syncthing's page lists 'Failed Items'"

@@ -49,6 +49,9 @@ type Fault struct {
 	isAlone  bool // of Missing: the device recorded a change that no other one has
 	isSeen   bool // by the next scan, since the mode isn't as recorded
 	isWide   bool // the device's scans look at owners or extended attributes, too
+	isTied   bool // of Behind: it has something else under the version of what is due, so Syncthing takes nothing
+	isBefore bool // of a device that only receives: the version of what is due counts a change of it from before
+	noCopy   bool // something of it is a symlink or a directory, of which Syncthing keeps no conflict copy
 	// Another device has to take the file, and may fetch it from there.
 	isFetched bool
 	// A scan of another device finds other contents there, of which neither's record knows.

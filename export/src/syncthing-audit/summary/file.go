@@ -266,7 +266,10 @@ func (r *reader) add(member int, cause Cause) {
 			made.Blocks, made.contents = blocksOf(at), at.Disk.Contents
 		}
 		made.late, made.isAlone, made.isDue = r.lateAt(member), cause == Missing && r.isAlone(member), isSame(at.Disk, r.winner)
+		made.isTied = cause == Behind && r.isTied(at)
 	}
+	made.isBefore = made.Kind == receiveOnly && r.winner != nil && part.Counts(r.winner.Version, one.Number)
+	made.noCopy = made.Due.isCopyless() || made.Recorded.isCopyless() || made.Found.isCopyless()
 	made.Deletion = cause == Behind && made.Due != nil && made.Due.Deleted ||
 		(cause == LocalChange || cause == Conflicting) && made.Recorded != nil && made.Recorded.Deleted
 	made.ends = endsOf(&made, r.at(member), r.winner)

@@ -39,7 +39,7 @@ func keyOf(file *File) string {
 	}
 	key := string(file.Faults[0].Cause)
 	for _, one := range file.Faults {
-		if one.Cause != file.Faults[0].Cause || !canFold[one.Cause] || len(file.Permissions) > 0 {
+		if one.Cause != file.Faults[0].Cause || !canFold[one.Cause] || one.isTied || len(file.Permissions) > 0 {
 			return ""
 		}
 		key += " " + one.Device
@@ -54,6 +54,9 @@ func keyOf(file *File) string {
 		}
 		if one.isRival {
 			key += " in conflict"
+		}
+		if one.noCopy {
+			key += " without copies"
 		}
 	}
 	return key + " of " + strings.Join(file.Have, " ")
@@ -169,7 +172,7 @@ func withoutDetails(faults []Fault) []Fault {
 	made := []Fault{}
 	for _, one := range faults {
 		made = append(made, Fault{Device: one.Device, Cause: one.Cause, Kind: one.Kind, Deletion: one.Deletion, isWide: one.isWide, late: one.late,
-			isAlone: one.isAlone, isRival: one.isRival})
+			isAlone: one.isAlone, isRival: one.isRival, noCopy: one.noCopy})
 	}
 	return made
 }

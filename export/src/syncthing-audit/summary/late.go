@@ -54,8 +54,12 @@ func isSame(disk *part.Node, due *part.Record) bool {
 	return due.Content == nil || slices.Contains(disk.Contents, *due.Content)
 }
 
-// conflicting says what Syncthing does with two changes of which neither is on top of the other.
-func (f *File) conflicting() string {
+// conflicting says what Syncthing does with two changes of which neither is on top of the other. Symlinks and directories have no conflict
+// copies, and symlinks have no time.
+func (f *File) conflicting(noCopy bool) string {
+	if noCopy {
+		return "keeps one version" + f.say("", " of each") + ", and of a symlink or a directory no copy: save first what is to stay"
+	}
 	return "keeps the one " + f.say("that was modified later, and the other one as a conflict copy", "of each that was modified later, and the others as conflict copies") + noCopies
 }
 
@@ -74,11 +78,13 @@ func lateAdvice(one *Fault, file *File, at string) string {
 	case one.late == lateDeletion:
 		return told + file.say("the change goes before the deletion, and then to all. If it isn't wanted, first delete the file there",
 			"the changes go before the deletions, and then to all. If they aren't wanted, first delete the files there") + " while Syncthing is stopped"
+	case one.Kind == receiveOnly && one.noCopy:
+		return told + "Syncthing then takes what the others have, and keeps of a symlink or a directory no copy: save first what is to stay"
 	case one.Kind == receiveOnly:
 		return told + "Syncthing then takes what the others have, and keeps what stands there as " +
 			file.say("a conflict copy, a local addition", "conflict copies, local additions") + noCopies
 	}
-	told += "what stands there is then in conflict with what the others have. Syncthing " + file.conflicting()
+	told += "what stands there is then in conflict with what the others have. Syncthing " + file.conflicting(one.noCopy)
 	if one.Kind == sendOnly {
 		return told
 	}

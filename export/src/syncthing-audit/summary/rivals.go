@@ -38,8 +38,5 @@ func rivalsAdvice(file *File, named labels) string {
 	if !areKnown {
 		told = "start Syncthing on " + named.all(devices) + " and 'Rescan': what they have there is then in conflict where it differs. Syncthing "
 	}
-	if areFiles {
-		return told + file.conflicting()
-	}
-	return told + "keeps one version" + file.say("", " of each") + ", and of a symlink or a directory no copy: save first what is to stay"
+	return told + file.conflicting(!areFiles)
 }

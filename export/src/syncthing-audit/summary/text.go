@@ -123,7 +123,7 @@ func (p *printer) file(folder *Folder, one *File) {
 	if len(one.Faults) > 0 && !isOfNobody(one) && !strings.HasSuffix(string(one.Name), "/") {
 		p.have(one)
 	}
-	if len(one.Follows) > 0 {
+	if len(one.Follows) > 0 && !one.isTied() {
 		p.line("  so %s can still take another version of it, until that is mended", p.named.all(devicesOf(one.Follows)))
 	}
 	p.advice(one.Advice)
@@ -194,6 +194,8 @@ func (p *printer) wordsOf(one *Fault) string {
 		return "other bytes on the disk; size and time are as recorded, the mode isn't, so the next scan sees it"
 	case one.mayShow():
 		return "other bytes on the disk; size and time are as recorded, but a scan of owners or attributes may see it"
+	case one.isTied:
+		return "has something else under the same version, so Syncthing takes the two for the same"
 	case one.Cause == Behind && one.Deletion:
 		return "behind: hasn't deleted it yet"
 	case one.Cause == Behind && one.Recorded == nil:

@@ -1,0 +1,43 @@
+package summary
+
+import "syncthing-audit/part"
+
+// isTied says whether a device has something else than what is due under the very version of that. Syncthing compares versions, so neither
+// device takes anything from the other.
+func (r *reader) isTied(at *part.Name) bool {
+	return at.Own != nil && r.winner != nil && part.IsAtMost(at.Own.Version, r.winner.Version) && part.IsAtMost(r.winner.Version, at.Own.Version)
+}
+
+// isTied says whether that is so of the name at some device.
+func (f *File) isTied() bool {
+	for place := range f.Faults {
+		if f.Faults[place].isTied {
+			return true
+		}
+	}
+	return false
+}
+
+// tiedAdvice says how a device gets what is due where it has something else under the same version: by a new version.
+func tiedAdvice(one *Fault, file *File, at string, named labels) string {
+	told := "Syncthing doesn't mend this by itself, whatever its page shows: it compares versions, and these are equal. To have what " + at +
+		" lacks, " + file.anew(one.Due, holders(file, named))
+	if one.Recorded != nil && one.Recorded.Deleted {
+		told += ". To have " + file.say("it", "them") + " gone, delete " + file.say("it", "them") + " there and let Syncthing scan"
+	} else {
+		told += ". To have what " + at + " has, " + file.anew(one.Recorded, at)
+	}
+	return told + ". Where the device on which you do that only receives, first make the folder 'Send & Receive' there"
+}
+
+// anew says what gives a name a new version at a device. Syncthing doesn't compare the time of a symlink or a directory.
+func (f *File) anew(state *State, at string) string {
+	it := f.say("it", "them")
+	if state.isCopyless() {
+		return "move " + it + " out of the folder on " + at + ", let Syncthing scan there, move " + it + " back, and let it scan again"
+	}
+	return "'touch' " + it + " on " + at + " and let Syncthing scan there"
+}
+
+// isCopyless says whether a state is of a symlink or a directory that is there: of these Syncthing keeps no conflict copy.
+func (s *State) isCopyless() bool { return s != nil && !s.Deleted && s.Type != "file" }
