@@ -71,6 +71,7 @@ type Folder struct {
 	Views              []View    `json:"views"`
 	Paused             bool      `json:"paused,omitempty"`         // the device neither takes nor sends anything of it
 	PausedDevices      []string  `json:"paused_devices,omitempty"` // others with which it shares the folder, and exchanges nothing
+	Writers            []string  `json:"writers,omitempty"`        // what else of Syncthing writes into its directory, in words
 	Indexed            int64     `json:"indexed,omitempty"`        // how many names the device's own index has, whichever were asked for
 }
 

@@ -33,6 +33,7 @@ func full(folder *finding.Folder) {
 	folder.LeftOut = []*finding.LeftOut{{Name: "odd\xff", Names: 1, Why: []finding.Reason{{Member: -1, Kind: part.Large, Why: "large"}, {Member: 0, Kind: part.OddName}}}}
 	folder.Members[0].Head.Names = choice.Names{Prefix: "a", Slice: 3, Slices: 7}
 	folder.Members[0].About.Indexed = 1001
+	folder.Members[0].About.Writers = []string{"folder photos"}
 }
 
 // What is written is what the schema says, and what the schema says is looked at: a document of other words is none.

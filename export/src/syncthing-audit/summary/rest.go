@@ -23,6 +23,7 @@ func (p *printer) rest(s *Summary) {
 	}
 	p.own(s)
 	p.paused(s)
+	p.writers(s)
 	for _, one := range s.LeftOut {
 		p.line("left out: %s of %s: %s", shell.Folder(one.Folder, one.label), one.Device, one.Why)
 	}

@@ -97,12 +97,14 @@ type Member struct {
 	Indexed       int64    `json:"names_in_index,omitempty"` // whichever were asked for
 	Paused        bool     `json:"paused,omitempty"`
 	PausedDevices []string `json:"paused_devices,omitempty"` // others, by their ids
+	Writers       []string `json:"writers,omitempty"`        // what else of Syncthing writes into the directory
 }
 
 func memberOf(one join.Member) Member {
 	made := Member{Device: one.Head.Device, Kind: kindOf(one)}
 	if one.About != nil {
 		made.Path, made.Indexed, made.Paused, made.PausedDevices = one.About.Path, one.About.Indexed, one.About.Paused, one.About.PausedDevices
+		made.Writers = one.About.Writers
 	}
 	return made
 }
