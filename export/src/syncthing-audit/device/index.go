@@ -171,10 +171,10 @@ func (i *Index) View(of part.View, names choice.Names, take func(Entry) bool) er
 	return i.entries(id, names, of.Max, viewedEntry, take)
 }
 
-// viewedEntry reads another device's entry. Of what that device ignores it tells neither size nor blocks.
+// viewedEntry reads another device's entry. Of what that device ignores, or is to scan anew, it tells neither size nor blocks.
 func viewedEntry(entry protocol.FileInfo) Entry {
 	if entry.IsInvalid() && !entry.Deleted && entry.Type == protocol.FileInfoTypeFile && len(entry.Blocks) == 0 {
-		return leftOut(entry, part.Ignored, "it knows that another device ignores it")
+		return leftOut(entry, part.Ignored, "it knows that another device ignores it, or has still to scan it")
 	}
 	return entryOf(entry)
 }
