@@ -172,7 +172,7 @@ class AttributesThatNoScanHasSeen(Synchronised):
         self.mark(self.two, "yellow")
         ran = self.check()
         self.assertEqual((ran.returncode, ran.stdout.splitlines()[0]), (0, "settled"))
-        self.assertIn("These aren't compared, and the next scan\nrecords what changed of them.", ran.stderr)
+        self.assertIn("These aren't compared, and the next scan\nrecords what changed of them, and each directory into which something came", ran.stderr)
         self.assertIn("not compared: owners, extended attributes", self.answer()[1])
         self.run_until_in_step()
         for device in self.devices:

@@ -17,7 +17,7 @@ not proved ('man syncthing-audit', under WHAT AN ANSWER MEANS).
 	butPermissions = `But there are permissions on a disk that aren't as recorded: the next scan records them.
 `
 	butAttributes = `But there are folders whose scans look at owners or extended attributes. These aren't compared, and the next scan
-records what changed of them.
+records what changed of them, and each directory into which something came or from which it went.
 `
 	firmWasNotAsked = `Whether it is firm wasn't asked: this syncaudit is too old to know that.
 `
