@@ -1,5 +1,7 @@
 package summary
 
+import "strings"
+
 // localChangeAdvice says what becomes of a local change of a device that only receives, where it is reverted or sent.
 func localChangeAdvice(one *Fault, file *File, at string) string {
 	it := file.say("it", "them")
@@ -58,5 +60,9 @@ func (f *File) revert(one *Fault, at string) string {
 	case len(f.Have) == 0:
 		return ", which 'Revert Local Changes' takes back only from a device that has the recorded bytes: no audited one has"
 	}
-	return ", which 'Revert Local Changes' takes back"
+	told := ", which 'Revert Local Changes' takes back"
+	if copied := f.keptAsCopy(one, at); copied != "" && one.Cause == Changed {
+		return told + ". " + strings.TrimSuffix(copied, ". ")
+	}
+	return told
 }

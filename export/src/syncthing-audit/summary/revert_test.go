@@ -33,6 +33,10 @@ func TestRevertingWhatTheDeviceChangedBefore(t *testing.T) {
 			[]*part.Name{with(file(2, 1), by2), with(file(1, 7), changedHere)}, "LocalOnly 2,StoreDiffers 2"},
 		{"changed elsewhere, and never changed here", "copy elsewhere what is to stay. To have", "changed it before",
 			[]*part.Name{file(2, 1), with(file(1, 7), changedHere)}, "LocalOnly 2,StoreDiffers 2"},
+		{"changed on the disk", "which 'Revert Local Changes' takes back. Since server changed it before, Syncthing may keep", "deletes it",
+			[]*part.Name{with(file(2, 1), by2), with(with(file(2, 1), by2), written)}, "StoreDiffers 2,StoreUnclean 2"},
+		{"touched on the disk", "which 'Revert Local Changes' takes back.", "changed it before",
+			[]*part.Name{with(file(2, 1), by2), with(with(file(2, 1), by2), touched)}, "StoreUnclean 2"},
 		{"deleted here", "copy elsewhere what is to stay. To have", "changed it before",
 			[]*part.Name{with(file(2, 1), by2), with(with(with(file(1, 7), again), absent), changedHere)}, "LocalOnly 2,StoreDiffers 2"},
 	} {
