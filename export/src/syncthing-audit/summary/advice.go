@@ -209,6 +209,8 @@ func behindAdvice(one *Fault, file *File, at string, named labels) string {
 		return "start Syncthing on all of these devices: it " + file.conflicting(one.noCopy)
 	case one.isTied:
 		return tiedAdvice(one, file, at, named)
+	case one.isUntold:
+		return untoldAdvice(file, at, named)
 	}
 	told := "let Syncthing run on " + at + " and on " + holders(file, named) + ", and let them finish. If it stays so, see whether a device " +
 		"or the folder is paused, whether they are connected, whether a disk is full, and whether Syncthing's page lists 'Failed Items'"

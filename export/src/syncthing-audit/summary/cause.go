@@ -50,6 +50,7 @@ type Fault struct {
 	isSeen   bool // by the next scan, since the mode isn't as recorded
 	isWide   bool // the device's scans look at owners or extended attributes, too
 	isTied   bool // of Behind: it has something else under the version of what is due, so Syncthing takes nothing
+	isUntold bool // of Behind: its view goes beyond what it lacks, so nobody tells it of that again
 	isBefore bool // of a device that only receives: the version of what is due counts a change of it from before
 	noCopy   bool // something of it is a symlink or a directory, of which Syncthing keeps no conflict copy
 	// Another device has to take the file, and may fetch it from there.

@@ -268,6 +268,7 @@ func (r *reader) add(member int, cause Cause) {
 		made.late, made.isAlone, made.isDue = r.lateAt(member), cause == Missing && r.isAlone(member), isSame(at.Disk, r.winner)
 		made.isTied = cause == Behind && r.isTied(at)
 	}
+	made.isUntold = cause == Behind && !made.isTied && r.isUntold(member)
 	made.isBefore = made.Kind == receiveOnly && r.winner != nil && part.Counts(r.winner.Version, one.Number)
 	made.noCopy = made.Due.isCopyless() || made.Recorded.isCopyless() || made.Found.isCopyless()
 	made.Deletion = cause == Behind && made.Due != nil && made.Due.Deleted ||

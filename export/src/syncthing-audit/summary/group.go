@@ -58,6 +58,9 @@ func keyOf(file *File) string {
 		if one.noCopy {
 			key += " without copies"
 		}
+		if one.isUntold {
+			key += " untold"
+		}
 	}
 	return key + " of " + strings.Join(file.Have, " ")
 }
@@ -172,7 +175,8 @@ func withoutDetails(faults []Fault) []Fault {
 	made := []Fault{}
 	for _, one := range faults {
 		made = append(made, Fault{Device: one.Device, Cause: one.Cause, Kind: one.Kind, Deletion: one.Deletion, isWide: one.isWide, late: one.late,
-			isAlone: one.isAlone, isRival: one.isRival, noCopy: one.noCopy})
+			isAlone: one.isAlone, isRival: one.isRival, noCopy: one.noCopy,
+			isUntold: one.isUntold})
 	}
 	return made
 }
