@@ -217,7 +217,7 @@ func (p *printer) since(one *Fault) string {
 	switch {
 	case one.Cause == Damaged && one.Why != "":
 		return " (" + one.Why + ")"
-	case one.Cause == Behind && one.Due.isUndated() || one.Cause == LocalChange && one.Recorded.isUndated():
+	case one.isTied || one.Cause == Behind && one.Due.isUndated() || one.Cause == LocalChange && one.Recorded.isUndated():
 		return ""
 	case one.Cause == OtherBytes && one.Recorded != nil:
 		return " (modified " + p.when(one.Recorded.Modified) + ")"

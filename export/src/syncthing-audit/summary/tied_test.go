@@ -36,7 +36,7 @@ func TestOtherContentsUnderOneVersion(t *testing.T) {
 				t.Errorf("%s: %q isn't in %s", one.why, has, text)
 			}
 		}
-		if strings.Contains(text, "let them finish") || strings.Contains(text, "can still take") || strings.Contains(text, "behind") {
+		if strings.Contains(text, "let them finish") || strings.Contains(text, "can still take") || strings.Contains(text, "behind") || strings.Contains(text, "modified") {
 			t.Errorf("%s: %s", one.why, text)
 		}
 	}
