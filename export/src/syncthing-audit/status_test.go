@@ -135,7 +135,7 @@ func TestWhatCannotBeWritten(t *testing.T) {
 		}
 	}
 	for _, path := range []string{"/dev/full", "-"} {
-		write, err := whereTo(path, full{})
+		write, err := whereTo(options{output: path}, full{})
 		if err == nil {
 			err = write(func(to io.Writer) error {
 				_, err := io.WriteString(to, "new")
