@@ -29,7 +29,7 @@ CLASSES = [("rot", "BlockSizes"), ("large_folders", "LargeFiles"), ("large_folde
            ("two_devices", "TwoDevices"), ("one_way", "SendOnly"), ("one_way", "ReceiveOnly"), ("one_way", "OwnReceiveOnly"), ("one_way", "ReceiveOnlyOfWhatIsDeleted"), ("one_way", "OwnReceiveOnlyWithAFile"),
            ("one_way", "ReceiveOnlyThatIsToSend"), ("three_devices", "Chain"), ("three_devices", "ThreeDevices"),
            ("rot", "RotInManyBlocks"), ("rot", "RotWithAnotherMode"), ("late_rot", "RotThatIsFetched"), ("late_rot", "RotThatAnOldChangeMeets"), ("late_rot", "RotThatIsOverridden"), ("late_rot", "RotInAConflict"),
-           ("attributes", "RotWithAttributesThatAnOldChangeMeets"), ("attributes", "AttributesOfAMendedFile"), ("attributes", "AttributesThatNoScanHasSeen"), ("attributes", "RotWhereAttributesAreScanned"), ("attributes", "RotThatAScanDrops"),
+           ("attributes", "RotWithAttributesThatAnOldChangeMeets"), ("attributes", "AttributesOfAMendedFile"), ("attributes", "AttributesOfATouchedFile"), ("attributes", "AttributesThatNoScanHasSeen"), ("attributes", "RotWhereAttributesAreScanned"), ("attributes", "RotThatAScanDrops"),
            ("behind", "BehindAndSends"), ("behind", "BehindAndReceives"),
            ("behind", "BehindAndOnlySends"), ("behind", "BehindWithoutCopies"), ("behind", "AskedForRot"), ("behind", "NamesThatNoScanTakes"), ("manners", "Manners"), ("nightly", "Nightly"), ("nightly", "NightlySlices"), ("spread", "Spread")]
 # The classes and Go's tests.
