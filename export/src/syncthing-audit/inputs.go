@@ -84,7 +84,7 @@ func openInputs(asked options) (*inputs, error) {
 func (i *inputs) open(asked options) error {
 	var homes []*device.Home
 	for _, dir := range asked.homes {
-		home, err := device.Open(dir)
+		home, err := device.Open(dir, "")
 		if err != nil {
 			return err
 		}
