@@ -50,9 +50,9 @@ func (i *inputs) startProgress(log io.Writer, asked options) func() {
 }
 
 // audited has what was opened audited, and tells the log how far that is and what is refused.
-func (i *inputs) audited(asked options, log io.Writer, audit func() (*finding.Answer, error)) (*finding.Answer, error) {
+func (i *inputs) audited(asked options, log io.Writer, answering func() (*finding.Answer, error)) (*finding.Answer, error) {
 	endProgress := i.startProgress(log, asked)
-	answer, err := audit()
+	answer, err := answering()
 	endProgress()
 	if err == nil && len(answer.Refusals) > 0 {
 		report.Refusals(log, answer)

@@ -171,8 +171,8 @@ var flagOfGo = regexp.MustCompile(`(^|\s)-([a-z][a-z-]+)`)
 func wrongFlag(err error) error {
 	text := flagOfGo.ReplaceAllString(err.Error(), "$1--$2")
 	text = strings.Replace(text, "flag provided but not defined: ", "there is no flag ", 1)
-	if flag := strings.TrimPrefix(text, "flag needs an argument: "); flag != text {
-		text = flag + " needs a word behind it"
+	if named := strings.TrimPrefix(text, "flag needs an argument: "); named != text {
+		text = named + " needs a word behind it"
 	}
 	return &wrongUsage{text}
 }
