@@ -98,7 +98,7 @@ func (i *inputs) open(asked options) error {
 	if err := i.checkNames(asked.names); err != nil {
 		return err
 	}
-	labels := i.labels(homes)
+	labels := folderLabels(homes, i.devices)
 	if err := i.checkInParts(labels, asked.folders); err != nil {
 		return err
 	}
@@ -117,15 +117,15 @@ func (i *inputs) open(asked options) error {
 	return nil
 }
 
-// labels gives the labels of all folders of these homes and of the parts, by the folders' ids.
-func (i *inputs) labels(homes []*device.Home) map[string]string {
+// folderLabels gives the labels of all folders of these homes and of what was read of parts, by the folders' ids.
+func folderLabels(homes []*device.Home, devices []*join.Device) map[string]string {
 	made := map[string]string{}
 	for _, home := range homes {
 		for _, one := range home.Config.Folders {
 			made[one.ID] = one.Label
 		}
 	}
-	for _, read := range i.devices {
+	for _, read := range devices {
 		for _, one := range read.Head.Folders {
 			made[one.ID] = one.Label
 		}

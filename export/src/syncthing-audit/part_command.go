@@ -136,7 +136,7 @@ func checkFolders(home *device.Home, wanted []string, log io.Writer) error {
 	if len(home.Config.Folders) == 0 {
 		return errors.New("refused: the device has no folder")
 	}
-	labels, lacking := (&inputs{}).labels([]*device.Home{home}), []string{}
+	labels, lacking := folderLabels([]*device.Home{home}, nil), []string{}
 	for _, id := range wanted {
 		if err := join.CheckWanted(labels, []string{id}); err != nil {
 			lacking = append(lacking, err.Error())
