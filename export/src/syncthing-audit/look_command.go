@@ -204,20 +204,28 @@ func writeWhole(write writing, fill func(io.Writer) error) error {
 func readTokens(paths []string) (map[string]string, error) {
 	tokens := map[string]string{}
 	for _, path := range paths {
-		from := os.Stdin
-		if path != "-" {
-			file, err := os.Open(path)
-			if err != nil {
-				return nil, err
-			}
-			defer file.Close()
-			from = file
-		}
-		if err := looks.ReadTokens(from, tokens); err != nil {
-			return nil, fmt.Errorf("refused: %s: %w", path, err)
+		if err := readTokensOf(path, tokens); err != nil {
+			return nil, err
 		}
 	}
 	return tokens, nil
+}
+
+// readTokensOf adds the tokens of one file.
+func readTokensOf(path string, tokens map[string]string) error {
+	from := os.Stdin
+	if path != "-" {
+		file, err := os.Open(path)
+		if err != nil {
+			return err
+		}
+		defer file.Close()
+		from = file
+	}
+	if err := looks.ReadTokens(from, tokens); err != nil {
+		return fmt.Errorf("refused: %s: %w", path, err)
+	}
+	return nil
 }
 
 // checkTokens says of which devices a second look has no token: their first looks may not be over.
