@@ -11,7 +11,8 @@ import (
 	"syncthing-audit/shell"
 )
 
-// standardOutput are the words for standard output. The program keeps the second one's number for standard error.
+// standardOutput are the words that mean standard output. /dev/stdout is one of them: main puts standard error in its place, so a file that
+// is opened by this name would be standard error.
 var standardOutput = map[string]bool{"": true, "-": true, "/dev/stdout": true}
 
 // target is where a part goes.
