@@ -26,8 +26,8 @@ type options struct {
 	lines      bool
 	json       bool
 	into       string
-	output     string
-	isStandard bool // whether that is standard output: the file to which it goes, or nothing
+	output     string // of standard output the file to which a shell has it go; nothing where that is none
+	isStandard bool   // whether the output is standard output
 	about      bool
 	begin      bool
 	end        bool

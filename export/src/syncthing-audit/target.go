@@ -74,7 +74,7 @@ func (t *target) write(write func(io.Writer) error) error {
 	if err := fill(file, t.path, write); err != nil {
 		return err
 	}
-	// Something else may have come meanwhile, which a new name would replace.
+	// Something else may stand there by now, and to rename the file would replace it.
 	if about, err := os.Lstat(t.path); err == nil && !about.Mode().IsRegular() {
 		return refusedTarget(t.path, "is no file any more")
 	}
