@@ -165,6 +165,19 @@ class Nightly(Audited):
         self.assertIn("is this a Syncthing home?", self.told("mails"))
         self.assertEqual(self.told("asked").splitlines()[-1].split()[-2:], ["start", "syncthing.service"])
 
+    def test_a_database_elsewhere(self):
+        self.part_of_the_other()
+        index = self.homes[0] / "index-v0.14.0.db"
+        elsewhere = self.user / index.name
+        index.rename(elsewhere)
+        try:
+            refused, without = self.run_service()
+            status, text = self.run_service(SYNCTHING_DATA=str(self.user))
+        finally:
+            elsewhere.rename(index)
+        self.assertEqual((refused, "as --data DIR" in without), (2, True), without)
+        self.assertEqual((status, text.splitlines()[0].split(" names ")[0]), (0, f"docs: {in_step()}; 21"), text)
+
     def test_an_audit_that_is_not_there(self):
         (self.tools / PROGRAM).unlink()
         status, text = self.run_service()
