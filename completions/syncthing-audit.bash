@@ -4,7 +4,7 @@
 # The flags of each command.
 _syncthing_audit_flags() {
   case $1 in
-    part) echo '--home --folder --names --slice --jobs --about --begin --end --tokens --heed-input --rescan --leave-out -o --help' ;;
+    part) echo '--home --data --folder --names --slice --jobs --about --begin --end --tokens --heed-input --rescan --leave-out -o --help' ;;
     run) echo '--folder --names --slice --jobs --leave-out --lines --json --syncaudit --still --rescan --remote-program --dry-run --help' ;;
     check) echo '--home --folder --names --slice --jobs --leave-out --bytes --lines --json --syncaudit --help' ;;
     export) echo '--home --folder --names --slice --jobs --leave-out --bytes --into --help' ;;
@@ -30,7 +30,7 @@ _syncthing_audit() {
     return
   fi
   case $before in
-    --home | --into) mapfile -t COMPREPLY < <(compgen -d -- "$word") ;;
+    --home | --data | --into) mapfile -t COMPREPLY < <(compgen -d -- "$word") ;;
     --syncaudit | --tokens | -o) mapfile -t COMPREPLY < <(compgen -f -- "$word") ;;
     --leave-out) mapfile -t COMPREPLY < <(_syncthing_audit_kinds "$word") ;;
     --folder | --names | --slice | --jobs | --still | --remote-program) ;;

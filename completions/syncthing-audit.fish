@@ -15,6 +15,7 @@ complete -c syncthing-audit -n "__fish_seen_subcommand_from part check run expor
 complete -c syncthing-audit -n "__fish_seen_subcommand_from part check run export" -l names -x -d 'Only names that begin so'
 complete -c syncthing-audit -n "__fish_seen_subcommand_from part check run export" -l slice -x -d 'Only names of slice K of N: K/N'
 complete -c syncthing-audit -n "__fish_seen_subcommand_from part check run export" -l jobs -x -d 'How many at once'
+complete -c syncthing-audit -n "__fish_seen_subcommand_from part" -l data -x -a '(__fish_complete_directories)' -d 'Where its database is'
 complete -c syncthing-audit -n "__fish_seen_subcommand_from part" -l about -d 'What the device shares'
 complete -c syncthing-audit -n "__fish_seen_subcommand_from part" -l begin -d 'The first look at a device that may run'
 complete -c syncthing-audit -n "__fish_seen_subcommand_from part" -l end -d 'The second look'

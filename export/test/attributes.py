@@ -23,9 +23,14 @@ class WhereAttributesAreScanned(Rotten):
 
     options = {"two": {"sendXattrs": "true"}}
 
+    @staticmethod
+    def scanners():
+        """The programs of the devices that scan attributes."""
+        return programs()
+
     @classmethod
     def setUpClass(cls):
-        if any(version_of(one).startswith("syncthing v1.19") for one in programs()):
+        if any(version_of(one).startswith("syncthing v1.19") for one in cls.scanners()):
             raise unittest.SkipTest("Syncthing 1.19 doesn't scan attributes")
         super().setUpClass()
 
@@ -163,6 +168,37 @@ class AttributesOfAMendedFile(Synchronised):
         for device in self.devices:
             self.assertEqual(self.marks(device), self.due("blue"))
             self.assertEqual([text_of(device.files / name) for name in (KEPT, LOST)], ["binary " + KEPT, "binary " + LOST])
+
+
+class AttributesOfATouchedFile(Synchronised):
+    """Rot on a second device whose scans look at no attributes. Its bytes are the right ones. Where it is of 1.19, it records none; one of 1.29
+    keeps those of the file's record."""
+
+    @staticmethod
+    def scanners():
+        return programs()[:1]
+
+    @classmethod
+    def configure(cls):
+        cls.options = {"one": cls.options["one"]}
+        super().configure()
+
+    def test_the_others_lose_them_where_the_second_device_is_of_1_19(self):
+        one, two = self.one.id[:7], self.two.id[:7]
+        forgets = version_of(self.two.program).startswith("syncthing v1.19")
+        self.assertEqual(self.marks(self.one), self.due("blue"))
+        self.rot(KEPT)
+        text = " ".join(self.answer()[1].split())
+        told = f"let Syncthing scan: it sends them to all. Scans on {two} record no owners and attributes: touched there, the file loses those that it has on {one}."
+        self.assertEqual((told in text, " loses " in text), (forgets, forgets), text)
+        (self.two.files / KEPT).touch()
+        self.run_until_in_step()
+        self.assertEqual(text_of(self.one.files / KEPT), text_of(self.two.files / KEPT))
+        kept = self.one.files / KEPT
+        if forgets:
+            self.assertEqual((os.listxattr(kept), kept.stat().st_uid), ([], os.geteuid()))
+        else:
+            self.assertEqual(self.marks(self.one), self.due("blue"))
 
 
 class AttributesThatNoScanHasSeen(Synchronised):

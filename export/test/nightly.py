@@ -154,9 +154,9 @@ class Nightly(Audited):
         self.assertIn("no home or part of it is given", self.told("mails"))
         self.assertNotIn("names_wrong", self.metrics.read_text())
         self.part_of_the_other()
-        status, text = self.run_service(HOURS="-1")
+        status, text = self.run_service(HOURS="0")
         self.assertEqual(status, 2)
-        self.assertEqual(len(re.findall(r"^the part of device[12] is -?0 hours old: ", text, re.MULTILINE)), 2)
+        self.assertEqual(len(re.findall(r"^the part of device[12] is 0 hours old: ", text, re.MULTILINE)), 2)
         self.assertIn(": in step, and a part is too old\n", self.told("mails"))
 
     def test_syncthing_is_started_again_whatever_happens(self):
@@ -164,6 +164,19 @@ class Nightly(Audited):
         self.assertEqual(status, 2)
         self.assertIn("is this a Syncthing home?", self.told("mails"))
         self.assertEqual(self.told("asked").splitlines()[-1].split()[-2:], ["start", "syncthing.service"])
+
+    def test_a_database_elsewhere(self):
+        self.part_of_the_other()
+        index = self.homes[0] / "index-v0.14.0.db"
+        elsewhere = self.user / index.name
+        index.rename(elsewhere)
+        try:
+            refused, without = self.run_service()
+            status, text = self.run_service(SYNCTHING_DATA=str(self.user))
+        finally:
+            elsewhere.rename(index)
+        self.assertEqual((refused, "as --data DIR" in without), (2, True), without)
+        self.assertEqual((status, text.splitlines()[0].split(" names ")[0]), (0, f"docs: {in_step()}; 21"), text)
 
     def test_an_audit_that_is_not_there(self):
         (self.tools / PROGRAM).unlink()
@@ -314,11 +327,28 @@ class NightlySlices(Audited):
             head = json.loads(part.readline())
         self.assertEqual((head["slice"], head["slices"]), (self.due, self.SLICES))
 
+    def test_the_lines_of_the_configuration(self):
+        """nightly.conf has a line for each setting that the program reads, and no other. The one for slices is taken as it stands."""
+        nightly = loaded()
+        lines = dict(re.findall(r"^#([A-Z_]+)=(.*)$", (CONTRIB / "nightly.conf").read_text(), re.MULTILINE))
+        program = (CONTRIB / f"{PROGRAM}-nightly").read_text()
+        self.assertEqual(set(lines), {*re.findall(r'setting\("([A-Z_]+)"', program), *nightly.NUMBERS})
+        for name in nightly.NUMBERS:
+            with mock.patch.dict(os.environ, {name: lines[name]}):
+                self.assertEqual(nightly.number(name), float(lines[name]))
+        self.part_of_the_other(*self.words(self.due))
+        status, text = self.run_service(**{**self.settings, "SLICES": lines["SLICES"]})
+        self.assertEqual(status, 0, text)
+        self.assertIn(f"slice {self.due} of 7", text)
+
     def test_settings_that_are_wrong(self):
         """They are mailed, and Syncthing isn't stopped for them."""
-        for settings in ({"SLICES": "many"}, {"SLICES": "0"}, {"SLICES": "367"}, {"SLICES": "7", "SLICE_HOUR": "24"}):
-            status, text = self.run_service(**settings)
-            self.assertEqual((status, text), (2, "SLICES is a number from 1 to 366, and SLICE_HOUR one from 0 to 23\n"))
+        allowed = {"SLICES": "a whole number from 1 to 366", "SLICE_HOUR": "a whole number from 0 to 23", "HOURS": "a number from 0 to 10000"}
+        for name, values in {"SLICES": ("many", "0", "367", "1.5", "nan"), "SLICE_HOUR": ("24", "-1", "noon"),
+                             "HOURS": ("abc", "-1", "nan", "inf", "10001", "30h")}.items():
+            for value in values:
+                status, text = self.run_service(**{name: value})
+                self.assertEqual((status, text), (2, f"~/.config/syncthing-audit/nightly.conf: {name}={value} isn't taken: {name} is {allowed[name]}\n"))
         self.assertIn(": no audit\n", self.told("mails"))
         self.assertEqual(self.told("asked"), "")
 

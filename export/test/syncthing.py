@@ -66,6 +66,7 @@ class Device:
 
     def __init__(self, room, name):
         self.home, self.files = room / name / "home", room / name / "files"
+        self.data = self.home  # where its database is
         self.room = room
         self.api_port, self.listen_port = next(free_ports), next(free_ports)
         self.program = next(programs_in_turn)
@@ -125,7 +126,7 @@ class Device:
     def start(self):
         """Starts the process and waits for its API."""
         with self.log.open("ab") as log:
-            self.process = subprocess.Popen([self.program, "serve", f"--home={self.home}", "--no-browser",
+            self.process = subprocess.Popen([self.program, "serve", f"--config={self.home}", f"--data={self.data}", "--no-browser",
                                              "--no-restart"], env=self.environment(), stdout=log, stderr=log)
         wait_until(f"{self.home} answers", self.answers)
 

@@ -25,6 +25,9 @@ func tellAbout(asked options, write writing) error {
 	if err := checkFolders(home, nil, io.Discard); err != nil {
 		return err
 	}
+	if err := asked.checkOutput(about.Folders); err != nil {
+		return err
+	}
 	for _, one := range chosenOf(about, asked.folders) {
 		if err := device.CheckPath(one); err != nil {
 			return fmt.Errorf("%s: %w", asked.homes[0], shell.Labelled(err, one.ID, one.Label))

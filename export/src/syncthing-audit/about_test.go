@@ -84,6 +84,52 @@ func saying(t *testing.T, number byte, about config.Configuration) *join.Device 
 	return read
 }
 
+// homeWith writes a home whose one folder, docs, is at a path.
+func homeWith(t *testing.T, folder string) string {
+	home := t.TempDir()
+	for name, text := range map[string]string{
+		"cert.pem":   "-----BEGIN CERTIFICATE-----\nAAAA\n-----END CERTIFICATE-----\n",
+		"config.xml": `<configuration version="36"><folder id="docs" path="` + folder + `"></folder></configuration>`,
+	} {
+		if err := os.WriteFile(filepath.Join(home, name), []byte(text), 0o600); err != nil {
+			t.Fatal(err)
+		}
+	}
+	return home
+}
+
+// What a device shares isn't written into a folder of Syncthing, as a part isn't: neither by '-o' nor by a shell.
+func TestWhatIsSharedStaysOutsideTheFolders(t *testing.T) {
+	room := t.TempDir()
+	folder, home := filepath.Join(room, "docs"), homeWith(t, filepath.Join(room, "docs"))
+	if err := os.MkdirAll(filepath.Join(folder, ".stfolder"), 0o700); err != nil {
+		t.Fatal(err)
+	}
+	const told = "would be in folder docs, whose devices would all get it: name a file elsewhere"
+	for directory, expected := range map[string]int{folder: statusRefused, room: statusDone} {
+		path, byShell := filepath.Join(directory, "new"), filepath.Join(directory, "by-shell")
+		var log strings.Builder
+		if status := run([]string{"part", "--about", "--home", home, "-o", path}, io.Discard, &log); status != expected {
+			t.Errorf("%s: status %d, %s", path, status, log.String())
+		}
+		if _, err := os.Stat(path); (err == nil) != (expected == statusDone) || strings.Contains(log.String(), told) == (expected == statusDone) {
+			t.Errorf("%s: %v, %s", path, err, log.String())
+		}
+		to, err := os.Create(byShell)
+		if err != nil {
+			t.Fatal(err)
+		}
+		defer to.Close()
+		log.Reset()
+		if status := run([]string{"part", "--about", "--home", home}, to, &log); status != expected || strings.Contains(log.String(), told) == (expected == statusDone) {
+			t.Errorf("%s: status %d, %s", byShell, status, log.String())
+		}
+		if text, err := os.ReadFile(byShell); err != nil || (len(text) > 0) != (expected == statusDone) {
+			t.Errorf("%s: %q, %v", byShell, text, err)
+		}
+	}
+}
+
 // A program elsewhere that knows no slice is refused before any file is hashed. One that doesn't know the question is refused, too, where
 // a slice is asked for; without one it makes its look all the same.
 func TestProgramsThatKnowNoSlice(t *testing.T) {

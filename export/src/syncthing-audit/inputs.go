@@ -50,9 +50,9 @@ func (i *inputs) startProgress(log io.Writer, asked options) func() {
 }
 
 // audited has what was opened audited, and tells the log how far that is and what is refused.
-func (i *inputs) audited(asked options, log io.Writer, audit func() (*finding.Answer, error)) (*finding.Answer, error) {
+func (i *inputs) audited(asked options, log io.Writer, answering func() (*finding.Answer, error)) (*finding.Answer, error) {
 	endProgress := i.startProgress(log, asked)
-	answer, err := audit()
+	answer, err := answering()
 	endProgress()
 	if err == nil && len(answer.Refusals) > 0 {
 		report.Refusals(log, answer)
@@ -84,7 +84,7 @@ func openInputs(asked options) (*inputs, error) {
 func (i *inputs) open(asked options) error {
 	var homes []*device.Home
 	for _, dir := range asked.homes {
-		home, err := device.Open(dir)
+		home, err := device.Open(dir, "")
 		if err != nil {
 			return err
 		}
@@ -98,7 +98,7 @@ func (i *inputs) open(asked options) error {
 	if err := i.checkNames(asked.names); err != nil {
 		return err
 	}
-	labels := i.labels(homes)
+	labels := folderLabels(homes, i.devices)
 	if err := i.checkInParts(labels, asked.folders); err != nil {
 		return err
 	}
@@ -117,15 +117,15 @@ func (i *inputs) open(asked options) error {
 	return nil
 }
 
-// labels gives the labels of all folders of these homes and of the parts, by the folders' ids.
-func (i *inputs) labels(homes []*device.Home) map[string]string {
+// folderLabels gives the labels of all folders of these homes and of what was read of parts, by the folders' ids.
+func folderLabels(homes []*device.Home, devices []*join.Device) map[string]string {
 	made := map[string]string{}
 	for _, home := range homes {
 		for _, one := range home.Config.Folders {
 			made[one.ID] = one.Label
 		}
 	}
-	for _, read := range i.devices {
+	for _, read := range devices {
 		for _, one := range read.Head.Folders {
 			made[one.ID] = one.Label
 		}

@@ -16,6 +16,7 @@ import (
 	"syncthing-audit/leftover"
 	"syncthing-audit/looks"
 	"syncthing-audit/part"
+	"syncthing-audit/rest"
 )
 
 // checkLooks says what is wrong with the words that ask for one of two looks.
@@ -50,7 +51,7 @@ func beginPart(asked options, write writing, output, log io.Writer) error {
 			return err
 		}
 	}
-	from, err := openSource(device.OpenLive, asked, log)
+	from, err := openLive(asked, log)
 	if err != nil {
 		return err
 	}
@@ -73,6 +74,20 @@ func beginPart(asked options, write writing, output, log io.Writer) error {
 	}
 	_, err = fmt.Fprintln(faulty{output}, token)
 	return err
+}
+
+// openLive opens the home of a device that may run. Where its database isn't there and nobody says where it is, Syncthing is asked.
+func openLive(asked options, log io.Writer) (*source, error) {
+	if asked.data == "" && !device.HasIndex(asked.homes[0]) {
+		about, err := device.ReadConfig(asked.homes[0])
+		if err != nil {
+			return nil, err
+		}
+		if asked.data, err = rest.DataDirectory(asked.homes[0], about.GUI); err != nil {
+			fmt.Fprintf(log, "syncthing-audit: Syncthing can't be asked where its database is: %v\n", err)
+		}
+	}
+	return openSource(device.OpenLive, asked, log)
 }
 
 // heedInput has the end of standard input end the program, as a hangup does. Nobody may read standard error by then.
@@ -111,7 +126,7 @@ func endPart(asked options, write writing, log io.Writer) error {
 		return err
 	}
 	began := time.Now().UTC()
-	from, err := openSource(device.OpenLive, asked, log)
+	from, err := openLive(asked, log)
 	if err != nil {
 		return err
 	}
@@ -189,20 +204,28 @@ func writeWhole(write writing, fill func(io.Writer) error) error {
 func readTokens(paths []string) (map[string]string, error) {
 	tokens := map[string]string{}
 	for _, path := range paths {
-		from := os.Stdin
-		if path != "-" {
-			file, err := os.Open(path)
-			if err != nil {
-				return nil, err
-			}
-			defer file.Close()
-			from = file
-		}
-		if err := looks.ReadTokens(from, tokens); err != nil {
-			return nil, fmt.Errorf("refused: %s: %w", path, err)
+		if err := readTokensOf(path, tokens); err != nil {
+			return nil, err
 		}
 	}
 	return tokens, nil
+}
+
+// readTokensOf adds the tokens of one file.
+func readTokensOf(path string, tokens map[string]string) error {
+	from := os.Stdin
+	if path != "-" {
+		file, err := os.Open(path)
+		if err != nil {
+			return err
+		}
+		defer file.Close()
+		from = file
+	}
+	if err := looks.ReadTokens(from, tokens); err != nil {
+		return fmt.Errorf("refused: %s: %w", path, err)
+	}
+	return nil
 }
 
 // checkTokens says of which devices a second look has no token: their first looks may not be over.

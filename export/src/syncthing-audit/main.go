@@ -77,7 +77,7 @@ func run(words []string, output, log io.Writer) int {
 
 func isHelp(word string) bool { return word == "--help" || word == "-h" || word == "help" }
 
-// statusOf tells the log of an error that it hasn't been told yet, and gives the exit status.
+// statusOf tells the log what is wrong, unless it was told before, and gives the exit status.
 func statusOf(err error, output, log io.Writer) int {
 	var wrong *wrongUsage
 	var failed *ask.Failed

@@ -17,6 +17,7 @@ import (
 // options are what the command line asks for.
 type options struct {
 	homes      []string
+	data       string // where the database of the home is; nothing where it is there, too
 	parts      []string
 	folders    []string
 	names      choice.Names
@@ -25,8 +26,8 @@ type options struct {
 	lines      bool
 	json       bool
 	into       string
-	output     string
-	isStandard bool // whether that is standard output: the file to which it goes, or nothing
+	output     string // of standard output the file to which a shell has it go; nothing where that is none
+	isStandard bool   // whether the output is standard output
 	about      bool
 	begin      bool
 	end        bool
@@ -41,10 +42,10 @@ type options struct {
 	hasJobs    bool // whether they were asked for
 }
 
-var usage = fmt.Sprintf(`usage: syncthing-audit part [--home DIR] [--folder ID ..] [--names PREFIX] [--slice K/N] -o FILE
+var usage = fmt.Sprintf(`usage: syncthing-audit part [--home DIR [--data DIR]] [--folder ID ..] [--names PREFIX] [--slice K/N] -o FILE
        syncthing-audit check [--home DIR ..] [PART ..] [--folder ID ..]
        syncthing-audit run [MACHINE:[DIR] | DIR ..] [--folder ID ..]
-       syncthing-audit part (--begin [--rescan] | --end --tokens FILE ..) [--home DIR] [--folder ID ..] -o FILE
+       syncthing-audit part (--begin [--rescan] | --end --tokens FILE ..) [--home DIR [--data DIR]] [--folder ID ..] -o FILE
        syncthing-audit part --about [--rescan] [--home DIR] [--folder ID ..]
        syncthing-audit export [--home DIR ..] [PART ..] --into DIR
        syncthing-audit sum DIR
@@ -62,6 +63,7 @@ Says whether Syncthing devices are in step, and where they aren't, which device 
 
   --home DIR           a device's home on this machine: config.xml, cert.pem and index-v0.14.0.db. Without it part takes the one that
                        Syncthing takes by itself: ~/.config/syncthing or ~/.local/state/syncthing
+  --data DIR           of part: where the home's database is, if not in --home itself, as of Syncthing's own --data
   --folder ID          only this folder (may be given more than once; all folders if it isn't). part takes those that its device has,
                        and tells which it hasn't
   --names PREFIX       only names that begin with these bytes
@@ -169,8 +171,8 @@ var flagOfGo = regexp.MustCompile(`(^|\s)-([a-z][a-z-]+)`)
 func wrongFlag(err error) error {
 	text := flagOfGo.ReplaceAllString(err.Error(), "$1--$2")
 	text = strings.Replace(text, "flag provided but not defined: ", "there is no flag ", 1)
-	if flag := strings.TrimPrefix(text, "flag needs an argument: "); flag != text {
-		text = flag + " needs a word behind it"
+	if named := strings.TrimPrefix(text, "flag needs an argument: "); named != text {
+		text = named + " needs a word behind it"
 	}
 	return &wrongUsage{text}
 }

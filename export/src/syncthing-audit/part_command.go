@@ -7,6 +7,7 @@ import (
 	"io"
 	"strings"
 
+	"github.com/syncthing/syncthing/lib/config"
 	"syncthing-audit/device"
 	"syncthing-audit/disk"
 	"syncthing-audit/gather"
@@ -21,10 +22,7 @@ func runPart(words []string, output, log io.Writer) (int, error) {
 	if err != nil {
 		return 0, err
 	}
-	if asked.about && standardOutput[asked.output] {
-		return statusDone, tellAbout(asked, directly(output)) // a line that a person can read, too
-	}
-	write, err := whereTo(asked.output, output)
+	write, err := whereTo(asked, output)
 	if err != nil {
 		return 0, err
 	}
@@ -46,6 +44,7 @@ func runPart(words []string, output, log io.Writer) (int, error) {
 func readPartOptions(words []string) (options, error) {
 	asked, err := readOptions("part", words, func(flags *flag.FlagSet, read *options) {
 		flags.StringVar(&read.output, "o", "", "")
+		flags.StringVar(&read.data, "data", "", "")
 		flags.BoolVar(&read.about, "about", false, "")
 		flags.BoolVar(&read.begin, "begin", false, "")
 		flags.BoolVar(&read.end, "end", false, "")
@@ -59,6 +58,9 @@ func readPartOptions(words []string) (options, error) {
 	}
 	if err == nil && len(asked.homes) > 1 {
 		err = &wrongUsage{"a part is made of one --home"}
+	}
+	if err == nil && asked.data != "" && len(asked.homes) == 0 {
+		err = &wrongUsage{"--data is for a --home whose database is elsewhere: name both"}
 	}
 	if err == nil {
 		err = asked.checkLooks()
@@ -96,8 +98,8 @@ type source struct {
 }
 
 // openSource opens the home, and those of its folders that are asked for, or all.
-func openSource(open func(string) (*device.Home, error), asked options, log io.Writer) (*source, error) {
-	home, err := open(asked.homes[0])
+func openSource(open func(dir, data string) (*device.Home, error), asked options, log io.Writer) (*source, error) {
+	home, err := open(asked.homes[0], asked.data)
 	if err != nil {
 		return nil, err
 	}
@@ -106,11 +108,8 @@ func openSource(open func(string) (*device.Home, error), asked options, log io.W
 	if err = checkFolders(home, asked.folders, log); err == nil {
 		made.read, err = made.deviceOf(home, asked)
 	}
-	if err == nil && asked.output != "" {
-		err = checkOutside(asked.output, home.Config.Folders)
-		if err != nil && asked.isStandard {
-			err = fmt.Errorf("%w. It is there already, since the shell made it: take it away", err)
-		}
+	if err == nil {
+		err = asked.checkOutput(home.Config.Folders)
 	}
 	if err != nil {
 		made.close()
@@ -119,13 +118,25 @@ func openSource(open func(string) (*device.Home, error), asked options, log io.W
 	return made, nil
 }
 
+// checkOutput says whether what 'part' writes would be in a folder of Syncthing.
+func (o *options) checkOutput(folders []config.FolderConfiguration) error {
+	if o.output == "" {
+		return nil
+	}
+	err := checkOutside(o.output, folders)
+	if err != nil && o.isStandard {
+		return fmt.Errorf("%w. It is there already, since the shell made it: take it away", err)
+	}
+	return err
+}
+
 // checkFolders says whether a home has no folder, or none of those that are asked for. Who has other folders on other devices names all of
 // them on each, so those that this one lacks are told, and the part is made.
 func checkFolders(home *device.Home, wanted []string, log io.Writer) error {
 	if len(home.Config.Folders) == 0 {
 		return errors.New("refused: the device has no folder")
 	}
-	labels, lacking := (&inputs{}).labels([]*device.Home{home}), []string{}
+	labels, lacking := folderLabels([]*device.Home{home}, nil), []string{}
 	for _, id := range wanted {
 		if err := join.CheckWanted(labels, []string{id}); err != nil {
 			lacking = append(lacking, err.Error())
@@ -140,16 +151,17 @@ func checkFolders(home *device.Home, wanted []string, log io.Writer) error {
 	return nil
 }
 
-// whereTo gives what writes a part to where it is to go. It says what is wrong with that before files are hashed.
-func whereTo(path string, output io.Writer) (writing, error) {
-	if !standardOutput[path] {
-		to, err := targetOf(path)
+// whereTo gives what writes a part to where it is to go. It says what is wrong with that before files are hashed. What '--about' tells is a
+// line that a person can read, too.
+func whereTo(asked options, output io.Writer) (writing, error) {
+	if !standardOutput[asked.output] {
+		to, err := targetOf(asked.output)
 		if err != nil {
 			return nil, err
 		}
 		return to.write, nil
 	}
-	if isTerminal(output) {
+	if isTerminal(output) && !asked.about {
 		return nil, &wrongUsage{"a part is nothing to read on a terminal: -o FILE"}
 	}
 	return directly(output), nil

@@ -57,7 +57,7 @@ const (
 	defaultWidth = 80
 )
 
-// widthOf gives how many signs a line of the terminal has.
+// widthOf gives how many columns the terminal has.
 func widthOf(to *os.File) int {
 	size, err := unix.IoctlGetWinsize(int(to.Fd()), unix.TIOCGWINSZ)
 	if err != nil || size.Col == 0 {
@@ -90,7 +90,7 @@ func (p *progress) run() {
 	}
 }
 
-// countOf gives a number of things, of whose word an s makes several.
+// countOf gives a number with its word, which ends with an s unless the number is 1.
 func countOf(number int, word string) string {
 	if number == 1 {
 		return "1 " + word

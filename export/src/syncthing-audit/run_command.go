@@ -1,7 +1,6 @@
 package main
 
 import (
-	"errors"
 	"flag"
 	"fmt"
 	"io"
@@ -270,7 +269,7 @@ func (r *running) answer(program ask.Program, output io.Writer) (int, error) {
 	}
 	opened, err := openInputs(read)
 	if err != nil {
-		return 0, r.renamed(err, names)
+		return 0, renamed(err, names)
 	}
 	defer opened.close()
 	for _, one := range opened.devices {
@@ -284,24 +283,30 @@ func (r *running) answer(program ask.Program, output io.Writer) (int, error) {
 	}
 	answer, err := opened.audited(read, r.log, func() (*finding.Answer, error) { return answerOf(opened, read, program) })
 	if err != nil {
-		return 0, r.renamed(err, names)
+		return 0, renamed(err, names)
 	}
 	r.time(answer)
 	return tell(output, r.log, read, answer)
 }
 
-// renamed gives an error with places in place of this run's own files. One that says a status or was told stays as it is.
-func (r *running) renamed(err error, names map[string]string) error {
-	var failed *ask.Failed
+// renamed gives an error with places in place of this run's own files.
+func renamed(err error, names map[string]string) error {
 	text := err.Error()
-	if errors.As(err, &failed) || errors.Is(err, errTold) {
-		return err
-	}
 	for path, name := range names {
 		text = strings.ReplaceAll(text, path, name)
 	}
-	return fmt.Errorf("%s", text)
+	return &placed{text, err}
 }
+
+// placed is an error that names places in place of this run's own files.
+type placed struct {
+	text  string
+	cause error
+}
+
+func (p *placed) Error() string { return p.text }
+
+func (p *placed) Unwrap() error { return p.cause }
 
 // time says by this machine's clock how long the cluster was still: the devices' clocks may differ.
 func (r *running) time(answer *finding.Answer) {

@@ -13,9 +13,9 @@ const secondsOfAsking = 5
 // optionsOfSSH gives the options that have ssh give up on a machine which is silent. Words of a command line go before
 // ~/.ssh/config, so what is set there is asked for first, and left alone. A password or a new host's key is asked for as ever.
 func optionsOfSSH(host string) []string {
-	context, end := context.WithTimeout(context.Background(), secondsOfAsking*time.Second)
+	limited, end := context.WithTimeout(context.Background(), secondsOfAsking*time.Second)
 	defer end()
-	told, err := exec.CommandContext(context, "ssh", "-G", host).Output()
+	told, err := exec.CommandContext(limited, "ssh", "-G", host).Output()
 	if err != nil {
 		told = nil
 	}

@@ -12,6 +12,7 @@ import (
 
 	"github.com/syncthing/syncthing/lib/config"
 	"github.com/syncthing/syncthing/lib/protocol"
+	"syncthing-audit/ask"
 	"syncthing-audit/choice"
 	"syncthing-audit/device"
 	"syncthing-audit/part"
@@ -135,7 +136,7 @@ func TestWhatCannotBeWritten(t *testing.T) {
 		}
 	}
 	for _, path := range []string{"/dev/full", "-"} {
-		write, err := whereTo(path, full{})
+		write, err := whereTo(options{output: path}, full{})
 		if err == nil {
 			err = write(func(to io.Writer) error {
 				_, err := io.WriteString(to, "new")
@@ -144,6 +145,25 @@ func TestWhatCannotBeWritten(t *testing.T) {
 		}
 		if status := statusOf(err, io.Discard, io.Discard); status != statusFault {
 			t.Errorf("a part that goes to %s has status %d: %v", path, status, err)
+		}
+	}
+}
+
+// An error of 'run' names places in place of its own files, and keeps its status: it is told once, or was.
+func TestAnErrorThatNamesPlacesKeepsItsStatus(t *testing.T) {
+	const path = "/room/begin-1.part"
+	for _, one := range []struct {
+		err    error
+		status int
+		told   string
+	}{
+		{errors.New(path + " is cut off"), statusRefused, "syncthing-audit: laptop: is cut off\n"},
+		{faultOf(errors.New(path + ": no space left")), statusFault, "syncthing-audit: laptop:: no space left\n"},
+		{&ask.Failed{Status: 4}, 4, "syncthing-audit: \n"}, {errTold, statusRefused, ""},
+	} {
+		var log strings.Builder
+		if status := statusOf(renamed(one.err, map[string]string{path: "laptop:"}), io.Discard, &log); status != one.status || log.String() != one.told {
+			t.Errorf("%v: %d, %q", one.err, status, log.String())
 		}
 	}
 }

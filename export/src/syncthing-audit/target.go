@@ -11,7 +11,8 @@ import (
 	"syncthing-audit/shell"
 )
 
-// standardOutput are the words for standard output. The program keeps the second one's number for standard error.
+// standardOutput are the words that mean standard output. /dev/stdout is one of them: main puts standard error in its place, so a file that
+// is opened by this name would be standard error.
 var standardOutput = map[string]bool{"": true, "-": true, "/dev/stdout": true}
 
 // target is where a part goes.
@@ -73,7 +74,7 @@ func (t *target) write(write func(io.Writer) error) error {
 	if err := fill(file, t.path, write); err != nil {
 		return err
 	}
-	// Something else may have come meanwhile, which a new name would replace.
+	// Something else may stand there by now, and to rename the file would replace it.
 	if about, err := os.Lstat(t.path); err == nil && !about.Mode().IsRegular() {
 		return refusedTarget(t.path, "is no file any more")
 	}

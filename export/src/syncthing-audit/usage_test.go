@@ -24,6 +24,8 @@ func TestWrongFlags(t *testing.T) {
 		"part --begin --slice 1/0":  "invalid value \"1/0\" for flag --slice: a slice is K/N",
 		"part --end --slice":        "--slice needs a word behind it",
 		"part --home a --jobs none": "invalid value \"none\" for flag --jobs: ",
+		"part --data d -o x":        "--data is for a --home whose database is elsewhere: name both",
+		"check --data d x":          "there is no flag --data",
 	} {
 		var log strings.Builder
 		status := run(strings.Split(words, " "), io.Discard, &log)

@@ -39,6 +39,7 @@ const (
 // Home is a stopped device's home, its index opened from a copy.
 type Home struct {
 	Dir    string
+	data   string // where its index is; nothing where that is in Dir, too
 	ID     protocol.DeviceID
 	Config config.Configuration
 	Copied Copied // of the index of a home whose Syncthing may run
@@ -54,18 +55,21 @@ type Home struct {
 	index   *db.Lowlevel
 }
 
-// Open reads and locks a home and opens a copy of its index. Nothing of the home is changed.
-func Open(dir string) (*Home, error) {
-	return openWith(dir, (*Home).openIndex)
+// Open reads and locks a home and opens a copy of its index, which is in another directory where one is named. Nothing of the home is changed.
+func Open(dir, data string) (*Home, error) {
+	return openWith(dir, data, (*Home).openIndex)
 }
 
 // openWith reads a home and has its index opened.
-func openWith(dir string, open func(*Home) error) (*Home, error) {
+func openWith(dir, data string, open func(*Home) error) (*Home, error) {
 	id, read, err := readAbout(dir)
 	if err != nil {
 		return nil, err
 	}
-	opened := &Home{Dir: dir, ID: id, Config: read}
+	opened := &Home{Dir: dir, data: data, ID: id, Config: read}
+	if err := checkOne(opened.dataDirectory()); err != nil {
+		return nil, err
+	}
 	if opened.attributes, err = attributesIn(filepath.Join(dir, "config.xml")); err != nil {
 		return nil, err
 	}
@@ -75,6 +79,26 @@ func openWith(dir string, open func(*Home) error) (*Home, error) {
 	}
 	return opened, nil
 }
+
+// dataDirectory gives the directory in which the index is.
+func (h *Home) dataDirectory() string {
+	if h.data == "" {
+		return h.Dir
+	}
+	return h.data
+}
+
+// database gives the path of the index.
+func (h *Home) database() string { return filepath.Join(h.dataDirectory(), databaseName) }
+
+// noIndex says that there is no index, and what can be done where Syncthing has it elsewhere.
+func (h *Home) noIndex() error {
+	return fmt.Errorf("%s: no index %s, as Syncthing 1 makes it on its first start (Syncthing 2's isn't read). Where Syncthing has its database "+
+		"in another directory, as by its own --data, name that to 'part' as --data DIR: 'syncthing --paths' says where it is", h.dataDirectory(), databaseName)
+}
+
+// HasIndex says whether a home has its index beside its configuration.
+func HasIndex(dir string) bool { return isThere(dir, databaseName) || isThere(dir, indexOfTwo) }
 
 // readAbout reads whose home a directory is, and how it is configured.
 func readAbout(dir string) (protocol.DeviceID, config.Configuration, error) {
@@ -208,10 +232,10 @@ func readConfig(path string, id protocol.DeviceID) (config.Configuration, error)
 
 // openIndex locks the index, copies it to a temporary folder and opens the copy.
 func (h *Home) openIndex() error {
-	database := filepath.Join(h.Dir, databaseName)
+	database := h.database()
 	var err error
 	if h.lock, err = lockShared(h.Dir, database); errors.Is(err, os.ErrNotExist) {
-		return fmt.Errorf("%s: no index %s, as Syncthing 1 makes it on its first start (Syncthing 2's isn't read)", h.Dir, databaseName)
+		return h.noIndex()
 	} else if err != nil {
 		return err
 	}

@@ -16,12 +16,12 @@ import (
 
 // OpenLive reads a home whose Syncthing may run, and opens a copy of its index as it was at one moment after the call. No
 // lock is taken, and nothing of the home is changed.
-func OpenLive(dir string) (*Home, error) {
-	return openWith(dir, (*Home).openLiveIndex)
+func OpenLive(dir, data string) (*Home, error) {
+	return openWith(dir, data, (*Home).openLiveIndex)
 }
 
 // Identity gives a text that is the same for one home's index on one machine alone.
-func (h *Home) Identity() (string, error) { return DirectoryOf(filepath.Join(h.Dir, databaseName)) }
+func (h *Home) Identity() (string, error) { return DirectoryOf(h.database()) }
 
 // bytesOfFolder is how long the number of a folder is in keys; the key that has its id has room for more.
 const bytesOfFolder = 4
@@ -29,9 +29,9 @@ const bytesOfFolder = 4
 // openLiveIndex copies the index to a temporary folder and opens the copy.
 func (h *Home) openLiveIndex() error {
 	h.isLive = true
-	database := filepath.Join(h.Dir, databaseName)
+	database := h.database()
 	if _, err := os.Stat(filepath.Join(database, "CURRENT")); errors.Is(err, os.ErrNotExist) {
-		return fmt.Errorf("%s: no index %s, as Syncthing 1 makes it on its first start (Syncthing 2's isn't read)", h.Dir, databaseName)
+		return h.noIndex()
 	}
 	var err error
 	if h.copied, err = leftover.Directory("syncthing-audit-"); err != nil {

@@ -153,14 +153,41 @@ func TestAHomeOfSyncthing2(t *testing.T) {
 		if err := os.MkdirAll(filepath.Join(home, one.directory), 0o700); err != nil {
 			t.Fatal(err)
 		}
-		for _, open := range []func(string) (*Home, error){Open, OpenLive} {
-			if _, err := open(home); err == nil || !strings.HasPrefix(err.Error(), "refused: "+home) || !strings.HasSuffix(err.Error(), one.told) {
+		for _, open := range []func(dir, data string) (*Home, error){Open, OpenLive} {
+			if _, err := open(home, ""); err == nil || !strings.HasPrefix(err.Error(), "refused: "+home) || !strings.HasSuffix(err.Error(), one.told) {
 				t.Errorf("%s: %v", one.directory, err)
 			}
 		}
 	}
 	if !IsHome(home) {
 		t.Error("it is taken for no home")
+	}
+}
+
+// A home whose index isn't there is refused with the flag that says where it is. So is an index of Syncthing 2 at that place.
+func TestAnIndexElsewhere(t *testing.T) {
+	home, data := t.TempDir(), t.TempDir()
+	for name, text := range map[string]string{
+		"cert.pem":   "-----BEGIN CERTIFICATE-----\nAAAA\n-----END CERTIFICATE-----\n",
+		"config.xml": `<configuration version="36"></configuration>`,
+	} {
+		if err := os.WriteFile(filepath.Join(home, name), []byte(text), 0o600); err != nil {
+			t.Fatal(err)
+		}
+	}
+	for _, open := range []func(dir, data string) (*Home, error){Open, OpenLive} {
+		for given, named := range map[string]string{"": home, data: data} {
+			_, err := open(home, given)
+			if err == nil || !strings.HasPrefix(err.Error(), named+": no index "+databaseName) || !strings.Contains(err.Error(), "to 'part' as --data DIR") {
+				t.Errorf("%q: %v", given, err)
+			}
+		}
+	}
+	if err := os.Mkdir(filepath.Join(data, indexOfTwo), 0o700); err != nil {
+		t.Fatal(err)
+	}
+	if _, err := Open(home, data); err == nil || !strings.HasPrefix(err.Error(), "refused: "+data+": its index is that of Syncthing 2") {
+		t.Error(err)
 	}
 }
 

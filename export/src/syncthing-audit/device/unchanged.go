@@ -3,7 +3,6 @@ package device
 import (
 	"fmt"
 	"os"
-	"path/filepath"
 )
 
 // listing is what the files of an index look like from outside.
@@ -29,7 +28,7 @@ func listingOf(database string) (listing, error) {
 // checkUnchanged says which file of the home's index isn't as it was before it was copied. The lock keeps a Syncthing on
 // this machine out; over a mount it doesn't.
 func (h *Home) checkUnchanged() error {
-	now, err := listingOf(filepath.Join(h.Dir, databaseName))
+	now, err := listingOf(h.database())
 	if err != nil {
 		return err
 	}

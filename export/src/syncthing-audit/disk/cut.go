@@ -73,12 +73,12 @@ func add(to *part.Differ, place int64) {
 func pairAt(recorded, found [][32]byte, place int) part.Pair {
 	var made part.Pair
 	if place < len(recorded) {
-		hash := part.Hash(recorded[place])
-		made.Recorded = &hash
+		one := part.Hash(recorded[place])
+		made.Recorded = &one
 	}
 	if place < len(found) {
-		hash := part.Hash(found[place])
-		made.Found = &hash
+		one := part.Hash(found[place])
+		made.Found = &one
 	}
 	return made
 }

@@ -6,6 +6,7 @@ import (
 	"context"
 	"crypto/tls"
 	"crypto/x509"
+	"encoding/json"
 	"encoding/pem"
 	"errors"
 	"fmt"
@@ -24,17 +25,7 @@ import (
 // Scan has the Syncthing of a home scan a folder, and waits until that is done.
 func Scan(home string, about config.GUIConfiguration, folder, label string) error {
 	called := shell.Folder(folder, label)
-	client := &http.Client{Transport: transport(home, about)}
-	scheme := "http"
-	if about.UseTLS() {
-		scheme = "https"
-	}
-	asked, err := http.NewRequest(http.MethodPost, scheme+"://localhost/rest/db/scan?"+url.Values{"folder": {folder}}.Encode(), nil)
-	if err != nil {
-		return err
-	}
-	asked.Header.Set("X-API-Key", about.APIKey)
-	answer, err := client.Do(asked)
+	answer, err := ask(home, about, http.MethodPost, "db/scan?"+url.Values{"folder": {folder}}.Encode())
 	if err != nil {
 		return fmt.Errorf("folder %s isn't scanned: does Syncthing run there? %w", called, err)
 	}
@@ -49,6 +40,47 @@ func Scan(home string, about config.GUIConfiguration, folder, label string) erro
 			strings.TrimSpace(string(text)))
 	}
 	return nil
+}
+
+// mostOfPaths is how much of an answer is read that says where a Syncthing has its files.
+const mostOfPaths = 1 << 20
+
+// DataDirectory gives the directory in which the Syncthing of a home has its database.
+func DataDirectory(home string, about config.GUIConfiguration) (string, error) {
+	answer, err := ask(home, about, http.MethodGet, "system/paths")
+	if err != nil {
+		return "", err
+	}
+	defer answer.Body.Close()
+	switch answer.StatusCode {
+	case http.StatusOK:
+	case http.StatusNotFound:
+		return "", errors.New("this Syncthing doesn't say it, as 1.19 doesn't")
+	default:
+		return "", fmt.Errorf("Syncthing answers %s", answer.Status)
+	}
+	var paths map[string]string
+	if err := json.NewDecoder(io.LimitReader(answer.Body, mostOfPaths)).Decode(&paths); err != nil {
+		return "", err
+	}
+	if !filepath.IsAbs(paths["baseDir-data"]) {
+		return "", errors.New("Syncthing doesn't say where its database is")
+	}
+	return paths["baseDir-data"], nil
+}
+
+// ask asks the Syncthing of a home.
+func ask(home string, about config.GUIConfiguration, method, what string) (*http.Response, error) {
+	scheme := "http"
+	if about.UseTLS() {
+		scheme = "https"
+	}
+	asked, err := http.NewRequest(method, scheme+"://localhost/rest/"+what, nil)
+	if err != nil {
+		return nil, err
+	}
+	asked.Header.Set("X-API-Key", about.APIKey)
+	return (&http.Client{Transport: transport(home, about)}).Do(asked)
 }
 
 // transport gives how the Syncthing of a home is spoken to: at its own address alone, and with its own certificate.

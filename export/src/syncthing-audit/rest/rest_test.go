@@ -2,6 +2,7 @@ package rest
 
 import (
 	"encoding/pem"
+	"io"
 	"net/http"
 	"net/http/httptest"
 	"os"
@@ -12,10 +13,12 @@ import (
 	"github.com/syncthing/syncthing/lib/config"
 )
 
-// answering gives a server that scans the folder 'a b' alone, for whoever has the key.
+// answering gives a server that scans the folder 'a b' alone, and says where its files are, for whoever has the key.
 func answering(t *testing.T, isSecure bool) (*httptest.Server, config.GUIConfiguration) {
 	made := httptest.NewUnstartedServer(http.HandlerFunc(func(to http.ResponseWriter, asked *http.Request) {
 		switch {
+		case asked.Method == http.MethodGet && asked.URL.Path == "/rest/system/paths" && asked.Header.Get("X-API-Key") == "key":
+			io.WriteString(to, `{"baseDir-config":"/srv/config","baseDir-data":"/srv/data"}`)
 		case asked.Method != http.MethodPost || asked.URL.Path != "/rest/db/scan":
 			http.Error(to, "odd", http.StatusNotFound)
 		case asked.Header.Get("X-API-Key") != "key":
@@ -69,5 +72,25 @@ func TestScan(t *testing.T) {
 		if (err == nil) != (one.told == "") || err != nil && !strings.Contains(err.Error(), one.told) {
 			t.Errorf("%s: %v", one.why, err)
 		}
+	}
+}
+
+// Where a Syncthing has its database is asked of itself. One that doesn't say it isn't taken for one that does.
+func TestDataDirectory(t *testing.T) {
+	_, about := answering(t, false)
+	if path, err := DataDirectory(t.TempDir(), about); err != nil || path != "/srv/data" {
+		t.Errorf("%q, %v", path, err)
+	}
+	about.APIKey = "x"
+	if path, err := DataDirectory(t.TempDir(), about); err == nil || path != "" {
+		t.Errorf("with another key: %q, %v", path, err)
+	}
+	for _, said := range []string{"", "{}", `{"baseDir-data":"data"}`, "[]"} {
+		server := httptest.NewServer(http.HandlerFunc(func(to http.ResponseWriter, _ *http.Request) { io.WriteString(to, said) }))
+		about.RawAddress = server.Listener.Addr().String()
+		if path, err := DataDirectory(t.TempDir(), about); err == nil || path != "" {
+			t.Errorf("%q is taken: %q", said, path)
+		}
+		server.Close()
 	}
 }

@@ -61,11 +61,11 @@ type Fault struct {
 
 // State is what a record or a disk says of a name.
 type State struct {
-	Type     string    `json:"type"`
-	Deleted  bool      `json:"deleted,omitempty"`
-	Size     int64     `json:"size"`
-	Modified time.Time `json:"modified"`
-	Target   string    `json:"target,omitempty"`
+	Type     string     `json:"type"`
+	Deleted  bool       `json:"deleted,omitempty"`
+	Size     int64      `json:"size"`
+	Modified *time.Time `json:"modified,omitempty"` // nothing for a record of a symlink, in which Syncthing stores no time
+	Target   string     `json:"target,omitempty"`
 }
 
 // Blocks are those of a file that differ from what is recorded, counted from 0.
@@ -94,7 +94,10 @@ func recorded(one *part.Record) *State {
 	if one == nil {
 		return nil
 	}
-	made := &State{Type: typeOf(one.Type), Deleted: one.Deleted, Modified: time.Unix(one.ModifiedS, int64(one.ModifiedNs)), Target: one.Target}
+	made := &State{Type: typeOf(one.Type), Deleted: one.Deleted, Target: one.Target}
+	if one.Deleted || one.Type != int(protocol.FileInfoTypeSymlink) {
+		made.Modified = timeOf(one.ModifiedS, one.ModifiedNs)
+	}
 	if one.Content != nil {
 		made.Size = one.Content.Size
 	}
@@ -106,7 +109,12 @@ func found(one *part.Node) *State {
 	if one == nil {
 		return nil
 	}
-	return &State{Type: typeOf(one.Type), Size: one.Size, Modified: time.Unix(one.ModifiedS, int64(one.ModifiedNs)), Target: one.Target}
+	return &State{Type: typeOf(one.Type), Size: one.Size, Modified: timeOf(one.ModifiedS, one.ModifiedNs), Target: one.Target}
+}
+
+func timeOf(seconds int64, nanoseconds int) *time.Time {
+	made := time.Unix(seconds, int64(nanoseconds))
+	return &made
 }
 
 // onDisk gives how a device's disk differs from its own record; nothing where it doesn't.

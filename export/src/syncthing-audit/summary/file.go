@@ -23,10 +23,12 @@ type File struct {
 	RenamedFrom Text       `json:"renamed_from,omitempty"` // the name that goes where this one comes with the same bytes
 	RenamedTo   Text       `json:"renamed_to,omitempty"`   // and the other way round
 	hasDetails  bool
-	isOdd       bool            // whether the name isn't in Unicode's form NFC
-	isMany      bool            // whether it stands for many names, which are told as one
-	areWide     map[string]bool // the devices whose scans look at owners or extended attributes, too
-	isOwn       bool            // whether the folder's one device shares it with nobody
+	isOdd       bool              // whether the name isn't in Unicode's form NFC
+	isMany      bool              // whether it stands for many names, which are told as one
+	areWide     map[string]bool   // the devices whose scans look at owners or extended attributes, too
+	takers      []string          // those of them that take the file from others, with the owner and attributes that are recorded
+	runs        map[string]string // the version of Syncthing on each device, as far as that is known
+	isOwn       bool              // whether the folder's one device shares it with nobody
 }
 
 // say gives what is said of one name, or of many where the file stands for these.
@@ -61,7 +63,7 @@ type Mode struct {
 // fileOf gives what is to be told of a name.
 func fileOf(folder *finding.Folder, told *finding.Told) *File {
 	made := &File{Name: Text(told.Name), Faults: []Fault{}, Have: []string{}, Follows: []Follow{}, Permissions: []Mode{}, areWide: areWide(folder),
-		isOwn: folder.Own != "", isOdd: !norm.NFC.IsNormalString(told.Name)}
+		takers: takersOf(folder), runs: runsOf(folder), isOwn: folder.Own != "", isOdd: !norm.NFC.IsNormalString(told.Name)}
 	row := folder.Rows[told.Name]
 	switch {
 	case told.Unwon != nil:
@@ -126,6 +128,26 @@ func areWide(folder *finding.Folder) map[string]bool {
 			}
 			made[one.Head.Device] = true
 		}
+	}
+	return made
+}
+
+// takersOf gives the devices whose scans look at owners or attributes, and that take what others record.
+func takersOf(folder *finding.Folder) []string {
+	var made []string
+	for _, one := range folder.Members {
+		if isWide(one) && kindOf(one) != sendOnly {
+			made = append(made, one.Head.Device)
+		}
+	}
+	return made
+}
+
+// runsOf gives the version of Syncthing on each device.
+func runsOf(folder *finding.Folder) map[string]string {
+	made := map[string]string{}
+	for _, one := range folder.Members {
+		made[one.Head.Device] = one.Head.Runs
 	}
 	return made
 }

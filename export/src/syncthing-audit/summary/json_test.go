@@ -65,6 +65,46 @@ func TestSchema(t *testing.T) {
 	}
 }
 
+// Syncthing stores no time in a record of a symlink. So JSON has none, where the disk has one, and so has the record of a deletion.
+func TestNoTimeOfASymlink(t *testing.T) {
+	link := func(at int64) *part.Name {
+		return &part.Name{Own: &part.Record{Type: 4, Target: "a", ModifiedBy: 1, Version: [][2]uint64{{1, 1}}, Sequence: 1},
+			Disk: &part.Node{Type: 4, Target: "b", ModifiedS: at}}
+	}
+	deleted := &part.Name{Own: &part.Record{Type: 4, ModifiedS: started, ModifiedBy: 1, Version: [][2]uint64{{1, 2}}, Sequence: 2, Deleted: true}}
+	answer := answerOf(2, func(folder *finding.Folder) {
+		fails(folder, "changed", []*part.Name{link(started), link(started)}, "StoreDiffers 2")
+		fails(folder, "gone", []*part.Name{deleted, link(started)}, "RecordDiffers 2", "StoreDiffers 2")
+	})
+	var written strings.Builder
+	if err := Of(answer).WriteJSON(&written); err != nil {
+		t.Fatal(err)
+	}
+	if told, err := validate(t, written.String()); err != nil {
+		t.Fatal(told)
+	}
+	var read struct {
+		Folders []struct {
+			Files []struct{ Faults []map[string]interface{} }
+		}
+	}
+	if err := json.Unmarshal([]byte(written.String()), &read); err != nil {
+		t.Fatal(err)
+	}
+	files := read.Folders[0].Files
+	for _, one := range []struct {
+		file  int
+		state string
+		has   bool
+	}{{0, "due", false}, {0, "recorded", false}, {0, "found", true}, {1, "due", true}, {1, "recorded", false}} {
+		state := files[one.file].Faults[0][one.state].(map[string]interface{})
+		at, has := state["modified"]
+		if has != one.has || has && !strings.HasPrefix(at.(string), "2020-09-13T") {
+			t.Errorf("%+v: %v", one, state)
+		}
+	}
+}
+
 // validate has lines judged by the schema; without Python's jsonschema it skips the test.
 func validate(t *testing.T, text string) (string, error) {
 	asked := exec.Command("../../../test/audit_schema.py")

@@ -51,7 +51,7 @@ func otherBytesAdvice(one *Fault, file *File, at string, named labels) string {
 		return mend
 	}
 	return mend + ". If instead the bytes on " + at + " are the right ones, 'touch' the " + file.say("file", "files") +
-		" there and let Syncthing scan: it " + file.spread("sends them to all", "records them")
+		" there and let Syncthing scan: it " + file.spread("sends them to all", "records them") + file.lostByTouch([]string{one.Device}, named)
 }
 
 // whenToMend says what becomes of other bytes as long as they stand there.

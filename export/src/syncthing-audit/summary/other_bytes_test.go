@@ -1,8 +1,12 @@
 package summary
 
 import (
+	"fmt"
 	"strings"
 	"testing"
+
+	"syncthing-audit/finding"
+	"syncthing-audit/part"
 )
 
 // Whether the next scan sees other bytes, and whether an audited device has the recorded ones, is told.
@@ -100,6 +104,54 @@ func TestAdviceOnOtherBytesThatOthersFetch(t *testing.T) {
 		told := adviceOf(file, labels{laptop: "laptop", server: "server", phone: "phone"})
 		if !strings.Contains(told[0], one.has) || file.Faults[0].losesByScan() != (one.has == urgent) {
 			t.Errorf("%+v: %q", one, told)
+		}
+	}
+}
+
+// A file that is touched where scans record no owners and attributes loses them on the devices whose scans do, and that take it. That is said
+// only where it can be so.
+func TestAdviceOnTouchingWithoutAttributes(t *testing.T) {
+	const told, old, new = ": touched there, the file loses those that it has on ", "v1.19.2", "v1.29.5"
+	const loses = ". Scans on server record no owners and attributes" + told
+	for _, one := range []struct {
+		why    string
+		runs   string
+		wide   []int
+		kinds  map[int]string
+		rotten []int
+		told   string
+	}{
+		{"none looks at attributes", old, nil, nil, []int{1}, ""},
+		{"the device itself does", old, []int{1, 2}, nil, []int{1}, ""},
+		{"others do", old, []int{0, 2}, nil, []int{1}, loses + "laptop, phone"},
+		{"a later version keeps what is recorded", new, []int{0, 2}, nil, []int{1}, ""},
+		{"one that wasn't tried", "v1.23.4", []int{0}, nil, []int{1}, ". Scans on server may record no owners and attributes" + told + "laptop"},
+		{"one that isn't known", "", []int{0}, nil, []int{1}, ". Scans on server may record no owners and attributes" + told + "laptop"},
+		{"another one only sends", old, []int{0, 2}, map[int]string{0: sendOnly}, []int{1}, loses + "phone"},
+		{"it only receives, and sends nothing", old, []int{0}, map[int]string{1: receiveOnly}, []int{1}, ""},
+		{"two have the same bytes, one of which does", old, []int{0, 2}, nil, []int{1, 2}, "'touch' the file on phone alone and let Syncthing scan: it sends them to all"},
+		{"two have the same bytes, and neither does", old, []int{0}, nil, []int{1, 2}, ". Scans on phone record no owners and attributes" + told + "laptop"},
+	} {
+		answer := answerOf(3, func(folder *finding.Folder) {
+			for _, member := range folder.Members {
+				member.Head.Runs = one.runs
+			}
+			for _, place := range one.wide {
+				folder.Members[place].About.ScansAttributes = true
+			}
+			for place, kind := range one.kinds {
+				folder.Members[place].About.Kind = kind
+			}
+			names, reasons := []*part.Name{file(1, 1), file(1, 1), file(1, 1)}, []string{}
+			for _, place := range one.rotten {
+				names[place] = with(file(1, 1), rotten)
+				reasons = append(reasons, fmt.Sprint("StoreDiffers ", place+1))
+			}
+			fails(folder, "a", names, reasons...)
+		})
+		advice := strings.Join(Of(answer).Folders[0].Files[0].Advice, ". ")
+		if one.told == "" && strings.Contains(advice, "loses") || !strings.HasSuffix(advice, one.told) {
+			t.Errorf("%s: %s", one.why, advice)
 		}
 	}
 }

@@ -220,24 +220,24 @@ func (p *printer) since(one *Fault) string {
 	case one.isTied || one.Cause == Behind && one.Due.isUndated() || one.Cause == LocalChange && one.Recorded.isUndated():
 		return ""
 	case one.Cause == OtherBytes && one.Recorded != nil:
-		return " (modified " + p.when(one.Recorded.Modified) + ")"
+		return " (modified " + p.when(*one.Recorded.Modified) + ")"
 	case one.Cause == LocalChange && one.Recorded != nil && one.Deletion:
-		return " (" + p.when(one.Recorded.Modified) + ")"
+		return " (" + p.when(*one.Recorded.Modified) + ")"
 	case one.Cause == LocalChange && one.Recorded != nil:
-		return " (modified " + p.when(one.Recorded.Modified) + ")"
+		return " (modified " + p.when(*one.Recorded.Modified) + ")"
 	case one.Found != nil && one.Found.Type == "file" && (one.Cause == Changed || one.Cause == NotScanned || one.Cause == OtherTime ||
 		one.Cause == Back || one.Cause == LocalAddition):
-		return " (modified " + p.when(one.Found.Modified) + ")"
+		return " (modified " + p.when(*one.Found.Modified) + ")"
 	case one.Cause == Behind && one.Due != nil && !one.Deletion:
-		return " (modified " + p.when(one.Due.Modified) + ")"
+		return " (modified " + p.when(*one.Due.Modified) + ")"
 	case one.Cause == Behind && one.Due != nil:
-		return " (since " + p.when(one.Due.Modified) + ")"
+		return " (since " + p.when(*one.Due.Modified) + ")"
 	}
 	return ""
 }
 
 // isUndated says whether a state has no time, as that of a symlink.
-func (s *State) isUndated() bool { return s != nil && s.Type == "symlink" && !s.Deleted }
+func (s *State) isUndated() bool { return s != nil && s.Modified == nil }
 
 func (p *printer) when(at time.Time) string { return at.In(p.zone).Format("2006-01-02 15:04:05 MST") }
 
