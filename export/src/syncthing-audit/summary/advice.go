@@ -60,6 +60,9 @@ func addOnce(all []string, text string) []string {
 // adviceOfFault says what to do about one fault.
 func adviceOfFault(one *Fault, file *File, named labels) string {
 	at := named.of(one.Device)
+	if one.isRival && one.Cause != OtherBytes && !file.isOdd {
+		return rivalsAdvice(file, named)
+	}
 	switch one.Cause {
 	case OtherBytes:
 		return otherBytesAdvice(one, file, at, named)
@@ -124,7 +127,7 @@ func localChangeAdvice(one *Fault, file *File, at string) string {
 	if one.Deletion {
 		return told
 	}
-	return told + ": " + file.say("it is", "they are") + " then in conflict with what the others have. Syncthing " + file.conflicting()
+	return told + ": " + file.say("it is", "they are") + " then in conflict with what the others have. Syncthing " + file.conflicting(one.hasNoCopy)
 }
 
 // notScannedAdvice says what a scan does with what it hasn't seen yet.
@@ -137,8 +140,6 @@ func notScannedAdvice(one *Fault, file *File, at string, named labels) string {
 	case file.isOdd:
 		return "rename " + file.say("it", "them") + " on " + at + ": " + file.say("its name isn't", "their names aren't") + " in Unicode's form NFC, in which " +
 			"Syncthing has names. A scan does that by itself only where nothing stands at the other name; else it passes over " + file.say("it", "them")
-	case one.isRival:
-		return rivalsAdvice(file, named)
 	case one.Kind == receiveOnly && file.isOwn:
 		return "make the folder 'Send & Receive' on " + at + " and 'Rescan': " + file.say("it is then recorded", "they are then recorded") +
 			". While the folder only receives, a scan takes " + file.say("it for a local addition, which keeps", "them for local additions, which keep") +
@@ -171,9 +172,6 @@ func changedAdvice(one *Fault, file *File, at string, named labels) string {
 	told := "start Syncthing on " + at + " and 'Rescan': "
 	if late := lateAdvice(one, file, at); late != "" {
 		return late
-	}
-	if one.isRival {
-		return rivalsAdvice(file, named)
 	}
 	if one.Kind == receiveOnly {
 		return told + file.say("the change stays there as a local one", "the changes stay there as local ones") + file.revert(one)
@@ -242,7 +240,7 @@ func behindAdvice(one *Fault, file *File, at string, named labels) string {
 	case one.Cause == Conflicting && one.Deletion:
 		return "start Syncthing on all of these devices: it keeps " + file.say("the file", "the files") + ", since a change goes before a deletion"
 	case one.Cause == Conflicting:
-		return "start Syncthing on all of these devices: it " + file.conflicting()
+		return "start Syncthing on all of these devices: it " + file.conflicting(one.hasNoCopy)
 	}
 	told := "let Syncthing run on " + at + " and on " + holders(file, named) + ", and let them finish. If it stays so, see whether a device " +
 		"or the folder is paused, whether they are connected, whether a disk is full, and whether Syncthing's page lists 'Failed Items'"

@@ -51,8 +51,10 @@ type Fault struct {
 	isWide   bool // the device's scans look at owners or extended attributes, too
 	// Another device has to take the file, and may fetch it from there.
 	isFetched bool
-	// A scan of another device finds other contents there, of which neither's record knows.
+	// A scan of another device records another change there, of which neither's record knows.
 	isRival bool
+	// What is in conflict isn't a file on each side, so Syncthing may keep no copy of it.
+	hasNoCopy bool
 }
 
 // State is what a record or a disk says of a name.

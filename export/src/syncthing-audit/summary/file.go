@@ -27,6 +27,8 @@ type File struct {
 	isMany      bool            // whether it stands for many names, which are told as one
 	areWide     map[string]bool // the devices whose scans look at owners or extended attributes, too
 	isOwn       bool            // whether the folder's one device shares it with nobody
+	rivals      []string        // the devices whose next scans record changes that are in conflict
+	receivers   []string        // the devices that only receive
 }
 
 // say gives what is said of one name, or of many where the file stands for these.
@@ -61,7 +63,7 @@ type Mode struct {
 // fileOf gives what is to be told of a name.
 func fileOf(folder *finding.Folder, told *finding.Told) *File {
 	made := &File{Name: Text(told.Name), Faults: []Fault{}, Have: []string{}, Follows: []Follow{}, Permissions: []Mode{}, areWide: areWide(folder),
-		isOwn: folder.Own != "", isOdd: !norm.NFC.IsNormalString(told.Name)}
+		isOwn: folder.Own != "", receivers: receiversOf(folder), isOdd: !norm.NFC.IsNormalString(told.Name)}
 	row := folder.Rows[told.Name]
 	switch {
 	case told.Unwon != nil:
@@ -74,7 +76,6 @@ func fileOf(folder *finding.Folder, told *finding.Told) *File {
 		made.addDamage(folder, told.Damaged)
 	}
 	made.noteFetched()
-	made.noteRivals()
 	if told.Permissions != nil {
 		made.Permissions = modesOf(folder, told.Permissions)
 	}
@@ -101,6 +102,7 @@ func addUnwon(file *File, folder *finding.Folder, one *finding.Unwon) {
 			if row.At[at.Member].Disk != nil {
 				fault.contents = row.At[at.Member].Disk.Contents
 			}
+			fault.hasNoCopy = fault.isWithoutCopy()
 		}
 		file.Faults = append(file.Faults, fault)
 	}
@@ -125,6 +127,17 @@ func areWide(folder *finding.Folder) map[string]bool {
 				made = map[string]bool{}
 			}
 			made[one.Head.Device] = true
+		}
+	}
+	return made
+}
+
+// receiversOf gives the devices that only receive; nothing where there is none.
+func receiversOf(folder *finding.Folder) []string {
+	var made []string
+	for _, one := range folder.Members {
+		if kindOf(one) == receiveOnly {
+			made = append(made, one.Head.Device)
 		}
 	}
 	return made
@@ -263,12 +276,16 @@ func (r *reader) add(member int, cause Cause) {
 	if at := r.at(member); at != nil {
 		made.Recorded, made.Found = recorded(at.Own), found(at.Disk)
 		if cause == OtherBytes || cause == Changed {
-			made.Blocks, made.contents = blocksOf(at), at.Disk.Contents
+			made.Blocks = blocksOf(at)
+		}
+		if at.Disk != nil {
+			made.contents = at.Disk.Contents
 		}
 		made.late, made.isAlone, made.isDue = r.lateAt(member), cause == Missing && r.isAlone(member), isSame(at.Disk, r.winner)
 	}
 	made.Deletion = cause == Behind && made.Due != nil && made.Due.Deleted ||
 		(cause == LocalChange || cause == Conflicting) && made.Recorded != nil && made.Recorded.Deleted
+	made.hasNoCopy = made.isWithoutCopy()
 	made.ends = endsOf(&made, r.at(member), r.winner)
 	r.file.Faults = append(r.file.Faults, made)
 }

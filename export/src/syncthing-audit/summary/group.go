@@ -50,7 +50,7 @@ func keyOf(file *File) string {
 			key += " odd"
 		}
 		if one.Cause != Behind {
-			key += fmt.Sprint(" ", one.late, one.isAlone)
+			key += fmt.Sprint(" ", one.late, one.isAlone, one.hasNoCopy)
 		}
 		if one.isRival {
 			key += " in conflict"
@@ -95,6 +95,7 @@ func (f *folding) take(one *File) {
 	one.sortDevices(f.named)
 	one.Same = sameOtherBytes(one.Faults)
 	one.markSeen()
+	one.noteRivals()
 	key := keyOf(one)
 	if !one.hasDetails && (key == "" || f.alike[key] == nil && len(f.alike) >= mostKinds) {
 		one.shorten()
@@ -146,7 +147,7 @@ func (f *folding) end() ([]*File, []*Group) {
 // groupOf tells names as one.
 func (a *alike) groupOf(named labels) *Group {
 	first := a.first[0]
-	same := &File{Faults: withoutDetails(first.Faults), Have: first.Have, Permissions: first.Permissions, isMany: true, areWide: first.areWide, isOwn: first.isOwn, isOdd: first.isOdd}
+	same := &File{Faults: withoutDetails(first.Faults), Have: first.Have, Permissions: first.Permissions, isMany: true, areWide: first.areWide, isOwn: first.isOwn, isOdd: first.isOdd, rivals: first.rivals}
 	made := a.group
 	made.Cause, made.Devices, made.First, made.Have, made.Modes = Permissions, []string{}, []Text{}, first.Have, first.Permissions
 	made.Advice = adviceOf(same, named)
@@ -169,7 +170,7 @@ func withoutDetails(faults []Fault) []Fault {
 	made := []Fault{}
 	for _, one := range faults {
 		made = append(made, Fault{Device: one.Device, Cause: one.Cause, Kind: one.Kind, Deletion: one.Deletion, isWide: one.isWide, late: one.late,
-			isAlone: one.isAlone, isRival: one.isRival})
+			isAlone: one.isAlone, isRival: one.isRival, hasNoCopy: one.hasNoCopy})
 	}
 	return made
 }

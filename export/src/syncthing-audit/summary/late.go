@@ -54,8 +54,14 @@ func isSame(disk *part.Node, due *part.Record) bool {
 	return due.Content == nil || slices.Contains(disk.Contents, *due.Content)
 }
 
-// conflicting says what Syncthing does with two changes of which neither is on top of the other.
-func (f *File) conflicting() string {
+// conflicting says what Syncthing does with two changes of which neither is on top of the other. It keeps copies of files alone. In its record a
+// symlink has no time, so it goes behind whatever has one.
+func (f *File) conflicting(hasNoCopy bool) string {
+	if hasNoCopy {
+		return "keeps the one " + f.say("that was modified later (a symlink counts as of 1970), and the other one as a conflict copy only if it is a file",
+			"of each that was modified later (a symlink counts as of 1970), and the others as conflict copies only if they are files") +
+			" and the folder's 'Max Conflicts' isn't 0: save first what is to stay. It puts nothing in place of a directory that isn't empty"
+	}
 	return "keeps the one " + f.say("that was modified later, and the other one as a conflict copy", "of each that was modified later, and the others as conflict copies") + noCopies
 }
 
@@ -74,15 +80,36 @@ func lateAdvice(one *Fault, file *File, at string) string {
 	case one.late == lateDeletion:
 		return told + file.say("the change goes before the deletion, and then to all. If it isn't wanted, first delete the file there",
 			"the changes go before the deletions, and then to all. If they aren't wanted, first delete the files there") + " while Syncthing is stopped"
+	case one.Kind == receiveOnly && one.hasNoCopy:
+		return told + "Syncthing then takes what the others have, and of a symlink or a directory that stands there it keeps no copy: save first what is " +
+			"to stay. It puts nothing in place of a directory that isn't empty"
 	case one.Kind == receiveOnly:
 		return told + "Syncthing then takes what the others have, and keeps what stands there as " +
 			file.say("a conflict copy, a local addition", "conflict copies, local additions") + noCopies
 	}
-	told += "what stands there is then in conflict with what the others have. Syncthing " + file.conflicting()
+	told += "what stands there is then in conflict with what the others have. Syncthing " + file.conflicting(one.hasNoCopy)
 	if one.Kind == sendOnly {
-		return told
+		return told + one.keepsOwn(at)
 	}
 	return told + ". To have only what the others have, first delete what stands there while Syncthing is stopped"
+}
+
+// keepsOwn says what a device that only sends has of a conflict.
+func (f *Fault) keepsOwn(at string) string {
+	if f.Kind != sendOnly {
+		return ""
+	}
+	return ". " + at + " only sends: it keeps what stands there in any case. Where that was modified earlier, the others keep theirs, without a copy"
+}
+
+// isWithoutCopy says whether Syncthing may keep no copy of what is in conflict, since it isn't a file on each side. A device that only receives
+// takes what the others have, and copies what it had itself alone.
+func (f *Fault) isWithoutCopy() bool {
+	mine, isSent := f.Found, f.Kind != receiveOnly
+	if f.Cause == Conflicting || f.Cause == LocalChange {
+		mine, isSent = f.Recorded, true
+	}
+	return mine == nil || mine.Type != "file" || isSent && f.Due != nil && f.Due.Type != "file"
 }
 
 // lateMissing says what becomes of a name that is missing on a disk, where others have what the device's version lacks.

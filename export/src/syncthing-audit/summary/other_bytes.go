@@ -60,6 +60,8 @@ func whenToMend(one *Fault, file *File, at string) string {
 	switch {
 	case one.isSeen && one.Kind == receiveOnly:
 		return "before Syncthing scans there (the scan takes these bytes for a local change), "
+	case one.isSeen && (one.isRival || one.late == lateChange):
+		return "before Syncthing scans there (the scan takes these bytes for a change, in conflict with what the others have), "
 	case one.isSeen:
 		return "before Syncthing scans there (the scan " + file.spread("sends these bytes to all", "records these bytes") + "), "
 	case one.isFetched:
