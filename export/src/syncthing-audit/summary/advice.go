@@ -218,6 +218,9 @@ func missingAdvice(one *Fault, file *File, at string, named labels) string {
 	if one.late == lateChange {
 		return "see that the folder's disk is mounted on " + at + lateMissing(one, file, at)
 	}
+	if one.Kind == receiveOnly && one.late == lateDeletion {
+		return "start Syncthing on " + at + " and 'Rescan': the other devices have deleted " + it + ", too"
+	}
 	if one.Kind == receiveOnly {
 		from := ""
 		if len(file.Have) == 0 {

@@ -14,15 +14,17 @@ const (
 	lateChange        // others have another version of it
 )
 
-// lateAt says what a member lacks of a name. Of a local change of a device that only receives that isn't known: it goes without its version.
+// lateAt says what a member lacks of a name. Once a device that only receives has recorded a local change, a scan records what stands there since
+// without the versions of others: it lacks what they have.
 func (r *reader) lateAt(member int) late {
 	at, found := r.at(member), notLate
-	if at == nil || at.Own != nil && at.Own.Invalid {
+	if at == nil {
 		return found
 	}
+	isLocal := at.Own != nil && at.Own.Invalid
 	for _, one := range r.row.At {
 		switch {
-		case one == nil || one.Own == nil || one.Own.Invalid || at.Own != nil && part.IsAtMost(one.Own.Version, at.Own.Version):
+		case one == nil || one.Own == nil || one.Own.Invalid || at.Own != nil && !isLocal && part.IsAtMost(one.Own.Version, at.Own.Version):
 		case !one.Own.Deleted:
 			return lateChange
 		default:

@@ -1,5 +1,7 @@
 package summary
 
+import "golang.org/x/exp/slices"
+
 // mayShow says whether a scan may take other bytes for a change: it hashes a file whose inode changed. In a folder that only
 // receives, Syncthing 1.29 then keeps the record that all others have, and tells no local change.
 func (f *Fault) mayShow() bool { return f.Cause == OtherBytes && f.isWide && f.Kind != receiveOnly }
@@ -46,6 +48,9 @@ func otherBytesAdvice(one *Fault, file *File, at string, named labels) string {
 	if lack := file.lackOn(one.Device); lack != nil {
 		return lateBytesAdvice(one, lack, file, at, named)
 	}
+	if file.hasLocalChange(one.Device) {
+		return whenToMend(one, file, at) + "put the bytes back that " + at + " recorded, from old versions or backups, or 'Revert Local Changes' there"
+	}
 	mend := whenToMend(one, file, at) + copying(one, file, named, overFile)
 	if one.Kind == receiveOnly || len(file.sendersOfOtherBytes()) > 1 {
 		return mend
@@ -54,14 +59,19 @@ func otherBytesAdvice(one *Fault, file *File, at string, named labels) string {
 		" there and let Syncthing scan: it " + file.spread("sends them to all", "records them")
 }
 
+// hasLocalChange says whether a device that only receives has recorded a change of its own. No other device has its bytes then.
+func (f *File) hasLocalChange(device string) bool {
+	return slices.IndexFunc(f.Faults, func(one Fault) bool { return one.Device == device && one.Cause == LocalChange }) >= 0
+}
+
 // whenToMend says what becomes of other bytes as long as they stand there.
 func whenToMend(one *Fault, file *File, at string) string {
 	it := file.say("it", "them")
 	switch {
-	case one.isSeen && one.Kind == receiveOnly:
-		return "before Syncthing scans there (the scan takes these bytes for a local change), "
 	case one.isSeen && (one.isRival || one.late == lateChange):
 		return "before Syncthing scans there (the scan takes these bytes for a change, in conflict with what the others have), "
+	case one.isSeen && one.Kind == receiveOnly:
+		return "before Syncthing scans there (the scan takes these bytes for a local change), "
 	case one.isSeen:
 		return "before Syncthing scans there (the scan " + file.spread("sends these bytes to all", "records these bytes") + "), "
 	case one.isFetched:

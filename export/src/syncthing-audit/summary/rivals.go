@@ -16,11 +16,32 @@ func (f *File) noteRivals() {
 	}
 	for place := range f.Faults {
 		one := &f.Faults[place]
-		if f.isOutdone(one, scanned) {
+		switch {
+		case f.isOutdone(one, scanned):
 			one.late, one.isDue = lateChange, false
+		case one.Cause == Missing && one.late == lateChange && f.isMissingOnAll():
+			one.late = notLate
 		}
 		one.isDue = one.isDue && !f.hasConflictBut(one.Device)
 	}
+}
+
+// isMissingOnAll says whether what is due is missing on the disk of a device that recorded it, and stands on no other one as recorded. Scans take
+// it for deleted then, on top of what all devices have, unless another one has a change of its own.
+func (f *File) isMissingOnAll() bool {
+	isMissing := false
+	for _, one := range f.Faults {
+		if one.Cause == Conflicting && !one.Deletion && !f.isMissingAt(one.Device) {
+			return false
+		}
+		isMissing = isMissing || one.Cause == Missing && one.Kind != receiveOnly && f.lackOn(one.Device) == nil
+	}
+	return isMissing && len(f.Have) == 0
+}
+
+// isMissingAt says whether the name is missing on a device's disk.
+func (f *File) isMissingAt(device string) bool {
+	return slices.IndexFunc(f.Faults, func(one Fault) bool { return one.Device == device && one.Cause == Missing }) >= 0
 }
 
 // hasConflictBut says whether another device than this one has a change that what is due isn't on top of.

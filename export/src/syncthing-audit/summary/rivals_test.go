@@ -80,6 +80,12 @@ func linkRecorded() *part.Name {
 	return made
 }
 
+// local gives what a device has whose record is a local change.
+func local(one *part.Name) *part.Name {
+	one.Own.Invalid = true
+	return one
+}
+
 // scannedByBoth are rows of a laptop and a server, of the kind given, of which scans record different things; which of them has another mode on its
 // disk; what is told, and what isn't.
 var scannedByBoth = []struct {
@@ -107,6 +113,18 @@ var scannedByBoth = []struct {
 		"server only sends: it keeps what stands there in any case", "goes to all"},
 	{"recorded as a file, and as a symlink", "", []*part.Name{changedAt(1, 1), linkRecorded()}, "RecordDiffers 2", 0,
 		"keeps the one that was modified later (a symlink counts as of 1970), and the other one as a conflict copy only if it is a file", "goes to all"},
+	{"missing, and missing where it is behind", "", []*part.Name{with(file(2, 2), absent), with(file(1, 1), absent)}, "StoreDiffers 1,RecordDiffers 2,StoreDiffers 2", 0,
+		"mounted on server, before Syncthing starts there: a scan takes it for deleted, and then all devices delete it", "the other devices keep it"},
+	{"changed again after a local change", receiveOnly, []*part.Name{file(1, 1), local(changedTo(7))}, "LocalOnly 2,StoreDiffers 2", 0,
+		"'Rescan': Syncthing then takes what the others have, and keeps what stands there as a conflict copy, a local addition", "as a local one"},
+	{"back after a local deletion", receiveOnly, []*part.Name{file(1, 1), local(with(changedTo(7), again))}, "LocalOnly 2,StoreDiffers 2", 0,
+		"'Rescan': Syncthing then takes what the others have, and keeps what stands there as a conflict copy, a local addition", "for a new file"},
+	{"missing after a local change", receiveOnly, []*part.Name{file(1, 1), local(with(file(2, 2), absent))}, "LocalOnly 2,StoreDiffers 2", 0,
+		"the other devices keep it, and Syncthing brings what they have to server", "After a 'Rescan'"},
+	{"missing after a local change of what is deleted", receiveOnly, []*part.Name{deletedAfter(), local(with(file(2, 2), absent))}, "LocalOnly 2,StoreDiffers 2", 0,
+		"start Syncthing on server and 'Rescan': the other devices have deleted it, too", "brings it back"},
+	{"other bytes of a local change", receiveOnly, []*part.Name{file(1, 1), local(with(file(2, 2), rotten))}, "LocalOnly 2,StoreDiffers 2", 0,
+		"Syncthing won't repair it: put the bytes back that server recorded, from old versions or backups", "copy it from laptop"},
 	{"recorded otherwise, and touched", "", []*part.Name{changedAt(1, 1), with(changedAt(2, 1), touched)}, "RecordDiffers 1,StoreUnclean 2", 0,
 		"on server and 'Rescan': what stands there is then in conflict", "nothing is copied"},
 }
