@@ -1,7 +1,5 @@
 package summary
 
-import "golang.org/x/exp/slices"
-
 // mayShow says whether a scan may take other bytes for a change: it hashes a file whose inode changed. In a folder that only
 // receives, Syncthing 1.29 then keeps the record that all others have, and tells no local change.
 func (f *Fault) mayShow() bool { return f.Cause == OtherBytes && f.isWide && f.Kind != receiveOnly }
@@ -48,7 +46,7 @@ func otherBytesAdvice(one *Fault, file *File, at string, named labels) string {
 	if lack := file.lackOn(one.Device); lack != nil {
 		return lateBytesAdvice(one, lack, file, at, named)
 	}
-	if file.hasLocalChange(one.Device) {
+	if file.hasAt(one.Device, LocalChange) { // no other device has its bytes
 		return whenToMend(one, file, at) + "put the bytes back that " + at + " recorded, from old versions or backups, or 'Revert Local Changes' there"
 	}
 	mend := whenToMend(one, file, at) + copying(one, file, named, overFile)
@@ -57,11 +55,6 @@ func otherBytesAdvice(one *Fault, file *File, at string, named labels) string {
 	}
 	return mend + ". If instead the bytes on " + at + " are the right ones, 'touch' the " + file.say("file", "files") +
 		" there and let Syncthing scan: it " + file.spread("sends them to all", "records them")
-}
-
-// hasLocalChange says whether a device that only receives has recorded a change of its own. No other device has its bytes then.
-func (f *File) hasLocalChange(device string) bool {
-	return slices.IndexFunc(f.Faults, func(one Fault) bool { return one.Device == device && one.Cause == LocalChange }) >= 0
 }
 
 // whenToMend says what becomes of other bytes as long as they stand there.

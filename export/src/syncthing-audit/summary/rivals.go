@@ -31,7 +31,7 @@ func (f *File) noteRivals() {
 func (f *File) isMissingOnAll() bool {
 	isMissing := false
 	for _, one := range f.Faults {
-		if one.Cause == Conflicting && !one.Deletion && !f.isMissingAt(one.Device) {
+		if one.Cause == Conflicting && !one.Deletion && !f.hasAt(one.Device, Missing) {
 			return false
 		}
 		isMissing = isMissing || one.Cause == Missing && one.Kind != receiveOnly && f.lackOn(one.Device) == nil
@@ -39,9 +39,9 @@ func (f *File) isMissingOnAll() bool {
 	return isMissing && len(f.Have) == 0
 }
 
-// isMissingAt says whether the name is missing on a device's disk.
-func (f *File) isMissingAt(device string) bool {
-	return slices.IndexFunc(f.Faults, func(one Fault) bool { return one.Device == device && one.Cause == Missing }) >= 0
+// hasAt says whether a device has a fault of this cause.
+func (f *File) hasAt(device string, cause Cause) bool {
+	return slices.IndexFunc(f.Faults, func(one Fault) bool { return one.Device == device && one.Cause == cause }) >= 0
 }
 
 // hasConflictBut says whether another device than this one has a change that what is due isn't on top of.
