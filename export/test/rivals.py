@@ -7,7 +7,7 @@ says that Syncthing does with that is what Syncthing does.
 
 import os
 
-from behind import OLD, Behind
+from behind import NEW, OLD, Behind
 from exporting import main
 from rot import text_of
 from syncthing import wait_until
@@ -103,6 +103,38 @@ class BothChangedAndOneReceives(Rivals):
         self.assert_texts(self.two, deleted=[CHANGED], touched=[OLD, CHANGED], mode=[OLD, CHANGED], rotten=[ROTTEN, CHANGED], directory_in=[OLD])
         self.assert_texts(self.one, touched=[OLD], mode=[OLD], rotten=[ROTTEN], directory_in=[OLD])
         self.assertEqual(os.readlink(self.two.files / "linked"), "deleted")
+
+
+class BehindWithAnotherMode(Behind):
+    """The second device was off while the first one deleted a file, and changed another one, which has an old time. On its disk both have another mode."""
+
+    @classmethod
+    def synchronise(cls):
+        cls.now = 1700000000
+        for name in ("changed", "gone"):
+            cls.put(cls.one, name, OLD, -1000)
+        cls.scan_and_wait()
+
+    @classmethod
+    def change_one(cls):
+        cls.put(cls.one, "changed", NEW, -2000)
+        (cls.one.files / "gone").unlink()
+        cls.record(cls.one)
+
+    @classmethod
+    def change_two(cls):
+        for name in ("changed", "gone"):
+            (cls.two.files / name).chmod(0o600)
+
+    def test_the_mode_is_a_change(self):
+        """So the old file goes over the newer one, and what was deleted is back, as the answer says."""
+        self.assert_told("changed", "the scan takes what stands there for a change, in conflict with what the others have")
+        self.assert_told("gone", "the scan takes that for a change, which goes before the deletion")
+        self.run_both(lambda: text_of(self.one.files / "changed") == text_of(self.one.files / "gone") == OLD
+                      and all(list(device.files.glob("changed.sync-conflict-*")) for device in self.devices))
+        self.stop()
+        for device in self.devices:
+            self.assert_texts(device, changed=[OLD, NEW], gone=[OLD])
 
 
 if __name__ == "__main__":

@@ -125,6 +125,11 @@ var scannedByBoth = []struct {
 		"start Syncthing on server and 'Rescan': the other devices have deleted it, too", "brings it back"},
 	{"other bytes of a local change", receiveOnly, []*part.Name{file(1, 1), local(with(file(2, 2), rotten))}, "LocalOnly 2,StoreDiffers 2", 0,
 		"Syncthing won't repair it: put the bytes back that server recorded, from old versions or backups", "copy it from laptop"},
+	{"another mode where it is behind", "", []*part.Name{file(2, 2), file(1, 1)}, "RecordDiffers 2", 2,
+		"on server, 'chmod 0644' it if that is the right mode, before Syncthing scans there: the scan takes what stands there for a change, in conflict with", "may send"},
+	{"another mode where it isn't deleted yet", "", []*part.Name{deletedAfter(), file(1, 1)}, "RecordDiffers 2,StoreDiffers 2", 2,
+		"the scan takes that for a change, which goes before the deletion", "may send"},
+	{"another mode where it is only received", receiveOnly, []*part.Name{with(file(1, 1), touched), file(1, 1)}, "StoreUnclean 1", 2, "the scan takes 0600 for a local change", "may send"},
 	{"recorded otherwise, and touched", "", []*part.Name{changedAt(1, 1), with(changedAt(2, 1), touched)}, "RecordDiffers 1,StoreUnclean 2", 0,
 		"on server and 'Rescan': what stands there is then in conflict", "nothing is copied"},
 }
