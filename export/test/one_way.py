@@ -154,6 +154,44 @@ class ReceiveOnlyThatChangedItBefore(Exporting):
         self.assertEqual(self.verdict(), "settled")
 
 
+class ReceiveOnlyChangedAgain(Exporting):
+    """A device that only receives recorded local changes, and the same names changed on its disk after that."""
+
+    kinds = {"two": "receiveonly"}
+
+    @classmethod
+    def setUpClass(cls):
+        super().setUpClass()
+        files = cls.two.files
+        (files / "text").write_text("my own")
+        (files / "folder/large").write_text("my own")
+        (files / "empty").unlink()
+        cls.start()
+        cls.two.scan()
+        wait_until("the other device knows of the changes", lambda: cls.one.knows_all_of(cls.two))
+        cls.stop()
+        (files / "text").write_text("my second one")
+        (files / "empty").write_text("back")
+        (files / "folder/large").unlink()
+
+    def test_the_second_change_becomes_a_copy(self):
+        """The scan puts it beside what the others have, as the answer says. Nobody has to revert."""
+        ran = self.on_homes("check", [device.home for device in self.devices], "--syncaudit", self.auditor)
+        self.assertEqual(ran.returncode, 1, ran.stderr)
+        entries = {entry.split("  (in ")[0]: " ".join(entry.split()) for entry in ran.stdout.split("\n\n")}
+        for name in ("text", "empty"):
+            self.assertIn("'Rescan': Syncthing then takes what the others have, and keeps what stands there as a conflict copy, a local addition", entries[name])
+        self.assertIn(f"the other devices keep it, and Syncthing brings what they have to {self.two.id[:7]}.", entries["folder/large"])
+        self.start()
+        wait_until("the copies are there", lambda: len(list(self.two.files.glob("*.sync-conflict-*"))) == 2)
+        wait_until("all is taken", lambda: self.two.shows_up_to_date() and self.two.knows_all_of(self.one))
+        self.stop()
+        for name, copy in (("text", "my second one"), ("empty", "back")):
+            self.assertEqual((self.two.files / name).read_bytes(), (self.one.files / name).read_bytes())
+            self.assertEqual([path.read_text() for path in self.two.files.glob(f"{name}.sync-conflict-*")], [copy])
+        self.assertEqual((self.two.files / "folder/large").read_bytes(), (self.one.files / "folder/large").read_bytes())
+
+
 class OwnReceiveOnly(Exporting):
     """A folder of a device that only receives, which the device shares with nobody any more."""
 

@@ -26,12 +26,12 @@ HERE = Path(__file__).resolve().parent
 CLASSES = [("rot", "BlockSizes"), ("large_folders", "LargeFiles"), ("large_folders", "LargeFolder"), ("large_folders", "ManyFiles"), ("three_devices", "LeftBehind"), ("three_devices", "EachKind"),
            ("live_changes", "LiveWriter"), ("live_changes", "LiveReceiver"), ("live_devices", "LiveDevices"), ("live_run", "LiveRun"), ("emulated", "OnARM"),
            ("firm_devices", "Firm"), ("writers", "OldVersionsInside"), ("unasked", "OtherFolders"), ("unasked", "OwnFolders"), ("unasked", "AwayFolders"), ("data_elsewhere", "DataElsewhere"), ("damage", "Damage"), ("encrypted", "Encrypted"), ("conflict", "Conflict"), ("conflict", "ConflictOfSymlinks"), ("sliced", "Slices"), ("sliced", "SlicesOfRunningDevices"),
-           ("two_devices", "TwoDevices"), ("one_way", "SendOnly"), ("one_way", "ReceiveOnly"), ("one_way", "OwnReceiveOnly"), ("one_way", "ReceiveOnlyOfWhatIsDeleted"), ("one_way", "ReceiveOnlyThatChangedItBefore"), ("one_way", "OwnReceiveOnlyWithAFile"),
+           ("two_devices", "TwoDevices"), ("one_way", "SendOnly"), ("one_way", "ReceiveOnly"), ("one_way", "OwnReceiveOnly"), ("one_way", "ReceiveOnlyOfWhatIsDeleted"), ("one_way", "ReceiveOnlyThatChangedItBefore"), ("one_way", "ReceiveOnlyChangedAgain"), ("one_way", "OwnReceiveOnlyWithAFile"),
            ("one_way", "ReceiveOnlyThatIsToSend"), ("three_devices", "Chain"), ("three_devices", "ThreeDevices"),
            ("rot", "RotInManyBlocks"), ("rot", "RotWithAnotherMode"), ("late_rot", "RotThatIsFetched"), ("late_rot", "RotThatAnOldChangeMeets"), ("late_rot", "RotThatIsOverridden"), ("late_rot", "RotInAConflict"),
            ("attributes", "RotWithAttributesThatAnOldChangeMeets"), ("attributes", "AttributesOfAMendedFile"), ("attributes", "AttributesOfATouchedFile"), ("attributes", "AttributesThatNoScanHasSeen"), ("attributes", "RotWhereAttributesAreScanned"), ("attributes", "RotThatAScanDrops"),
            ("behind", "BehindAndSends"), ("behind", "BehindAndReceives"),
-           ("behind", "BehindAndOnlySends"), ("behind", "BehindWithoutCopies"), ("behind", "AskedForRot"), ("untold", "ChangesThatNobodyTells"), ("behind", "NamesThatNoScanTakes"), ("manners", "Manners"), ("nightly", "Nightly"), ("nightly", "NightlySlices"), ("spread", "Spread")]
+           ("rivals", "BothChanged"), ("rivals", "BothChangedAndOneReceives"), ("rivals", "BehindWithAnotherMode"), ("behind", "BehindAndOnlySends"), ("behind", "BehindWithoutCopies"), ("behind", "AskedForRot"), ("untold", "ChangesThatNobodyTells"), ("behind", "NamesThatNoScanTakes"), ("manners", "Manners"), ("nightly", "Nightly"), ("nightly", "NightlySlices"), ("spread", "Spread")]
 # The classes and Go's tests.
 ALL = len(CLASSES) + 1
 SIDE_BY_SIDE = 4

@@ -60,6 +60,9 @@ func addOnce(all []string, text string) []string {
 // adviceOfFault says what to do about one fault.
 func adviceOfFault(one *Fault, file *File, named labels) string {
 	at := named.of(one.Device)
+	if one.isRival && one.Cause != OtherBytes && !file.isOdd {
+		return rivalsAdvice(file, named)
+	}
 	switch one.Cause {
 	case OtherBytes:
 		return otherBytesAdvice(one, file, at, named)
@@ -118,8 +121,6 @@ func notScannedAdvice(one *Fault, file *File, at string, named labels) string {
 	case file.isOdd:
 		return "rename " + file.say("it", "them") + " on " + at + ": " + file.say("its name isn't", "their names aren't") + " in Unicode's form NFC, in which " +
 			"Syncthing has names. A scan does that by itself only where nothing stands at the other name; else it passes over " + file.say("it", "them")
-	case one.isRival:
-		return rivalsAdvice(file, named)
 	case one.Kind == receiveOnly && file.isOwn:
 		return "make the folder 'Send & Receive' on " + at + " and 'Rescan': " + file.say("it is then recorded", "they are then recorded") +
 			". While the folder only receives, a scan takes " + file.say("it for a local addition, which keeps", "them for local additions, which keep") +
@@ -153,9 +154,6 @@ func changedAdvice(one *Fault, file *File, at string, named labels) string {
 	if late := lateAdvice(one, file, at); late != "" {
 		return late
 	}
-	if one.isRival {
-		return rivalsAdvice(file, named)
-	}
 	if one.Kind == receiveOnly {
 		return told + file.say("the change stays there as a local one", "the changes stay there as local ones") + file.revert(one, at)
 	}
@@ -184,6 +182,9 @@ func missingAdvice(one *Fault, file *File, at string, named labels) string {
 	if one.late == lateChange {
 		return "see that the folder's disk is mounted on " + at + lateMissing(one, file, at)
 	}
+	if one.Kind == receiveOnly && one.late == lateDeletion {
+		return "start Syncthing on " + at + " and 'Rescan': the other devices have deleted " + it + ", too"
+	}
 	if one.Kind == receiveOnly {
 		from := ""
 		if len(file.Have) == 0 {
@@ -206,7 +207,7 @@ func behindAdvice(one *Fault, file *File, at string, named labels) string {
 	case one.Cause == Conflicting && one.Deletion:
 		return "start Syncthing on all of these devices: it keeps " + file.say("the file", "the files") + ", since a change goes before a deletion"
 	case one.Cause == Conflicting:
-		return "start Syncthing on all of these devices: it " + file.conflicting(one.noCopy)
+		return "start Syncthing on all of these devices: it " + file.conflicting(one.hasNoCopy)
 	case one.isTied:
 		return tiedAdvice(one, file, at, named)
 	case one.isUntold:

@@ -52,11 +52,12 @@ type Fault struct {
 	isTied   bool // of Behind: it has something else under the version of what is due, so Syncthing takes nothing
 	isUntold bool // of Behind: its view goes beyond what it lacks, so nobody tells it of that again
 	isBefore bool // of a device that only receives: the version of what is due counts a change of it from before
-	noCopy   bool // something of it is a symlink or a directory, of which Syncthing keeps no conflict copy
 	// Another device has to take the file, and may fetch it from there.
 	isFetched bool
-	// A scan of another device finds other contents there, of which neither's record knows.
+	// A scan of another device records another change there, of which neither's record knows.
 	isRival bool
+	// What is in conflict isn't a file on each side, so Syncthing may keep no copy of it.
+	hasNoCopy bool
 }
 
 // State is what a record or a disk says of a name.

@@ -29,6 +29,8 @@ type File struct {
 	takers      []string          // those of them that take the file from others, with the owner and attributes that are recorded
 	runs        map[string]string // the version of Syncthing on each device, as far as that is known
 	isOwn       bool              // whether the folder's one device shares it with nobody
+	rivals      []string          // the devices whose next scans record changes that are in conflict
+	receivers   []string          // the devices that only receive
 }
 
 // say gives what is said of one name, or of many where the file stands for these.
@@ -63,7 +65,7 @@ type Mode struct {
 // fileOf gives what is to be told of a name.
 func fileOf(folder *finding.Folder, told *finding.Told) *File {
 	made := &File{Name: Text(told.Name), Faults: []Fault{}, Have: []string{}, Follows: []Follow{}, Permissions: []Mode{}, areWide: areWide(folder),
-		takers: takersOf(folder), runs: runsOf(folder), isOwn: folder.Own != "", isOdd: !norm.NFC.IsNormalString(told.Name)}
+		takers: takersOf(folder), runs: runsOf(folder), isOwn: folder.Own != "", receivers: receiversOf(folder), isOdd: !norm.NFC.IsNormalString(told.Name)}
 	row := folder.Rows[told.Name]
 	switch {
 	case told.Unwon != nil:
@@ -76,7 +78,6 @@ func fileOf(folder *finding.Folder, told *finding.Told) *File {
 		made.addDamage(folder, told.Damaged)
 	}
 	made.noteFetched()
-	made.noteRivals()
 	if told.Permissions != nil {
 		made.Permissions = modesOf(folder, told.Permissions)
 	}
@@ -103,6 +104,7 @@ func addUnwon(file *File, folder *finding.Folder, one *finding.Unwon) {
 			if row.At[at.Member].Disk != nil {
 				fault.contents = row.At[at.Member].Disk.Contents
 			}
+			fault.hasNoCopy = fault.isWithoutCopy()
 		}
 		file.Faults = append(file.Faults, fault)
 	}
@@ -137,6 +139,17 @@ func takersOf(folder *finding.Folder) []string {
 	var made []string
 	for _, one := range folder.Members {
 		if isWide(one) && kindOf(one) != sendOnly {
+			made = append(made, one.Head.Device)
+		}
+	}
+	return made
+}
+
+// receiversOf gives the devices that only receive; nothing where there is none.
+func receiversOf(folder *finding.Folder) []string {
+	var made []string
+	for _, one := range folder.Members {
+		if kindOf(one) == receiveOnly {
 			made = append(made, one.Head.Device)
 		}
 	}
@@ -285,16 +298,19 @@ func (r *reader) add(member int, cause Cause) {
 	if at := r.at(member); at != nil {
 		made.Recorded, made.Found = recorded(at.Own), found(at.Disk)
 		if cause == OtherBytes || cause == Changed {
-			made.Blocks, made.contents = blocksOf(at), at.Disk.Contents
+			made.Blocks = blocksOf(at)
+		}
+		if at.Disk != nil {
+			made.contents = at.Disk.Contents
 		}
 		made.late, made.isAlone, made.isDue = r.lateAt(member), cause == Missing && r.isAlone(member), isSame(at.Disk, r.winner)
 		made.isTied = cause == Behind && r.isTied(at)
 	}
 	made.isUntold = cause == Behind && !made.isTied && r.isUntold(member)
 	made.isBefore = made.Kind == receiveOnly && r.winner != nil && part.Counts(r.winner.Version, one.Number)
-	made.noCopy = made.Due.isCopyless() || made.Recorded.isCopyless() || made.Found.isCopyless()
 	made.Deletion = cause == Behind && made.Due != nil && made.Due.Deleted ||
 		(cause == LocalChange || cause == Conflicting) && made.Recorded != nil && made.Recorded.Deleted
+	made.hasNoCopy = made.isWithoutCopy()
 	made.ends = endsOf(&made, r.at(member), r.winner)
 	r.file.Faults = append(r.file.Faults, made)
 }

@@ -50,13 +50,10 @@ func keyOf(file *File) string {
 			key += " odd"
 		}
 		if one.Cause != Behind {
-			key += fmt.Sprint(" ", one.late, one.isAlone)
+			key += fmt.Sprint(" ", one.late, one.isAlone, one.hasNoCopy)
 		}
 		if one.isRival {
 			key += " in conflict"
-		}
-		if one.noCopy {
-			key += " without copies"
 		}
 		if one.isUntold {
 			key += " untold"
@@ -101,6 +98,7 @@ func (f *folding) take(one *File) {
 	one.sortDevices(f.named)
 	one.Same = sameOtherBytes(one.Faults)
 	one.markSeen()
+	one.noteRivals()
 	key := keyOf(one)
 	if !one.hasDetails && (key == "" || f.alike[key] == nil && len(f.alike) >= mostKinds) {
 		one.shorten()
@@ -152,7 +150,7 @@ func (f *folding) end() ([]*File, []*Group) {
 // groupOf tells names as one.
 func (a *alike) groupOf(named labels) *Group {
 	first := a.first[0]
-	same := &File{Faults: withoutDetails(first.Faults), Have: first.Have, Permissions: first.Permissions, isMany: true, areWide: first.areWide, isOwn: first.isOwn, isOdd: first.isOdd}
+	same := &File{Faults: withoutDetails(first.Faults), Have: first.Have, Permissions: first.Permissions, isMany: true, areWide: first.areWide, isOwn: first.isOwn, isOdd: first.isOdd, rivals: first.rivals, receivers: first.receivers}
 	made := a.group
 	made.Cause, made.Devices, made.First, made.Have, made.Modes = Permissions, []string{}, []Text{}, first.Have, first.Permissions
 	made.Advice = adviceOf(same, named)
@@ -175,8 +173,7 @@ func withoutDetails(faults []Fault) []Fault {
 	made := []Fault{}
 	for _, one := range faults {
 		made = append(made, Fault{Device: one.Device, Cause: one.Cause, Kind: one.Kind, Deletion: one.Deletion, isWide: one.isWide, late: one.late,
-			isAlone: one.isAlone, isRival: one.isRival, noCopy: one.noCopy,
-			isUntold: one.isUntold})
+			isAlone: one.isAlone, isRival: one.isRival, hasNoCopy: one.hasNoCopy, isUntold: one.isUntold})
 	}
 	return made
 }

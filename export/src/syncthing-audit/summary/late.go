@@ -14,15 +14,15 @@ const (
 	lateChange        // others have another version of it
 )
 
-// lateAt says what a member lacks of a name. Of a local change of a device that only receives that isn't known: it goes without its version.
+// lateAt says what a member lacks of a name.
 func (r *reader) lateAt(member int) late {
 	at, found := r.at(member), notLate
-	if at == nil || at.Own != nil && at.Own.Invalid {
+	if at == nil {
 		return found
 	}
 	for _, one := range r.row.At {
 		switch {
-		case one == nil || one.Own == nil || one.Own.Invalid || at.Own != nil && part.IsAtMost(one.Own.Version, at.Own.Version):
+		case one == nil || one.Own == nil || one.Own.Invalid || isOnTop(at.Own, one.Own.Version, r.folder.Members[member].Number):
 		case !one.Own.Deleted:
 			return lateChange
 		default:
@@ -30,6 +30,18 @@ func (r *reader) lateAt(member int) late {
 		}
 	}
 	return found
+}
+
+// isOnTop says whether what the next scan of a device records of a name is on top of another version. Once a device that only receives has recorded
+// a local change, a scan records what stands there since with the counts of the device itself alone.
+func isOnTop(own *part.Record, version [][2]uint64, number uint64) bool {
+	switch {
+	case own == nil:
+		return false
+	case own.Invalid:
+		return !part.CountsOthers(version, number)
+	}
+	return part.IsAtMost(version, own.Version)
 }
 
 // isAlone says whether a member recorded a change that no other device has.
@@ -54,11 +66,13 @@ func isSame(disk *part.Node, due *part.Record) bool {
 	return due.Content == nil || slices.Contains(disk.Contents, *due.Content)
 }
 
-// conflicting says what Syncthing does with two changes of which neither is on top of the other. Symlinks and directories have no conflict
-// copies, and symlinks have no time.
-func (f *File) conflicting(noCopy bool) string {
-	if noCopy {
-		return "keeps one version" + f.say("", " of each") + ", and of a symlink or a directory no copy: save first what is to stay"
+// conflicting says what Syncthing does with two changes of which neither is on top of the other. It keeps copies of files alone. In its record a
+// symlink has no time, so it goes behind whatever has one. Of two symlinks the version decides.
+func (f *File) conflicting(hasNoCopy bool) string {
+	if hasNoCopy {
+		return "keeps the one " + f.say("that was modified later (a symlink counts as of 1970; of two symlinks it keeps either), and the other one as a conflict copy only if it is a file",
+			"of each that was modified later (a symlink counts as of 1970; of two symlinks it keeps either), and the others as conflict copies only if they are files") +
+			" and the folder's 'Max Conflicts' isn't 0: save first what is to stay. It puts nothing in place of a directory that isn't empty"
 	}
 	return "keeps the one " + f.say("that was modified later, and the other one as a conflict copy", "of each that was modified later, and the others as conflict copies") + noCopies
 }
@@ -78,17 +92,41 @@ func lateAdvice(one *Fault, file *File, at string) string {
 	case one.late == lateDeletion:
 		return told + file.say("the change goes before the deletion, and then to all. If it isn't wanted, first delete the file there",
 			"the changes go before the deletions, and then to all. If they aren't wanted, first delete the files there") + " while Syncthing is stopped"
-	case one.Kind == receiveOnly && one.noCopy:
-		return told + "Syncthing then takes what the others have, and keeps of a symlink or a directory no copy: save first what is to stay"
+	case one.Kind == receiveOnly && one.hasNoCopy:
+		return told + "Syncthing then takes what the others have, and of a symlink or a directory that stands there it keeps no copy: save first what is " +
+			"to stay. It puts nothing in place of a directory that isn't empty"
 	case one.Kind == receiveOnly:
 		return told + "Syncthing then takes what the others have, and keeps what stands there as " +
 			file.say("a conflict copy, a local addition", "conflict copies, local additions") + noCopies
 	}
-	told += "what stands there is then in conflict with what the others have. Syncthing " + file.conflicting(one.noCopy)
+	told += "what stands there is then in conflict with what the others have. Syncthing " + file.conflicting(one.hasNoCopy)
 	if one.Kind == sendOnly {
-		return told
+		return told + one.keepsOwn(at)
 	}
 	return told + ". To have only what the others have, first delete what stands there while Syncthing is stopped"
+}
+
+// keepsOwn says what a device that only sends has of a conflict.
+func (f *Fault) keepsOwn(at string) string {
+	if f.Kind != sendOnly {
+		return ""
+	}
+	return ". " + at + " only sends: it keeps what stands there in any case. Where that was modified earlier, the others keep theirs, without a copy"
+}
+
+// isWithoutCopy says whether Syncthing may keep no copy of what is in conflict, since it isn't a file on each side. A device that only receives
+// takes what the others have, and copies what it had itself alone.
+func (f *Fault) isWithoutCopy() bool {
+	mine, isSent := f.mine(), f.Kind != receiveOnly || f.Cause == LocalChange || f.Cause == Conflicting
+	return mine == nil || mine.Type != "file" || isSent && f.Due != nil && f.Due.Type != "file"
+}
+
+// mine gives what the device has of a conflict: what it recorded, or what stands on its disk, as the next scan records that.
+func (f *Fault) mine() *State {
+	if f.Cause == Conflicting || f.Cause == LocalChange {
+		return f.Recorded
+	}
+	return f.Found
 }
 
 // lateMissing says what becomes of a name that is missing on a disk, where others have what the device's version lacks.

@@ -23,7 +23,7 @@ func (f *File) noteFetched() {
 func (f *Fault) fetches() bool {
 	switch f.Cause {
 	case Behind:
-		return !f.Deletion && f.Kind != sendOnly
+		return !f.Deletion && f.Kind != sendOnly && !f.isTied
 	case Conflicting:
 		return f.Kind != sendOnly
 	}
@@ -31,10 +31,10 @@ func (f *Fault) fetches() bool {
 }
 
 // lackOn gives the fault by which a device has still to take what others have of the name; nothing where it has none. No other device fetches
-// the file from such a device.
+// the file from such a device. Under an equal version it takes nothing.
 func (f *File) lackOn(device string) *Fault {
 	for place := range f.Faults {
-		if one := &f.Faults[place]; one.Device == device && (one.Cause == Behind || one.Cause == Conflicting) {
+		if one := &f.Faults[place]; one.Device == device && (one.Cause == Behind && !one.isTied || one.Cause == Conflicting) {
 			return one
 		}
 	}
@@ -45,6 +45,13 @@ func (f *File) lackOn(device string) *Fault {
 func otherBytesAdvice(one *Fault, file *File, at string, named labels) string {
 	if lack := file.lackOn(one.Device); lack != nil {
 		return lateBytesAdvice(one, lack, file, at, named)
+	}
+	if isLocal := file.hasAt(one.Device, LocalChange); isLocal || file.isTiedAt(one.Device) { // no other device has its bytes
+		told := whenToMend(one, file, at) + "put the bytes back that " + at + " recorded, from old versions or backups"
+		if isLocal && !one.isKeptFromDeletion() {
+			told += ", or 'Revert Local Changes' there"
+		}
+		return told
 	}
 	mend := whenToMend(one, file, at) + copying(one, file, named, overFile)
 	if one.Kind == receiveOnly || len(file.sendersOfOtherBytes()) > 1 {
@@ -58,6 +65,8 @@ func otherBytesAdvice(one *Fault, file *File, at string, named labels) string {
 func whenToMend(one *Fault, file *File, at string) string {
 	it := file.say("it", "them")
 	switch {
+	case one.isSeen && (one.isRival || one.late == lateChange):
+		return "before Syncthing scans there (the scan takes these bytes for a change, in conflict with what the others have), "
 	case one.isSeen && one.Kind == receiveOnly:
 		return "before Syncthing scans there (the scan takes these bytes for a local change), "
 	case one.isSeen:

@@ -3,6 +3,8 @@ package summary
 import (
 	"sort"
 	"strings"
+
+	"golang.org/x/exp/slices"
 )
 
 // permissionsAdvice says on which devices to change permissions, and what the next scan there may do with them.
@@ -11,29 +13,38 @@ func permissionsAdvice(file *File, named labels) string {
 	words := []string{}
 	indexes := []string{}
 	devices := []string{}
-	strays := map[Mode][]string{}
-	kinds := []Mode{}
+	strays := places{}
 	for _, one := range file.Permissions {
 		indexes = addOnce(indexes, one.Index)
 		devices = append(devices, one.Device)
 		if !one.isStray() {
 			continue
 		}
-		kind := Mode{Index: one.Index, Disk: one.Disk}
-		if strays[kind] == nil {
-			kinds = append(kinds, kind)
-		}
-		strays[kind] = append(strays[kind], one.Device)
+		strays.add("'chmod "+one.Index+"' "+it+" if that is the right mode, before Syncthing scans there: the scan "+file.scanOfMode(&one), one.Device)
 	}
-	for _, kind := range kinds {
-		words = append(words, "on "+named.all(strays[kind])+", 'chmod "+kind.Index+"' "+it+" if that is the right mode, before Syncthing scans there: "+
-			"the scan "+file.spread("may send "+kind.Disk+" to all", "records "+kind.Disk))
-	}
+	strays.each(named, func(told, devices string) { words = append(words, "on "+devices+", "+told) })
 	if len(indexes) > 1 {
 		words = append(words, "'chmod' "+it+" to the same mode on "+named.all(devices)+": where that changes a mode, the next scan may send it to all")
 	}
 	words = append(words, "or choose 'Ignore Permissions' for the folder")
 	return strings.Join(words, "; ")
+}
+
+// scanOfMode says what a scan does with a mode that isn't as recorded. Where the device is behind with the file, the scan takes what stands there for
+// a change.
+func (f *File) scanOfMode(one *Mode) string {
+	lack := f.lackOn(one.Device)
+	switch {
+	case lack != nil && lack.Cause == Behind && lack.Deletion:
+		return "takes that for a change, which goes before the deletion"
+	case lack != nil:
+		return "takes " + f.say("what stands there for a change", "them for changes") + ", in conflict with what the others have"
+	case slices.Contains(f.receivers, one.Device):
+		return "takes " + one.Disk + " for a local change"
+	case f.isTiedAt(one.Device):
+		return "takes what stands there for a change, and sends it to all"
+	}
+	return f.spread("may send "+one.Disk+" to all", "records "+one.Disk)
 }
 
 // isStray says whether a disk has another mode than the device's index.

@@ -9,7 +9,7 @@ func localChangeAdvice(one *Fault, file *File, at string) string {
 	switch {
 	case file.isOwn:
 		return "'Revert Local Changes' on " + at + file.say(" deletes the file", " deletes the files") + noOther
-	case one.isDeletedElsewhere() && one.isBefore:
+	case one.isKeptFromDeletion():
 		return "'Revert Local Changes' on " + at + " doesn't delete " + it + file.keptFromDeletion(at) + ". To have " + it + " " + send
 	case one.isDeletedElsewhere():
 		return "'Revert Local Changes' on " + at + " deletes " + it + ", since the other devices have deleted " + it + ": copy elsewhere first what is " +
@@ -20,11 +20,14 @@ func localChangeAdvice(one *Fault, file *File, at string) string {
 	if one.Deletion {
 		return told
 	}
-	return told + ": " + file.say("it is", "they are") + " then in conflict with what the others have. Syncthing " + file.conflicting(one.noCopy)
+	return told + ": " + file.say("it is", "they are") + " then in conflict with what the others have. Syncthing " + file.conflicting(one.hasNoCopy)
 }
 
 // isDeletedElsewhere says whether a deletion is what is due.
 func (f *Fault) isDeletedElsewhere() bool { return f.Due != nil && f.Due.Deleted }
+
+// isKeptFromDeletion says whether Syncthing keeps it all the same once a local change of it is reverted.
+func (f *Fault) isKeptFromDeletion() bool { return f.isDeletedElsewhere() && f.isBefore }
 
 // keptFromDeletion says why Syncthing doesn't delete what others have deleted once a change of it is reverted. It gives the reverted record
 // no version. The deletion counts a change of the device itself, and that record doesn't: Syncthing takes this for a conflict, and keeps the
@@ -37,7 +40,7 @@ func (f *File) keptFromDeletion(at string) string {
 
 // keptAsCopy says what Syncthing may keep of a change that is reverted, for the same reason.
 func (f *File) keptAsCopy(one *Fault, at string) string {
-	if !one.isBefore || one.Deletion || one.noCopy {
+	if !one.isBefore || one.Deletion || one.mine().isCopyless() {
 		return ""
 	}
 	return "Since " + at + " changed " + f.say("it", "them") + " before, Syncthing may keep what stands there now as " +
@@ -53,7 +56,7 @@ func (f *File) revert(one *Fault, at string) string {
 	switch {
 	case f.isOwn:
 		return ". Don't 'Revert Local Changes' then: that deletes " + f.say("the file", "the files") + noOther
-	case one.isDeletedElsewhere() && one.isBefore:
+	case one.isKeptFromDeletion():
 		return ". 'Revert Local Changes' then doesn't delete " + f.say("the file", "the files") + f.keptFromDeletion(at)
 	case one.isDeletedElsewhere():
 		return ". 'Revert Local Changes' then deletes " + f.say("the file", "the files") + ", since the other devices have deleted " + f.say("it", "them")

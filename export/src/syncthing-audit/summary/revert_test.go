@@ -62,14 +62,14 @@ func TestOnlyADeviceThatOnlyReceivesReverts(t *testing.T) {
 
 // Of a symlink or a directory Syncthing keeps no conflict copy, and a symlink has no time by which it would be the later one.
 func TestConflictsOfOtherTypes(t *testing.T) {
-	const none, later = "of a symlink or a directory no copy: save first what is to stay", "modified later"
+	const none, later = "as a conflict copy only if it is a file", "as a conflict copy. Where"
 	for kind, has := range map[string]string{"file": later, "symlink": none, "directory": none} {
 		for _, cause := range []Cause{Conflicting, LocalChange, Changed, NotScanned} {
 			faults := faultsOf("send-receive", cause)
 			if cause == LocalChange {
 				faults[0].Kind = receiveOnly
 			}
-			faults[0].late, faults[0].noCopy = lateChange, kind != "file"
+			faults[0].late, faults[0].hasNoCopy = lateChange, kind != "file"
 			told := strings.Join(adviceOf(&File{Faults: faults, Have: []string{laptop}}, labels{laptop: "laptop", server: "server"}), ". ")
 			if !strings.Contains(told, has) || has == none && strings.Contains(told, later) {
 				t.Errorf("%s of a %s: %s", cause, kind, told)
@@ -86,7 +86,7 @@ func TestTypesWithoutCopies(t *testing.T) {
 		one.Own.Version = [][2]uint64{{3, 1}}
 	})}} {
 		text := printed(answerOf(2, func(folder *finding.Folder) { fails(folder, "a", row, "RecordDiffers 2", "StoreDiffers 2") }))
-		if !strings.Contains(text, "it keeps one version, and of a symlink or a directory no copy") {
+		if !strings.Contains(text, "it keeps the one that was modified later (a symlink counts as of 1970; of two symlinks it keeps either), and the other one as a conflict copy only if it is a file") {
 			t.Errorf("%s: %s", why, text)
 		}
 	}

@@ -49,9 +49,9 @@ func TestWhatTwoDevicesChanged(t *testing.T) {
 		{"changed otherwise", []*part.Name{changedTo(7), changedTo(8)}, "send-receive", "Max Conflicts"},
 		{"changed to the same", []*part.Name{changedTo(7), changedTo(7)}, "send-receive", ""},
 		{"changed otherwise on a device that only receives", []*part.Name{changedTo(7), changedTo(8)}, receiveOnly, ""},
-		{"symlinks to other targets", []*part.Name{linkedTo("a"), linkedTo("b")}, "send-receive", "of a symlink or a directory no copy"},
+		{"symlinks to other targets", []*part.Name{linkedTo("a"), linkedTo("b")}, "send-receive", "a symlink counts as of 1970"},
 		{"symlinks to one target", []*part.Name{linkedTo("a"), linkedTo("a")}, "send-receive", ""},
-		{"a symlink and a file", []*part.Name{linkedTo("a"), changedTo(7)}, "send-receive", "of a symlink or a directory no copy"},
+		{"a symlink and a file", []*part.Name{linkedTo("a"), changedTo(7)}, "send-receive", "a symlink counts as of 1970"},
 		{"added otherwise", []*part.Name{addedAs(7), addedAs(8)}, "send-receive", "Max Conflicts"},
 		{"added the same", []*part.Name{addedAs(7), addedAs(7)}, "send-receive", ""},
 	} {
@@ -68,6 +68,87 @@ func TestWhatTwoDevicesChanged(t *testing.T) {
 			if told != (one.conflict != "") || strings.Contains(text, "then go") == told || !strings.Contains(text, one.conflict) || strings.Count(text, "to do:") > 2 {
 				t.Errorf("%s, %d names:\n%s", one.why, names, written.String())
 			}
+		}
+	}
+}
+
+// linkRecorded gives what a device has that recorded a symlink where others have a file.
+func linkRecorded() *part.Name {
+	made := changedAt(2, 1)
+	made.Own.Type, made.Own.Target, made.Own.Content = 4, "a", nil
+	made.Disk = &part.Node{Type: 4, Target: "a"}
+	return made
+}
+
+// local gives what a device has whose record is a local change.
+func local(one *part.Name) *part.Name {
+	one.Own.Invalid = true
+	return one
+}
+
+// scannedByBoth are rows of a laptop and a server, of the kind given, of which scans record different things; which of them has another mode on its
+// disk; what is told, and what isn't.
+var scannedByBoth = []struct {
+	why, kind string
+	row       []*part.Name
+	reasons   string
+	stray     int
+	has, not  string
+}{
+	{"touched, and changed", "", []*part.Name{with(file(1, 1), touched), changedTo(7)}, "StoreUnclean 1,StoreDiffers 2", 0, "laptop, server and 'Rescan': what they have", "goes to all"},
+	{"touched, and touched", "", []*part.Name{with(file(1, 1), touched), with(file(1, 1), touched)}, "StoreUnclean 1,StoreUnclean 2", 0, "start Syncthing on server and 'Rescan'", "conflict"},
+	{"another mode, and changed", "", []*part.Name{file(1, 1), changedTo(7)}, "StoreDiffers 2", 1, "laptop, server and 'Rescan': what they have", "goes to all"},
+	{"another mode, and touched", "", []*part.Name{file(1, 1), with(file(1, 1), touched)}, "StoreUnclean 2", 1, "start Syncthing on server and 'Rescan'", "conflict"},
+	{"other bytes under another mode, and changed", "", []*part.Name{with(file(1, 1), rotten), changedTo(7)}, "StoreDiffers 1,StoreDiffers 2", 1,
+		"(the scan takes these bytes for a change, in conflict with what the others have), ", "(the scan sends"},
+	{"missing, and changed", "", []*part.Name{with(file(1, 1), absent), changedTo(7)}, "StoreDiffers 1,StoreDiffers 2", 0,
+		"and a change goes before a deletion: the other devices keep it, and Syncthing brings what they have to laptop", "all devices delete"},
+	{"missing, and of another mode", "", []*part.Name{with(file(1, 1), absent), file(1, 1)}, "StoreDiffers 1", 2,
+		"and a change goes before a deletion: the other devices keep it, and Syncthing brings what they have to laptop", "all devices delete"},
+	{"changed, and changed where it is only received", receiveOnly, []*part.Name{changedTo(8), changedTo(7)}, "StoreDiffers 1,StoreDiffers 2", 0,
+		"on server and 'Rescan': Syncthing then takes what the others have", "as a local one"},
+	{"touched, and a symlink where it is only received", receiveOnly, []*part.Name{with(file(1, 1), touched), linkedTo("a")}, "StoreUnclean 1,StoreDiffers 2", 0,
+		"on server and 'Rescan': Syncthing then takes what the others have, and of a symlink or a directory that stands there it keeps no copy", "conflict copy"},
+	{"changed, and changed where it is only sent", sendOnly, []*part.Name{changedTo(8), changedTo(7)}, "StoreDiffers 1,StoreDiffers 2", 0,
+		"server only sends: it keeps what stands there in any case", "goes to all"},
+	{"recorded as a file, and as a symlink", "", []*part.Name{changedAt(1, 1), linkRecorded()}, "RecordDiffers 2", 0,
+		"keeps the one that was modified later (a symlink counts as of 1970; of two symlinks it keeps either), and the other one as a conflict copy only if it is a file", "goes to all"},
+	{"missing, and missing where it is behind", "", []*part.Name{with(file(2, 2), absent), with(file(1, 1), absent)}, "StoreDiffers 1,RecordDiffers 2,StoreDiffers 2", 0,
+		"mounted on server, before Syncthing starts there: a scan takes it for deleted, and then all devices delete it", "the other devices keep it"},
+	{"changed again after a local change", receiveOnly, []*part.Name{file(1, 1), local(changedTo(7))}, "LocalOnly 2,StoreDiffers 2", 0,
+		"'Rescan': Syncthing then takes what the others have, and keeps what stands there as a conflict copy, a local addition", "as a local one"},
+	{"back after a local deletion", receiveOnly, []*part.Name{file(1, 1), local(with(changedTo(7), again))}, "LocalOnly 2,StoreDiffers 2", 0,
+		"'Rescan': Syncthing then takes what the others have, and keeps what stands there as a conflict copy, a local addition", "for a new file"},
+	{"missing after a local change", receiveOnly, []*part.Name{file(1, 1), local(with(file(2, 2), absent))}, "LocalOnly 2,StoreDiffers 2", 0,
+		"the other devices keep it, and Syncthing brings what they have to server", "After a 'Rescan'"},
+	{"missing after a local change of what is deleted", receiveOnly, []*part.Name{deletedAfter(), local(with(file(2, 2), absent))}, "LocalOnly 2,StoreDiffers 2", 0,
+		"start Syncthing on server and 'Rescan': the other devices have deleted it, too", "brings it back"},
+	{"other bytes of a local change", receiveOnly, []*part.Name{file(1, 1), local(with(file(2, 2), rotten))}, "LocalOnly 2,StoreDiffers 2", 0,
+		"Syncthing won't repair it: put the bytes back that server recorded, from old versions or backups", "copy it from laptop"},
+	{"another mode where it is behind", "", []*part.Name{file(2, 2), file(1, 1)}, "RecordDiffers 2", 2,
+		"on server, 'chmod 0644' it if that is the right mode, before Syncthing scans there: the scan takes what stands there for a change, in conflict with", "may send"},
+	{"another mode where it isn't deleted yet", "", []*part.Name{deletedAfter(), file(1, 1)}, "RecordDiffers 2,StoreDiffers 2", 2,
+		"the scan takes that for a change, which goes before the deletion", "may send"},
+	{"another mode where it is only received", receiveOnly, []*part.Name{with(file(1, 1), touched), file(1, 1)}, "StoreUnclean 1", 2, "the scan takes 0600 for a local change", "may send"},
+	{"recorded otherwise, and touched", "", []*part.Name{changedAt(1, 1), with(changedAt(2, 1), touched)}, "RecordDiffers 1,StoreUnclean 2", 0,
+		"on server and 'Rescan': what stands there is then in conflict", "nothing is copied"},
+}
+
+// What a scan of one device records of a name isn't told as if no other device had a change of it.
+func TestWhatScansOfTwoDevicesRecord(t *testing.T) {
+	for _, one := range scannedByBoth {
+		var written strings.Builder
+		Of(answerOf(2, func(folder *finding.Folder) {
+			folder.Members[1].About.Kind = one.kind
+			fails(folder, "a", one.row, strings.Split(one.reasons, ",")...)
+			if one.stray > 0 {
+				at := []finding.Bits{{Has: true, Index: 0o644, OnDisk: true, Disk: 0o644}, {Has: true, Index: 0o644, OnDisk: true, Disk: 0o644}}
+				at[one.stray-1].Disk = 0o600
+				folder.Permissions.Add(finding.Permissions{Name: "a", At: at})
+			}
+		})).Print(&written, time.UTC, time.Time{})
+		if text := strings.Join(strings.Fields(written.String()), " "); !strings.Contains(text, one.has) || strings.Contains(text, one.not) {
+			t.Errorf("%s:\n%s", one.why, written.String())
 		}
 	}
 }

@@ -1,6 +1,9 @@
 package summary
 
-import "syncthing-audit/part"
+import (
+	"golang.org/x/exp/slices"
+	"syncthing-audit/part"
+)
 
 // isTied says whether a device has something else than what is due under the very version of that. Syncthing compares versions, so neither
 // device takes anything from the other.
@@ -10,33 +13,33 @@ func (r *reader) isTied(at *part.Name) bool {
 
 // isTied says whether that is so of the name at some device.
 func (f *File) isTied() bool {
-	for place := range f.Faults {
-		if f.Faults[place].isTied {
-			return true
-		}
-	}
-	return false
+	return slices.IndexFunc(f.Faults, func(one Fault) bool { return one.isTied }) >= 0
+}
+
+// isTiedAt says whether it is so at this device.
+func (f *File) isTiedAt(device string) bool {
+	return slices.IndexFunc(f.Faults, func(one Fault) bool { return one.isTied && one.Device == device }) >= 0
 }
 
 // tiedAdvice says how a device gets what is due where it has something else under the same version: by a new version.
 func tiedAdvice(one *Fault, file *File, at string, named labels) string {
 	told := "Syncthing doesn't mend this by itself, whatever its page shows: it compares versions, and these are equal. To have what " + at +
-		" lacks, " + file.anew(one.Due, holders(file, named))
+		" lacks, " + file.anew(one.Due, file.Have, holders(file, named), named)
 	if one.Recorded != nil && one.Recorded.Deleted {
 		told += ". To have " + file.say("it", "them") + " gone, delete " + file.say("it", "them") + " there and let Syncthing scan"
 	} else {
-		told += ". To have what " + at + " has, " + file.anew(one.Recorded, at)
+		told += ". To have what " + at + " has, " + file.anew(one.Recorded, []string{one.Device}, at, named)
 	}
 	return told + ". Where the device on which you do that only receives, first make the folder 'Send & Receive' there"
 }
 
-// anew says what gives a name a new version at a device. Syncthing doesn't compare the time of a symlink or a directory.
-func (f *File) anew(state *State, at string) string {
+// anew says what gives a name a new version at one of these devices. Syncthing doesn't compare the time of a symlink or a directory.
+func (f *File) anew(state *State, devices []string, at string, named labels) string {
 	it := f.say("it", "them")
 	if state.isCopyless() {
 		return "move " + it + " out of the folder on " + at + ", let Syncthing scan there, move " + it + " back, and let it scan again"
 	}
-	return "'touch' " + it + " on " + at + " and let Syncthing scan there"
+	return "'touch' " + it + " on " + at + " and let Syncthing scan there" + f.lostByTouch(devices, named)
 }
 
 // isCopyless says whether a state is of a symlink or a directory that is there: of these Syncthing keeps no conflict copy.
