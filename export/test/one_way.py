@@ -192,6 +192,41 @@ class ReceiveOnlyChangedAgain(Exporting):
         self.assertEqual((self.two.files / "folder/large").read_bytes(), (self.one.files / "folder/large").read_bytes())
 
 
+class ReceiveOnlyChangedItsOwnAgain(Exporting):
+    """A file that a device made while it sent, too, and that no other one ever changed: the device only receives now, recorded a local change, and the
+    file changed after that."""
+
+    @classmethod
+    def synchronise(cls):
+        super().synchronise()
+        (cls.two.files / "own").write_text("of two")
+        cls.two.scan()
+        wait_until_in_step(cls.one, cls.two)
+
+    def test_the_second_change_stays(self):
+        """The others have nothing that the device lacks, so the scan makes no conflict, as the answer says."""
+        self.two.configure(self.devices, kind="receiveonly")
+        self.start()
+        (self.two.files / "own").write_text("changed")
+        self.two.scan()
+        wait_until("the other device knows of the change", lambda: self.one.knows_all_of(self.two))
+        self.stop()
+        (self.two.files / "own").write_text("changed again")
+        ran = self.on_homes("check", [device.home for device in self.devices], "--syncaudit", self.auditor)
+        self.assertEqual(ran.returncode, 1, ran.stderr)
+        told = " ".join(ran.stdout.split())
+        self.assertIn("'Rescan': the change stays there as a local one", told)
+        self.assertNotIn("takes what the others have", told)
+        self.start()
+        self.two.scan()
+        wait_until("the other device knows of the second change", lambda: self.one.knows_all_of(self.two) and self.two.knows_all_of(self.one))
+        wait_until("nothing is to be taken", lambda: self.two.api("GET", f"db/status?folder={FOLDER}")["needTotalItems"] == 0)
+        self.stop()
+        self.assertEqual((self.two.files / "own").read_text(), "changed again")
+        self.assertEqual((self.one.files / "own").read_text(), "of two")
+        self.assertEqual(list(self.two.files.glob("own.sync-conflict-*")), [])
+
+
 class OwnReceiveOnly(Exporting):
     """A folder of a device that only receives, which the device shares with nobody any more."""
 

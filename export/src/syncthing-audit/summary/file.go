@@ -65,7 +65,8 @@ type Mode struct {
 // fileOf gives what is to be told of a name.
 func fileOf(folder *finding.Folder, told *finding.Told) *File {
 	made := &File{Name: Text(told.Name), Faults: []Fault{}, Have: []string{}, Follows: []Follow{}, Permissions: []Mode{}, areWide: areWide(folder),
-		takers: takersOf(folder), runs: runsOf(folder), isOwn: folder.Own != "", receivers: receiversOf(folder), isOdd: !norm.NFC.IsNormalString(told.Name)}
+		takers: membersWhere(folder, isTaker), receivers: membersWhere(folder, isReceiver), runs: runsOf(folder), isOwn: folder.Own != "",
+		isOdd: !norm.NFC.IsNormalString(told.Name)}
 	row := folder.Rows[told.Name]
 	switch {
 	case told.Unwon != nil:
@@ -134,22 +135,17 @@ func areWide(folder *finding.Folder) map[string]bool {
 	return made
 }
 
-// takersOf gives the devices whose scans look at owners or attributes, and that take what others record.
-func takersOf(folder *finding.Folder) []string {
-	var made []string
-	for _, one := range folder.Members {
-		if isWide(one) && kindOf(one) != sendOnly {
-			made = append(made, one.Head.Device)
-		}
-	}
-	return made
-}
+// isTaker says whether scans look at owners or attributes, and the device takes what others record.
+func isTaker(member join.Member) bool { return isWide(member) && kindOf(member) != sendOnly }
 
-// receiversOf gives the devices that only receive; nothing where there is none.
-func receiversOf(folder *finding.Folder) []string {
+// isReceiver says whether the device only receives.
+func isReceiver(member join.Member) bool { return kindOf(member) == receiveOnly }
+
+// membersWhere gives the devices of which something is so; nothing where there is none.
+func membersWhere(folder *finding.Folder, is func(join.Member) bool) []string {
 	var made []string
 	for _, one := range folder.Members {
-		if kindOf(one) == receiveOnly {
+		if is(one) {
 			made = append(made, one.Head.Device)
 		}
 	}

@@ -8,9 +8,6 @@ import (
 	"syncthing-audit/part"
 )
 
-// changedHere is a local change of a device that only receives; invalid records go without their versions.
-func changedHere(one *part.Name) { one.Own.Invalid, one.Own.Version = true, nil }
-
 // by2 has a record count a change of the second device, too.
 func by2(one *part.Name) { one.Own.Version = append(one.Own.Version, [2]uint64{2, 1}) }
 
@@ -26,19 +23,27 @@ func TestRevertingWhatTheDeviceChangedBefore(t *testing.T) {
 		reasons       string
 	}{
 		{"deleted elsewhere", "'Revert Local Changes' on server doesn't delete it, though the other devices have deleted it: server changed it before", "on server deletes it",
-			[]*part.Name{goneBy2(), with(file(1, 7), changedHere)}, "LocalOnly 2,StoreDiffers 2"},
+			[]*part.Name{goneBy2(), local(file(1, 7))}, "LocalOnly 2,StoreDiffers 2"},
 		{"deleted elsewhere, and never changed here", "'Revert Local Changes' on server deletes it, since", "doesn't delete",
-			[]*part.Name{with(with(file(2, 1), again), absent), with(file(1, 7), changedHere)}, "LocalOnly 2,StoreDiffers 2"},
+			[]*part.Name{with(with(file(2, 1), again), absent), local(file(1, 7))}, "LocalOnly 2,StoreDiffers 2"},
 		{"changed elsewhere", "Since server changed it before, Syncthing may keep what stands there now as a conflict copy, a local addition. To have", "deletes it",
-			[]*part.Name{with(file(2, 1), by2), with(file(1, 7), changedHere)}, "LocalOnly 2,StoreDiffers 2"},
+			[]*part.Name{with(file(2, 1), by2), local(file(1, 7))}, "LocalOnly 2,StoreDiffers 2"},
 		{"changed elsewhere, and never changed here", "copy elsewhere what is to stay. To have", "changed it before",
-			[]*part.Name{file(2, 1), with(file(1, 7), changedHere)}, "LocalOnly 2,StoreDiffers 2"},
+			[]*part.Name{file(2, 1), local(file(1, 7))}, "LocalOnly 2,StoreDiffers 2"},
 		{"changed on the disk", "which 'Revert Local Changes' takes back. Since server changed it before, Syncthing may keep", "deletes it",
 			[]*part.Name{with(file(2, 1), by2), with(with(file(2, 1), by2), written)}, "StoreDiffers 2,StoreUnclean 2"},
+		{"a symlink elsewhere", "Since server changed it before, Syncthing may keep what stands there now as a conflict copy", "deletes it",
+			[]*part.Name{with(linkRecorded(), by2), local(file(1, 7))}, "LocalOnly 2,StoreDiffers 2"},
+		{"a symlink here", "copy elsewhere what is to stay. To have", "changed it before",
+			[]*part.Name{with(file(2, 1), by2), local(linkRecorded())}, "LocalOnly 2,StoreDiffers 2"},
+		{"other bytes in place of what was changed", "put the bytes back that server recorded, from old versions or backups, or 'Revert Local Changes' there", "deletes it",
+			[]*part.Name{with(file(2, 1), by2), local(with(file(1, 7), rotten))}, "LocalOnly 2,StoreDiffers 2"},
+		{"other bytes in place of it, and deleted elsewhere", "put the bytes back that server recorded, from old versions or backups.",
+			"or 'Revert Local Changes' there", []*part.Name{goneBy2(), local(with(file(1, 7), rotten))}, "LocalOnly 2,StoreDiffers 2"},
 		{"touched on the disk", "which 'Revert Local Changes' takes back.", "changed it before",
 			[]*part.Name{with(file(2, 1), by2), with(with(file(2, 1), by2), touched)}, "StoreUnclean 2"},
 		{"deleted here", "copy elsewhere what is to stay. To have", "changed it before",
-			[]*part.Name{with(file(2, 1), by2), with(with(with(file(1, 7), again), absent), changedHere)}, "LocalOnly 2,StoreDiffers 2"},
+			[]*part.Name{with(file(2, 1), by2), local(with(with(file(1, 7), again), absent))}, "LocalOnly 2,StoreDiffers 2"},
 	} {
 		text := printed(answerOf(2, func(folder *finding.Folder) {
 			folder.Members[1].About.Kind = receiveOnly

@@ -80,9 +80,15 @@ func linkRecorded() *part.Name {
 	return made
 }
 
-// local gives what a device has whose record is a local change.
+// local gives what a device has whose record is a local change; a part has no version of such a one.
 func local(one *part.Name) *part.Name {
-	one.Own.Invalid = true
+	one.Own.Invalid, one.Own.Version = true, nil
+	return one
+}
+
+// by gives a record the version of one change of a device.
+func by(number uint64, one *part.Name) *part.Name {
+	one.Own.Version = [][2]uint64{{number, 1}}
 	return one
 }
 
@@ -117,6 +123,10 @@ var scannedByBoth = []struct {
 		"mounted on server, before Syncthing starts there: a scan takes it for deleted, and then all devices delete it", "the other devices keep it"},
 	{"changed again after a local change", receiveOnly, []*part.Name{file(1, 1), local(changedTo(7))}, "LocalOnly 2,StoreDiffers 2", 0,
 		"'Rescan': Syncthing then takes what the others have, and keeps what stands there as a conflict copy, a local addition", "as a local one"},
+	{"changed again after a local change of what the device itself changed last", receiveOnly, []*part.Name{by(2, file(1, 1)), local(changedTo(7))}, "LocalOnly 2,StoreDiffers 2", 0,
+		"'Rescan': the change stays there as a local one", "takes what the others have"},
+	{"missing after a local change of what the device itself changed last", receiveOnly, []*part.Name{by(2, file(1, 1)), local(with(file(2, 2), absent))}, "LocalOnly 2,StoreDiffers 2", 0,
+		"After a 'Rescan', 'Revert Local Changes' there brings it back", "the other devices keep it"},
 	{"back after a local deletion", receiveOnly, []*part.Name{file(1, 1), local(with(changedTo(7), again))}, "LocalOnly 2,StoreDiffers 2", 0,
 		"'Rescan': Syncthing then takes what the others have, and keeps what stands there as a conflict copy, a local addition", "for a new file"},
 	{"missing after a local change", receiveOnly, []*part.Name{file(1, 1), local(with(file(2, 2), absent))}, "LocalOnly 2,StoreDiffers 2", 0,
@@ -137,18 +147,22 @@ var scannedByBoth = []struct {
 // What a scan of one device records of a name isn't told as if no other device had a change of it.
 func TestWhatScansOfTwoDevicesRecord(t *testing.T) {
 	for _, one := range scannedByBoth {
-		var written strings.Builder
-		Of(answerOf(2, func(folder *finding.Folder) {
+		text := printed(answerOf(2, func(folder *finding.Folder) {
 			folder.Members[1].About.Kind = one.kind
 			fails(folder, "a", one.row, strings.Split(one.reasons, ",")...)
 			if one.stray > 0 {
-				at := []finding.Bits{{Has: true, Index: 0o644, OnDisk: true, Disk: 0o644}, {Has: true, Index: 0o644, OnDisk: true, Disk: 0o644}}
-				at[one.stray-1].Disk = 0o600
-				folder.Permissions.Add(finding.Permissions{Name: "a", At: at})
+				addStray(folder, one.stray)
 			}
-		})).Print(&written, time.UTC, time.Time{})
-		if text := strings.Join(strings.Fields(written.String()), " "); !strings.Contains(text, one.has) || strings.Contains(text, one.not) {
-			t.Errorf("%s:\n%s", one.why, written.String())
+		}))
+		if !strings.Contains(text, one.has) || strings.Contains(text, one.not) {
+			t.Errorf("%s: %s", one.why, text)
 		}
 	}
+}
+
+// addStray has the disk of one of two devices give the name another mode than recorded.
+func addStray(folder *finding.Folder, device int) {
+	at := []finding.Bits{{Has: true, Index: 0o644, OnDisk: true, Disk: 0o644}, {Has: true, Index: 0o644, OnDisk: true, Disk: 0o644}}
+	at[device-1].Disk = 0o600
+	folder.Permissions.Add(finding.Permissions{Name: "a", At: at})
 }

@@ -42,6 +42,47 @@ func TestOtherContentsUnderOneVersion(t *testing.T) {
 	}
 }
 
+// Under an equal version a device takes nothing from another one. So nobody is told that it does: of other bytes on its disk, or of another mode.
+func TestATiedDeviceTakesNothing(t *testing.T) {
+	const back = "put the bytes back that server recorded, from old versions or backups"
+	for _, one := range []struct {
+		why      string
+		at       *part.Name
+		stray    bool
+		has, not string
+	}{
+		{"other bytes", with(file(2, 2), rotten), false, back, "takes what is newest"},
+		{"other bytes under another mode", with(file(2, 2), rotten), true, "before Syncthing scans there (the scan sends these bytes to all), " + back, "in conflict"},
+		{"another mode", file(2, 2), true, "the scan takes what stands there for a change, and sends it to all", "in conflict"},
+		{"another time", with(file(2, 2), touched), false, "start Syncthing on server and 'Rescan'", "in conflict"},
+	} {
+		text := printed(answerOf(2, func(folder *finding.Folder) {
+			fails(folder, "a", []*part.Name{file(2, 1), one.at}, "RecordDiffers 2", "StoreDiffers 2")
+			if one.stray {
+				addStray(folder, 2)
+			}
+		}))
+		if !strings.Contains(text, one.has) || strings.Contains(text, one.not) {
+			t.Errorf("%s: %s", one.why, text)
+		}
+	}
+}
+
+// A file that is touched there loses what scans don't record, as anywhere.
+func TestAdviceOnTouchingWhatIsTied(t *testing.T) {
+	text := printed(answerOf(2, func(folder *finding.Folder) {
+		for _, member := range folder.Members {
+			member.Head.Runs = "v1.19.2"
+		}
+		folder.Members[0].About.ScansAttributes = true
+		fails(folder, "a", []*part.Name{file(2, 1), file(2, 2)}, "RecordDiffers 2", "StoreDiffers 2")
+	}))
+	const told = "'touch' it on server and let Syncthing scan there. Scans on server record no owners and attributes: touched there, the file loses those that it has on laptop"
+	if !strings.Contains(text, told) || strings.Contains(text, "Scans on laptop record no") {
+		t.Error(text)
+	}
+}
+
 // Where the device's version is older, Syncthing takes what is newest.
 func TestAnOlderVersionIsNotTied(t *testing.T) {
 	text := printed(answerOf(2, func(folder *finding.Folder) {
