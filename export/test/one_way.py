@@ -217,14 +217,26 @@ class ReceiveOnlyChangedItsOwnAgain(Exporting):
         told = " ".join(ran.stdout.split())
         self.assertIn("'Rescan': the change stays there as a local one", told)
         self.assertNotIn("takes what the others have", told)
+        self.assertIn("make the folder 'Send & Receive' there: it then goes to all, since no other device ever changed it", told)
         self.start()
         self.two.scan()
-        wait_until("the other device knows of the second change", lambda: self.one.knows_all_of(self.two) and self.two.knows_all_of(self.one))
-        wait_until("nothing is to be taken", lambda: self.two.api("GET", f"db/status?folder={FOLDER}")["needTotalItems"] == 0)
+        wait_until("nothing is to be taken", lambda: self.two.shows_up_to_date() and self.two.knows_all_of(self.one))
         self.stop()
         self.assertEqual((self.two.files / "own").read_text(), "changed again")
         self.assertEqual((self.one.files / "own").read_text(), "of two")
-        self.assertEqual(list(self.two.files.glob("own.sync-conflict-*")), [])
+        self.assert_it_goes_to_all()
+
+    def assert_it_goes_to_all(self):
+        """Once the folder sends, too, the other device takes the change, and neither has kept a copy of anything."""
+        self.two.configure(self.devices)
+        self.start()
+        self.two.scan()
+        wait_until_in_step(self.one, self.two)
+        self.stop()
+        for device in self.devices:
+            self.assertEqual((device.files / "own").read_text(), "changed again")
+            self.assertEqual(list(device.files.glob("own.sync-conflict-*")), [])
+        self.assertEqual(self.verdict(), "settled")
 
 
 class OwnReceiveOnly(Exporting):

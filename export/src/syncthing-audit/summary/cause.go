@@ -52,6 +52,7 @@ type Fault struct {
 	isTied   bool // of Behind: it has something else under the version of what is due, so Syncthing takes nothing
 	isUntold bool // of Behind: its view goes beyond what it lacks, so nobody tells it of that again
 	isBefore bool // of a device that only receives: the version of what is due counts a change of it from before
+	isLast   bool // and no change of another device
 	// Another device has to take the file, and may fetch it from there.
 	isFetched bool
 	// A scan of another device records another change there, of which neither's record knows.

@@ -304,6 +304,7 @@ func (r *reader) add(member int, cause Cause) {
 	}
 	made.isUntold = cause == Behind && !made.isTied && r.isUntold(member)
 	made.isBefore = made.Kind == receiveOnly && r.winner != nil && part.Counts(r.winner.Version, one.Number)
+	made.isLast = made.isBefore && !part.CountsOthers(r.winner.Version, one.Number)
 	made.Deletion = cause == Behind && made.Due != nil && made.Due.Deleted ||
 		(cause == LocalChange || cause == Conflicting) && made.Recorded != nil && made.Recorded.Deleted
 	made.hasNoCopy = made.isWithoutCopy()

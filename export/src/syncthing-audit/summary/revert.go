@@ -17,8 +17,11 @@ func localChangeAdvice(one *Fault, file *File, at string) string {
 	}
 	told := "'Revert Local Changes' on " + at + " takes back what was changed there, for all such files of the folder: added files are " +
 		"deleted, so copy elsewhere what is to stay. " + file.keptAsCopy(one, at) + "To have " + file.say("the change", "the changes") + " " + send
-	if one.Deletion {
+	switch {
+	case one.Deletion:
 		return told
+	case one.isLast: // so a scan records the change on top of what they have
+		return told + ": " + file.say("it then goes", "they then go") + " to all, since no other device ever changed " + it
 	}
 	return told + ": " + file.say("it is", "they are") + " then in conflict with what the others have. Syncthing " + file.conflicting(one.hasNoCopy)
 }
