@@ -73,24 +73,24 @@ func adviceOfFault(one *Fault, file *File, named labels) string {
 	case Missing:
 		return missingAdvice(one, file, at, named)
 	case Back:
-		if told := lateAdvice(one, file, at); told != "" {
+		if told := lateAdvice(one, file, at, named); told != "" {
 			return told
 		}
 		return file.say("to have it gone, delete it", "to have them gone, delete them") + " on " + at + " before Syncthing scans there: a scan takes " +
-			file.say("it for a new file", "them for new files") + spreads(one, file)
+			file.say("it for a new file", "them for new files") + spreads(one, file, named)
 	case Behind, Conflicting:
 		return behindAdvice(one, file, at, named)
 	case LocalChange:
-		return localChangeAdvice(one, file, at)
+		return localChangeAdvice(one, file, at, named)
 	case LocalAddition:
 		return "'Revert Local Changes' on " + at + " deletes what was added there: copy elsewhere first what is to stay. To have it " +
-			file.spread("everywhere", "recorded as any other file") + ", make the folder 'Send & Receive' there"
+			file.spread("everywhere", "recorded as any other file") + ", " + file.sendAndReceive(one.Device, named)
 	case NotScanned:
 		return notScannedAdvice(one, file, at, named)
 	case OnlySeen, NewerKnown:
 		return "start Syncthing on all of these devices and let them connect: they then tell each other what they have"
 	case OtherTime:
-		return otherTimeAdvice(one, file, at)
+		return otherTimeAdvice(one, file, at, named)
 	case OtherBlocks:
 		return "nothing is lost: the bytes are the same. Once the devices connect, Syncthing takes one of the records" + file.say("", " of each") +
 			". Where neither is of a later version, it may keep " + file.say("a conflict copy, which has", "conflict copies, which have") + " the same bytes"
@@ -104,17 +104,17 @@ const (
 )
 
 // spreads says where a change goes that a scan finds.
-func spreads(one *Fault, file *File) string {
+func spreads(one *Fault, file *File, named labels) string {
 	if one.Kind == receiveOnly {
 		return file.say(", a local addition", ", local additions")
 	}
-	return file.spread(" and sends "+file.say("it", "them")+" to all", " and records "+file.say("it", "them"))
+	return file.spread(" and sends "+file.say("it", "them")+" "+file.toAll(one.Device, named), " and records "+file.say("it", "them"))
 }
 
 // notScannedAdvice says what a scan does with what it hasn't seen yet.
 func notScannedAdvice(one *Fault, file *File, at string, named labels) string {
 	told := "start Syncthing on " + at + " and 'Rescan': "
-	late := lateAdvice(one, file, at)
+	late := lateAdvice(one, file, at, named)
 	switch {
 	case late != "":
 		return late
@@ -127,20 +127,22 @@ func notScannedAdvice(one *Fault, file *File, at string, named labels) string {
 			" the folder from being in step, and which 'Revert Local Changes' would delete"
 	case one.Kind == receiveOnly:
 		return told + file.say("it stays there as a local addition", "they stay there as local additions") + ", which 'Revert Local Changes' would delete. " +
-			"To have " + file.say("it", "them") + " everywhere, make the folder 'Send & Receive' there"
+			"To have " + file.say("it", "them") + " everywhere, " + file.sendAndReceive(one.Device, named)
 	}
-	return told + file.spread(file.say("it then goes to all", "they then go to all"), file.say("it is then recorded", "they are then recorded"))
+	return told + file.spread(file.say("it then goes ", "they then go ")+file.toAll(one.Device, named), file.say("it is then recorded", "they are then recorded"))
 }
 
 // otherTimeAdvice says what a scan does with a file whose time alone isn't as recorded.
-func otherTimeAdvice(one *Fault, file *File, at string) string {
+func otherTimeAdvice(one *Fault, file *File, at string, named labels) string {
 	told := "start Syncthing on " + at + " and 'Rescan'"
-	late := lateAdvice(one, file, at)
+	late := lateAdvice(one, file, at, named)
 	switch {
 	case late != "":
 		return late
 	case one.Kind == receiveOnly:
 		return told + ": " + file.say("the time stays there as a local change", "the times stay there as local changes") + file.revert(one, at)
+	case len(file.sharers.keepers(one.Device)) > 0:
+		return told + ": " + file.say("the time then goes ", "the times then go ") + file.toAll(one.Device, named)
 	}
 	return told
 }
@@ -151,13 +153,13 @@ func changedAdvice(one *Fault, file *File, at string, named labels) string {
 		how = overFile
 	}
 	told := "start Syncthing on " + at + " and 'Rescan': "
-	if late := lateAdvice(one, file, at); late != "" {
+	if late := lateAdvice(one, file, at, named); late != "" {
 		return late
 	}
 	if one.Kind == receiveOnly {
 		return told + file.say("the change stays there as a local one", "the changes stay there as local ones") + file.revert(one, at)
 	}
-	told += file.spread(file.say("the change then goes to all", "the changes then go to all"),
+	told += file.spread(file.say("the change then goes ", "the changes then go ")+file.toAll(one.Device, named),
 		file.say("the change is then recorded", "the changes are then recorded"))
 	return told + file.say(". If the change isn't wanted", ". If they aren't wanted") + ", first " + copying(one, file, named, how)
 }
@@ -180,7 +182,7 @@ func missingAdvice(one *Fault, file *File, at string, named labels) string {
 			copying(one, file, named, toNothing)
 	}
 	if one.late == lateChange {
-		return "see that the folder's disk is mounted on " + at + lateMissing(one, file, at)
+		return "see that the folder's disk is mounted on " + at + lateMissing(one, file, at, named)
 	}
 	if one.Kind == receiveOnly && one.late == lateDeletion {
 		return "start Syncthing on " + at + " and 'Rescan': the other devices have deleted " + it + ", too"
@@ -194,20 +196,20 @@ func missingAdvice(one *Fault, file *File, at string, named labels) string {
 			" back" + from + "; it also deletes files that were added there"
 	}
 	return "see that the folder's disk is mounted on " + at + ", before Syncthing starts there: a scan takes " + it + " for deleted" +
-		file.spread(", and then all devices delete "+it, "") + ". To keep " + it + ", first " + copying(one, file, named, toNothing)
+		file.spread(file.allDelete(one.Device, it, named), "") + ". To keep " + it + ", first " + copying(one, file, named, toNothing)
 }
 
 func behindAdvice(one *Fault, file *File, at string, named labels) string {
 	switch {
 	case one.Kind == sendOnly:
-		return at + " only sends: it doesn't take what others change. 'Override Changes' there undoes their changes on all devices, and deletes " +
+		return at + " only sends: it doesn't take what others change. 'Override Changes' there undoes their changes " + file.onAll(one.Device, named) + ", and deletes " +
 			"what they added; to take the changes, make the folder 'Send & Receive' there"
 	case one.Cause == Conflicting && file.isMissingSomewhere():
 		return "then start Syncthing on all of these devices"
 	case one.Cause == Conflicting && one.Deletion:
 		return "start Syncthing on all of these devices: it keeps " + file.say("the file", "the files") + ", since a change goes before a deletion"
 	case one.Cause == Conflicting:
-		return "start Syncthing on all of these devices: it " + file.conflicting(one.hasNoCopy)
+		return "start Syncthing on all of these devices: it " + file.conflicting(one.hasNoCopy) + file.keepOwn(file.isAloneWith, named)
 	case one.isTied:
 		return tiedAdvice(one, file, at, named)
 	case one.isUntold:

@@ -56,11 +56,11 @@ func touchAdvice(file *File, senders []string, named labels) string {
 	for _, same := range file.Same {
 		if hasAll(same, senders) {
 			return "if instead the bytes on " + named.all(senders) + " are the right ones, which are the same, " + touch + " on " +
-				named.of(file.toTouch(senders)) + " alone and let Syncthing scan: it sends them to all" + file.lostByTouch([]string{file.toTouch(senders)}, named)
+				named.of(file.toTouch(senders)) + " alone and let Syncthing scan: it sends them " + file.toAll(file.toTouch(senders), named) + file.lostByTouch([]string{file.toTouch(senders)}, named)
 		}
 	}
 	return "if instead the bytes on one of " + named.all(senders) + " are the right ones, " + touch + " on that one alone and let " +
-		"Syncthing scan: it sends them to all" + file.lostByTouch(senders, named)
+		"Syncthing scan: it sends them " + file.toAll("", named) + file.lostByTouch(senders, named)
 }
 
 // hasAll says whether a list has all of these words.

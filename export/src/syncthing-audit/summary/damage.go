@@ -40,5 +40,5 @@ func damageAdvice(one *Fault, file *File, at string, named labels) string {
 	if one.Kind == receiveOnly {
 		return told
 	}
-	return told + file.spread(", and then all devices delete it", "")
+	return told + file.spread(file.allDelete(one.Device, "it", named), "")
 }

@@ -31,6 +31,7 @@ type File struct {
 	isOwn       bool              // whether the folder's one device shares it with nobody
 	rivals      []string          // the devices whose next scans record changes that are in conflict
 	receivers   []string          // the devices that only receive
+	sharers     *sharers          // who takes changes from whom
 }
 
 // say gives what is said of one name, or of many where the file stands for these.
@@ -66,7 +67,7 @@ type Mode struct {
 func fileOf(folder *finding.Folder, told *finding.Told) *File {
 	made := &File{Name: Text(told.Name), Faults: []Fault{}, Have: []string{}, Follows: []Follow{}, Permissions: []Mode{}, areWide: areWide(folder),
 		takers: membersWhere(folder, isTaker), receivers: membersWhere(folder, isReceiver), runs: runsOf(folder), isOwn: folder.Own != "",
-		isOdd: !norm.NFC.IsNormalString(told.Name)}
+		sharers: sharersOf(folder), isOdd: !norm.NFC.IsNormalString(told.Name)}
 	row := folder.Rows[told.Name]
 	switch {
 	case told.Unwon != nil:

@@ -82,7 +82,7 @@ const noCopies = ". Where the folder's 'Max Conflicts' is 0 it keeps no copy: sa
 
 // lateAdvice says what a scan does with what stands on the disk of a device, where others have what its version lacks; nothing where they
 // have nothing of that kind. A device that only receives keeps its own where the others have deleted theirs.
-func lateAdvice(one *Fault, file *File, at string) string {
+func lateAdvice(one *Fault, file *File, at string, named labels) string {
 	told := "start Syncthing on " + at + " and 'Rescan': "
 	switch {
 	case one.late == notLate || one.late == lateDeletion && (one.Kind == receiveOnly || one.Cause == Back):
@@ -90,8 +90,8 @@ func lateAdvice(one *Fault, file *File, at string) string {
 	case one.late == lateChange && one.isDue:
 		return told + "what stands there is what the others have, so nothing is copied, and no conflict copy is made"
 	case one.late == lateDeletion:
-		return told + file.say("the change goes before the deletion, and then to all. If it isn't wanted, first delete the file there",
-			"the changes go before the deletions, and then to all. If they aren't wanted, first delete the files there") + " while Syncthing is stopped"
+		return told + file.say("the change goes before the deletion, and then ", "the changes go before the deletions, and then ") + file.toAll(one.Device, named) +
+			file.say(". If it isn't wanted, first delete the file there", ". If they aren't wanted, first delete the files there") + " while Syncthing is stopped"
 	case one.Kind == receiveOnly && one.hasNoCopy:
 		return told + "Syncthing then takes what the others have, and of a symlink or a directory that stands there it keeps no copy: save first what is " +
 			"to stay. It puts nothing in place of a directory that isn't empty"
@@ -100,18 +100,10 @@ func lateAdvice(one *Fault, file *File, at string) string {
 			file.say("a conflict copy, a local addition", "conflict copies, local additions") + noCopies
 	}
 	told += "what stands there is then in conflict with what the others have. Syncthing " + file.conflicting(one.hasNoCopy)
-	if one.Kind == sendOnly {
-		return told + one.keepsOwn(at)
+	if one.Kind != sendOnly {
+		told += ". To have only what the others have, first delete what stands there while Syncthing is stopped"
 	}
-	return told + ". To have only what the others have, first delete what stands there while Syncthing is stopped"
-}
-
-// keepsOwn says what a device that only sends has of a conflict.
-func (f *Fault) keepsOwn(at string) string {
-	if f.Kind != sendOnly {
-		return ""
-	}
-	return ". " + at + " only sends: it keeps what stands there in any case. Where that was modified earlier, the others keep theirs, without a copy"
+	return told + file.keepOwn(func(device string) bool { return device == one.Device || file.isAloneWith(device) }, named)
 }
 
 // isWithoutCopy says whether Syncthing may keep no copy of what is in conflict, since it isn't a file on each side. A device that only receives
@@ -130,11 +122,11 @@ func (f *Fault) mine() *State {
 }
 
 // lateMissing says what becomes of a name that is missing on a disk, where others have what the device's version lacks.
-func lateMissing(one *Fault, file *File, at string) string {
+func lateMissing(one *Fault, file *File, at string, named labels) string {
 	it := file.say("it", "them")
 	told := ". A scan there takes " + it + " for deleted, and a change goes before a deletion: the other devices keep " + it
 	if one.Kind == sendOnly {
-		return told + ". 'Override Changes' there would then delete " + it + " on all devices"
+		return told + ". 'Override Changes' there would then delete " + it + " " + file.onAll(one.Device, named)
 	}
 	told += ", and Syncthing brings what they have to " + at
 	if one.isAlone {

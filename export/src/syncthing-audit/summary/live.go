@@ -97,6 +97,20 @@ func (l *Live) waiting() int64 {
 const beforeScan = "it takes what differs on the disk for changed, and what is missing there for deleted, and sends that to all devices, unless the " +
 	"folder is receive-only there. See that its disk is mounted, and copy back first what is to stay."
 
+// beforeScan says that of a folder, and which devices take nothing of it.
+func (p *printer) beforeScan(folder *Folder) string {
+	keepers := []string{}
+	for _, one := range folder.Devices {
+		if one.Kind == sendOnly {
+			keepers = append(keepers, one.Device)
+		}
+	}
+	if len(keepers) == 0 {
+		return beforeScan
+	}
+	return beforeScan + " What others send goes to all but " + p.named.all(keepers) + say(keepers, ", which only sends.", ", which only send.")
+}
+
 // advice says what brings names in motion to rest. What waits for a scan waits on where none comes, however often one audits.
 func (l *Live) advice() string {
 	switch l.waiting() {
@@ -136,7 +150,7 @@ func (p *printer) moving(folder *Folder) {
 		p.line("  %s: %s", shell.Path(string(one.Name)), strings.Join(words, "; "))
 	}
 	if live.waiting() > 0 {
-		p.running("  before a scan:", beforeScan)
+		p.running("  before a scan:", p.beforeScan(folder))
 	}
 	for _, one := range live.Unheard {
 		p.line("not heard of in %s: what %s recorded last of %s hasn't reached %s: it is on its way, or the two aren't connected", folder.ID,

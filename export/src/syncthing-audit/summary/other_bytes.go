@@ -47,22 +47,22 @@ func otherBytesAdvice(one *Fault, file *File, at string, named labels) string {
 		return lateBytesAdvice(one, lack, file, at, named)
 	}
 	if isLocal := file.hasAt(one.Device, LocalChange); isLocal || file.isTiedAt(one.Device) { // no other device has its bytes
-		told := whenToMend(one, file, at) + "put the bytes back that " + at + " recorded, from old versions or backups"
+		told := whenToMend(one, file, at, named) + "put the bytes back that " + at + " recorded, from old versions or backups"
 		if isLocal && !one.isKeptFromDeletion() {
 			told += ", or 'Revert Local Changes' there"
 		}
 		return told
 	}
-	mend := whenToMend(one, file, at) + copying(one, file, named, overFile)
+	mend := whenToMend(one, file, at, named) + copying(one, file, named, overFile)
 	if one.Kind == receiveOnly || len(file.sendersOfOtherBytes()) > 1 {
 		return mend
 	}
 	return mend + ". If instead the bytes on " + at + " are the right ones, 'touch' the " + file.say("file", "files") +
-		" there and let Syncthing scan: it " + file.spread("sends them to all", "records them") + file.lostByTouch([]string{one.Device}, named)
+		" there and let Syncthing scan: it " + file.spread("sends them "+file.toAll(one.Device, named), "records them") + file.lostByTouch([]string{one.Device}, named)
 }
 
 // whenToMend says what becomes of other bytes as long as they stand there.
-func whenToMend(one *Fault, file *File, at string) string {
+func whenToMend(one *Fault, file *File, at string, named labels) string {
 	it := file.say("it", "them")
 	switch {
 	case one.isSeen && (one.isRival || one.late == lateChange):
@@ -70,16 +70,18 @@ func whenToMend(one *Fault, file *File, at string) string {
 	case one.isSeen && one.Kind == receiveOnly:
 		return "before Syncthing scans there (the scan takes these bytes for a local change), "
 	case one.isSeen:
-		return "before Syncthing scans there (the scan " + file.spread("sends these bytes to all", "records these bytes") + "), "
+		return "before Syncthing scans there (the scan " + file.spread("sends these bytes "+file.toAll(one.Device, named), "records these bytes") + "), "
 	case one.isFetched:
-		return "before Syncthing starts there (another device may fetch " + it + " from " + at + ", and then these bytes go to all), "
+		return "before Syncthing starts there (another device may fetch " + it + " from " + at + ", and then these bytes go " + file.toAll(one.Device, named) + "), "
 	case one.mayShow():
-		return "before Syncthing scans there (the scan may " + file.spread("send these bytes to all", "record these bytes") + "), "
-	case one.Kind == receiveOnly || file.isOwn:
+		return "before Syncthing scans there (the scan may " + file.spread("send these bytes "+file.toAll(one.Device, named), "record these bytes") + "), "
+	}
+	but, why, isNone := file.taking(one.Device, file.sharers.keepers(one.Device), named)
+	if one.Kind == receiveOnly || file.isOwn || isNone {
 		return "Syncthing won't repair " + it + ": "
 	}
-	return "Syncthing won't repair " + it + ", and sends these bytes to all once another device fetches " + file.say("the file", "the files") +
-		" from " + at + ". Before that, "
+	return "Syncthing won't repair " + it + ", and sends these bytes to all" + but + " once another device fetches " + file.say("the file", "the files") +
+		" from " + at + why + ". Before that, "
 }
 
 // lateBytesAdvice says what to do about other bytes on a device that has still to take what others have of the file. Syncthing looks at a file
@@ -92,7 +94,7 @@ func lateBytesAdvice(one, lack *Fault, file *File, at string, named labels) stri
 			"has these other bytes"
 	case !isShown && one.Kind == sendOnly:
 		return "don't 'Override Changes' on " + at + " before the bytes that it recorded are back there, from old versions or backups: it would " +
-			"send these other bytes to all"
+			"send these other bytes " + file.toAll(one.Device, named)
 	case !isShown:
 		return "once " + at + " takes what is newest, these bytes are gone, without a conflict copy: copy elsewhere first what is to stay"
 	}

@@ -20,31 +20,31 @@ func permissionsAdvice(file *File, named labels) string {
 		if !one.isStray() {
 			continue
 		}
-		strays.add("'chmod "+one.Index+"' "+it+" if that is the right mode, before Syncthing scans there: the scan "+file.scanOfMode(&one), one.Device)
+		strays.add("'chmod "+one.Index+"' "+it+" if that is the right mode, before Syncthing scans there: the scan "+file.scanOfMode(&one, named), one.Device)
 	}
 	strays.each(named, func(told, devices string) { words = append(words, "on "+devices+", "+told) })
 	if len(indexes) > 1 {
-		words = append(words, "'chmod' "+it+" to the same mode on "+named.all(devices)+": where that changes a mode, the next scan may send it to all")
+		words = append(words, "'chmod' "+it+" to the same mode on "+named.all(devices)+": where that changes a mode, the next scan may send it "+file.toAll("", named))
 	}
 	words = append(words, "or choose 'Ignore Permissions' for the folder")
 	return strings.Join(words, "; ")
 }
 
-// scanOfMode says what a scan does with a mode that isn't as recorded. Where the device is behind with the file, the scan takes what stands there for
-// a change.
-func (f *File) scanOfMode(one *Mode) string {
+// scanOfMode says what a scan does with a mode that isn't as recorded. Where the device is behind with the file, or another one's scan finds another
+// change, the scan takes what stands there for a change.
+func (f *File) scanOfMode(one *Mode, named labels) string {
 	lack := f.lackOn(one.Device)
 	switch {
 	case lack != nil && lack.Cause == Behind && lack.Deletion:
 		return "takes that for a change, which goes before the deletion"
-	case lack != nil:
+	case lack != nil || slices.Contains(f.rivals, one.Device):
 		return "takes " + f.say("what stands there for a change", "them for changes") + ", in conflict with what the others have"
 	case slices.Contains(f.receivers, one.Device):
 		return "takes " + one.Disk + " for a local change"
 	case f.isTiedAt(one.Device):
-		return "takes what stands there for a change, and sends it to all"
+		return "takes what stands there for a change, and sends it " + f.toAll(one.Device, named)
 	}
-	return f.spread("may send "+one.Disk+" to all", "records "+one.Disk)
+	return f.spread("may send "+one.Disk+" "+f.toAll(one.Device, named), "records "+one.Disk)
 }
 
 // isStray says whether a disk has another mode than the device's index.

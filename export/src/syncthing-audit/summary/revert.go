@@ -3,9 +3,9 @@ package summary
 import "strings"
 
 // localChangeAdvice says what becomes of a local change of a device that only receives, where it is reverted or sent.
-func localChangeAdvice(one *Fault, file *File, at string) string {
+func localChangeAdvice(one *Fault, file *File, at string, named labels) string {
 	it := file.say("it", "them")
-	const send = "everywhere, make the folder 'Send & Receive' there"
+	send := "everywhere, " + file.sendAndReceive(one.Device, named)
 	switch {
 	case file.isOwn:
 		return "'Revert Local Changes' on " + at + file.say(" deletes the file", " deletes the files") + noOther

@@ -125,17 +125,15 @@ func (f *File) foundDue(one *Fault) bool {
 
 // rivalsAdvice says what becomes of changes that are in conflict once scans have found them.
 func rivalsAdvice(file *File, named labels) string {
-	told, hasNoCopy, senders := "start Syncthing on "+named.all(file.rivals)+" and 'Rescan': what they have there is then in conflict", false, ""
-	isKnown := true
+	told, hasNoCopy, isKnown := "start Syncthing on "+named.all(file.rivals)+" and 'Rescan': what they have there is then in conflict", false, true
 	for place := range file.Faults {
 		if one := &file.Faults[place]; one.isRival {
 			isKnown = isKnown && one.Found != nil
 			hasNoCopy = hasNoCopy || one.hasNoCopy
-			senders += one.keepsOwn(named.of(one.Device))
 		}
 	}
 	if !isKnown {
 		told += " where it differs"
 	}
-	return told + ". Syncthing " + file.conflicting(hasNoCopy) + senders
+	return told + ". Syncthing " + file.conflicting(hasNoCopy) + file.keepOwn(func(device string) bool { return slices.Contains(file.rivals, device) }, named)
 }

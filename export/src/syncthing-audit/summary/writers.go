@@ -19,6 +19,6 @@ func (p *printer) writers(s *Summary) {
 	}
 	told.each(p.named, func(words, devices string) {
 		p.line("written by others: %s on %s: Syncthing writes and deletes in its directory for these, too. So it may not stay in step, nor firm, and "+
-			"what is deleted there is deleted on all devices after a scan", words, devices)
+			"what is deleted there is deleted after a scan on all devices that take its changes", words, devices)
 	})
 }

@@ -1,0 +1,173 @@
+package summary
+
+import (
+	"golang.org/x/exp/slices"
+	"syncthing-audit/finding"
+	"syncthing-audit/join"
+)
+
+// sharers are the devices that share a folder, as far as who takes changes from whom depends on them.
+type sharers struct {
+	ids     []string            // of the audited devices
+	senders []string            // those of them that only send: they take nothing from others
+	peers   map[string][]string // with whom a device shares the folder, left out or not
+}
+
+// sharersOf gives these of a folder.
+func sharersOf(folder *finding.Folder) *sharers {
+	made := &sharers{peers: map[string][]string{}}
+	for _, one := range folder.Members {
+		made.add(one)
+	}
+	return made
+}
+
+// add adds a device.
+func (s *sharers) add(one join.Member) {
+	id := one.Head.Device
+	s.ids = append(s.ids, id)
+	if kindOf(one) == sendOnly {
+		s.senders = append(s.senders, id)
+	}
+	if one.About == nil {
+		return
+	}
+	for _, other := range one.About.Sharing {
+		s.peers[id] = addOnce(s.peers[id], other.Device)
+		s.peers[other.Device] = addOnce(s.peers[other.Device], id)
+	}
+}
+
+// keepers gives the devices that take nothing of what this one changes, since they only send.
+func (s *sharers) keepers(from string) []string {
+	made := []string{}
+	if s == nil {
+		return made
+	}
+	for _, one := range s.senders {
+		if one != from {
+			made = append(made, one)
+		}
+	}
+	return made
+}
+
+// hearers gives the devices that hear of what this one changes, itself among them. A device that only sends takes no change, so it tells none on.
+func (s *sharers) hearers(from string) []string {
+	if len(s.peers[from]) == 0 {
+		return s.ids
+	}
+	heard := []string{from}
+	for next := 0; next < len(heard); next++ {
+		if next > 0 && slices.Contains(s.senders, heard[next]) {
+			continue
+		}
+		for _, one := range s.peers[heard[next]] {
+			heard = addOnce(heard, one)
+		}
+	}
+	return heard
+}
+
+// unheard gives the devices that would take what this one changes, and hear of that from nobody but those that only send.
+func (s *sharers) unheard(from string) []string {
+	made, heard := []string{}, s.hearers(from)
+	for _, one := range s.ids {
+		if one != from && !slices.Contains(heard, one) && !slices.Contains(s.senders, one) {
+			made = append(made, one)
+		}
+	}
+	return made
+}
+
+// hasTaker says whether some device takes what this one changes, be it one that was left out.
+func (s *sharers) hasTaker(from string) bool {
+	for _, one := range s.hearers(from) {
+		if one != from && !slices.Contains(s.senders, one) {
+			return true
+		}
+	}
+	return false
+}
+
+// taking says which devices don't take what one changes, as " but phone", and why; and whether none takes it. Where all take it, it says nothing.
+func (f *File) taking(from string, keepers []string, named labels) (but, why string, isNone bool) {
+	if len(keepers) == 0 {
+		return "", "", false
+	}
+	why = ": " + named.all(keepers) + say(keepers, " only sends, keeps what it has, shows", " only send, keep what they have, show") +
+		" 'Out of Sync', and 'Override Changes' there takes this back"
+	unheard := f.sharers.unheard(from)
+	if len(unheard) > 0 {
+		why += "; " + named.all(unheard) + say(unheard, " hears", " hear") + " of changes through such a device alone"
+	}
+	if !f.sharers.hasTaker(from) {
+		return "", why, true
+	}
+	return " but " + named.all(append(unheard, keepers...)), why, false
+}
+
+// say gives what is said of one device, or of several.
+func say(devices []string, one, several string) string {
+	if len(devices) == 1 {
+		return one
+	}
+	return several
+}
+
+// toAll says to whom goes what a device changes.
+func (f *File) toAll(from string, named labels) string {
+	but, why, isNone := f.taking(from, f.sharers.keepers(from), named)
+	if isNone {
+		return "to no other device" + why
+	}
+	return "to all" + but + why
+}
+
+// allDelete says who deletes what a scan of a device takes for deleted.
+func (f *File) allDelete(from, it string, named labels) string {
+	keepers := []string{}
+	for _, one := range f.sharers.keepers(from) {
+		if !f.hasAt(one, Missing) {
+			keepers = append(keepers, one)
+		}
+	}
+	but, why, isNone := f.taking(from, keepers, named)
+	if isNone {
+		return ", and then no other device deletes " + it + why
+	}
+	return ", and then all devices" + but + " delete " + it + why
+}
+
+// onAll says on which devices 'Override Changes' on one of them undoes what others changed.
+func (f *File) onAll(from string, named labels) string {
+	but, _, isNone := f.taking(from, f.sharers.keepers(from), named)
+	if isNone {
+		return "on no other device"
+	}
+	return "on all devices" + but
+}
+
+// sendAndReceive says of which folders the kind is to be another one for all devices to have what one has that only receives.
+func (f *File) sendAndReceive(from string, named labels) string {
+	told, keepers := "make the folder 'Send & Receive' there", f.sharers.keepers(from)
+	if len(keepers) == 0 {
+		return told
+	}
+	return told + ", and on " + named.all(keepers) + say(keepers, ", which only sends", ", which only send")
+}
+
+// keepOwn says what devices that only send have of a conflict. Where such a device alone has the one change, nobody makes a copy of that.
+func (f *File) keepOwn(isAlone func(device string) bool, named labels) string {
+	told := ""
+	for _, one := range f.sharers.keepers("") {
+		told += ". " + named.of(one) + " only sends: it keeps what stands there in any case"
+		if isAlone(one) {
+			told += ". Where that was modified earlier, the others keep theirs, without a copy"
+		}
+	}
+	return told
+}
+
+// isAloneWith says whether a device is the only one that has what is due.
+func (f *File) isAloneWith(device string) bool { return len(f.Have) == 1 && f.Have[0] == device }
