@@ -27,6 +27,7 @@ func (p *printer) rest(s *Summary) {
 	for _, one := range s.LeftOut {
 		p.line("left out: %s of %s: %s", shell.Folder(one.Folder, one.label), one.Device, one.Why)
 	}
+	p.unknownTakers(s)
 	p.notAsked(s)
 	p.otherNames(s)
 	if s.Firm == finding.NotAsked {

@@ -4,6 +4,7 @@ import (
 	"golang.org/x/exp/slices"
 	"syncthing-audit/finding"
 	"syncthing-audit/join"
+	"syncthing-audit/part"
 )
 
 // sharers are the devices that share a folder, as far as who takes changes from whom depends on them.
@@ -171,3 +172,18 @@ func (f *File) keepOwn(isAlone func(device string) bool, named labels) string {
 
 // isAloneWith says whether a device is the only one that has what is due.
 func (f *File) isAloneWith(device string) bool { return len(f.Have) == 1 && f.Have[0] == device }
+
+// unknownTakers says of devices that were left out, and of whose folder nobody told the kind, that they may take nothing.
+func (p *printer) unknownTakers(s *Summary) {
+	told := places{}
+	for _, folder := range s.Folders {
+		for _, one := range s.LeftOut {
+			if one.Folder == folder.ID && one.Kind == part.Absent && folder.Wrong > 0 {
+				told.add(folder.ID, one.Device)
+			}
+		}
+	}
+	told.each(p.named, func(folder, devices string) {
+		p.line("not known: whether %s takes what goes to all of %s: a device that only sends doesn't", devices, folder)
+	})
+}

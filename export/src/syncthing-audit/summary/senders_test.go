@@ -164,3 +164,17 @@ func TestWhereTheOtherDeviceOnlySends(t *testing.T) {
 		}
 	}
 }
+
+// Of a device that was left out nobody told whether it only sends.
+func TestDevicesWhoseKindIsNotKnown(t *testing.T) {
+	const has = "not known: whether " + phone + " takes what goes to all of docs: a device that only sends doesn't"
+	for kind, isTold := range map[string]bool{part.Absent: true, part.Encrypted: false} {
+		answer := answerOf(2, func(folder *finding.Folder) {
+			fails(folder, "a", []*part.Name{changedTo(7), file(1, 1)}, "StoreDiffers 1")
+		})
+		answer.LeftOut = append(answer.LeftOut, finding.Refusal{Kind: kind, Folder: "docs", Device: phone, Why: "it has no part"})
+		if text := printed(answer); strings.Contains(text, has) != isTold {
+			t.Errorf("%s: %s", kind, text)
+		}
+	}
+}
