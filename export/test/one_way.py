@@ -239,6 +239,36 @@ class ReceiveOnlyChangedItsOwnAgain(Exporting):
         self.assertEqual(self.verdict(), "settled")
 
 
+class ReceiveOnlyThatKeepsItsChange(Exporting):
+    """A device that only receives changed files, and these are missing on the disk of the other one. One change is recorded, the other one isn't yet."""
+
+    kinds = {"two": "receiveonly"}
+
+    def test_the_change_goes_before_the_deletion(self):
+        """So the file stays on the device, as the answer says. Only what it hasn't changed it deletes."""
+        (self.two.files / "text").write_text("my own")
+        self.two.start()
+        self.two.scan()
+        self.two.stop()
+        (self.two.files / "empty").write_text("mine, too")
+        for name in ("text", "empty", "folder/large"):
+            (self.one.files / name).unlink()
+        ran = self.on_homes("check", [device.home for device in self.devices], "--syncaudit", self.auditor)
+        self.assertEqual(ran.returncode, 1, ran.stderr)
+        entries = {entry.split("  (in ")[0]: " ".join(entry.split()) for entry in ran.stdout.split("\n\n")}
+        for name in ("text", "empty"):
+            self.assertIn(f"and then no other device deletes it: {self.two.id[:7]} keeps its local change.", entries[name])
+        self.assertIn("and then all devices delete it.", entries["folder/large"])
+        self.start()
+        self.one.scan()
+        wait_until("what isn't changed is gone", lambda: not (self.two.files / "folder/large").exists() and self.two.knows_all_of(self.one))
+        self.two.scan()
+        wait_until("all is taken", self.two.shows_up_to_date)
+        self.stop()
+        self.assertEqual([(self.two.files / name).read_text() for name in ("text", "empty")], ["my own", "mine, too"])
+        self.assertEqual([(self.one.files / name).exists() for name in ("text", "empty")], [False, False])
+
+
 class OwnReceiveOnly(Exporting):
     """A folder of a device that only receives, which the device shares with nobody any more."""
 

@@ -76,7 +76,7 @@ func whenToMend(one *Fault, file *File, at string, named labels) string {
 	case one.mayShow():
 		return "before Syncthing scans there (the scan may " + file.spread("send these bytes "+file.toAll(one.Device, named), "record these bytes") + "), "
 	}
-	but, why, isNone := file.taking(one.Device, file.sharers.keepers(one.Device), named)
+	but, why, isNone := file.taking(one.Device, file.sharers.keepers(one.Device), nil, named)
 	if one.Kind == receiveOnly || file.isOwn || isNone {
 		return "Syncthing won't repair " + it + ": "
 	}

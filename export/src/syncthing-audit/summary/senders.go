@@ -1,6 +1,8 @@
 package summary
 
 import (
+	"strings"
+
 	"golang.org/x/exp/slices"
 	"syncthing-audit/finding"
 	"syncthing-audit/join"
@@ -81,10 +83,10 @@ func (s *sharers) unheard(from string) []string {
 	return made
 }
 
-// hasTaker says whether some device takes what this one changes, be it one that was left out.
-func (s *sharers) hasTaker(from string) bool {
+// hasTaker says whether some device but these takes what this one changes, be it one that was left out.
+func (s *sharers) hasTaker(from string, but []string) bool {
 	for _, one := range s.hearers(from) {
-		if one != from && !slices.Contains(s.senders, one) {
+		if one != from && !slices.Contains(s.senders, one) && !slices.Contains(but, one) {
 			return true
 		}
 	}
@@ -92,20 +94,28 @@ func (s *sharers) hasTaker(from string) bool {
 }
 
 // taking says which devices don't take what one changes, as " but phone", and why; and whether none takes it. Where all take it, it says nothing.
-func (f *File) taking(from string, keepers []string, named labels) (but, why string, isNone bool) {
-	if len(keepers) == 0 {
+// Besides those that only send, some may keep local changes.
+func (f *File) taking(from string, keepers, locals []string, named labels) (but, why string, isNone bool) {
+	if len(keepers)+len(locals) == 0 {
 		return "", "", false
 	}
-	why = ": " + named.all(keepers) + say(keepers, " only sends, keeps what it has, shows", " only send, keep what they have, show") +
-		" 'Out of Sync', and 'Override Changes' there takes this back"
-	unheard := f.sharers.unheard(from)
-	if len(unheard) > 0 {
-		why += "; " + named.all(unheard) + say(unheard, " hears", " hear") + " of changes through such a device alone"
+	reasons, unheard := []string{}, []string{}
+	if len(keepers) > 0 {
+		reasons = append(reasons, named.all(keepers)+say(keepers, " only sends, keeps what it has, shows", " only send, keep what they have, show")+
+			" 'Out of Sync', and 'Override Changes' there takes this back")
+		unheard = f.sharers.unheard(from)
 	}
-	if !f.sharers.hasTaker(from) {
+	if len(unheard) > 0 {
+		reasons = append(reasons, named.all(unheard)+say(unheard, " hears", " hear")+" of changes through such a device alone")
+	}
+	if len(locals) > 0 {
+		reasons = append(reasons, named.all(locals)+say(locals, " keeps its local change", " keep their local changes"))
+	}
+	why = ": " + strings.Join(reasons, "; ")
+	if !f.sharers.hasTaker(from, locals) {
 		return "", why, true
 	}
-	return " but " + named.all(append(unheard, keepers...)), why, false
+	return " but " + named.all(append(append(unheard, keepers...), locals...)), why, false
 }
 
 // say gives what is said of one device, or of several.
@@ -118,7 +128,7 @@ func say(devices []string, one, several string) string {
 
 // toAll says to whom goes what a device changes.
 func (f *File) toAll(from string, named labels) string {
-	but, why, isNone := f.taking(from, f.sharers.keepers(from), named)
+	but, why, isNone := f.taking(from, f.sharers.keepers(from), nil, named)
 	if isNone {
 		return "to no other device" + why
 	}
@@ -133,16 +143,28 @@ func (f *File) allDelete(from, it string, named labels) string {
 			keepers = append(keepers, one)
 		}
 	}
-	but, why, isNone := f.taking(from, keepers, named)
+	but, why, isNone := f.taking(from, keepers, f.localChanges(), named)
 	if isNone {
 		return ", and then no other device deletes " + it + why
 	}
 	return ", and then all devices" + but + " delete " + it + why
 }
 
+// localChanges gives the devices that only receive and have a change of the name, recorded or found by the next scan. It goes before another
+// one's deletion, as any change does.
+func (f *File) localChanges() []string {
+	made := []string{}
+	for place := range f.Faults {
+		if one := &f.Faults[place]; one.Kind == receiveOnly && (one.isChange() || one.Cause == LocalChange && !one.Deletion && !f.hasAt(one.Device, Missing)) {
+			made = addOnce(made, one.Device)
+		}
+	}
+	return made
+}
+
 // onAll says on which devices 'Override Changes' on one of them undoes what others changed.
 func (f *File) onAll(from string, named labels) string {
-	but, _, isNone := f.taking(from, f.sharers.keepers(from), named)
+	but, _, isNone := f.taking(from, f.sharers.keepers(from), nil, named)
 	if isNone {
 		return "on no other device"
 	}

@@ -165,6 +165,28 @@ func TestWhereTheOtherDeviceOnlySends(t *testing.T) {
 	}
 }
 
+// A local change of a device that only receives goes before another one's deletion, recorded or not.
+func TestALocalChangeGoesBeforeADeletion(t *testing.T) {
+	recorded, found, same := local(file(2, 2)), changedTo(7), file(1, 1)
+	for why, one := range map[string]struct {
+		row     []*part.Name
+		reasons string
+		has     string
+	}{
+		"recorded":        {[]*part.Name{with(file(1, 1), absent), recorded, same}, "StoreDiffers 1,LocalOnly 2", "and then all devices but server delete it: server keeps its local change. To keep it"},
+		"found":           {[]*part.Name{with(file(1, 1), absent), found, same}, "StoreDiffers 1,StoreDiffers 2", "and then all devices but server delete it: server keeps its local change. To keep it"},
+		"touched":         {[]*part.Name{with(file(1, 1), absent), with(file(1, 1), touched), same}, "StoreDiffers 1,StoreUnclean 2", "all devices but server delete it"},
+		"alone":           {[]*part.Name{with(file(1, 1), absent), recorded}, "StoreDiffers 1,LocalOnly 2", "and then no other device deletes it: server keeps its local change"},
+		"missing again":   {[]*part.Name{with(file(1, 1), absent), local(with(file(2, 2), absent)), same}, "StoreDiffers 1,LocalOnly 2,StoreDiffers 2", "and then all devices delete it. To keep it"},
+		"a rotten record": {[]*part.Name{with(file(1, 1), absent), with(file(1, 1), rotten), same}, "StoreDiffers 1,StoreDiffers 2", "and then all devices delete it. To keep it"},
+	} {
+		text := toldOf(one.row, one.reasons, 0, 1, func(folder *finding.Folder) { folder.Members[1].About.Kind = receiveOnly })
+		if !strings.Contains(text, one.has) {
+			t.Errorf("%s: %q isn't in\n%s", why, one.has, text)
+		}
+	}
+}
+
 // Of a device that was left out nobody told whether it only sends.
 func TestDevicesWhoseKindIsNotKnown(t *testing.T) {
 	const has = "not known: whether " + phone + " takes what goes to all of docs: a device that only sends doesn't"
