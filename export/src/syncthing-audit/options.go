@@ -76,7 +76,7 @@ Says whether Syncthing devices are in step, and where they aren't, which device 
   --tokens FILE        tokens, one on a line; - is standard input
   --heed-input         of --begin: end without a part once standard input ends; 'run' has it so on other machines
   --rescan             of run, and of part --begin: have Syncthing scan before the first look, by its REST API, and wait for that: what
-                       changed or is missing on a disk goes to all devices then
+                       changed or is missing on a disk goes to all devices then that take changes
   --still SECONDS      of run: how long second looks wait at least, once first ones are over (10)
   --remote-program P   of run: how this program is called on the other machines (syncthing-audit, on PATH or in ~/.local/bin)
   --dry-run            of run: write the commands that it would run, as a script for a shell, and run none of them
