@@ -55,8 +55,9 @@ func touchAdvice(file *File, senders []string, named labels) string {
 	touch := "'touch' the " + file.say("file", "files")
 	for _, same := range file.Same {
 		if hasAll(same, senders) {
+			touched := file.toTouch(senders)
 			return "if instead the bytes on " + named.all(senders) + " are the right ones, which are the same, " + touch + " on " +
-				named.of(file.toTouch(senders)) + " alone and let Syncthing scan: it sends them " + file.toAll(file.toTouch(senders), named) + file.lostByTouch([]string{file.toTouch(senders)}, named)
+				named.of(touched) + " alone and let Syncthing scan: it sends them " + file.toAll(touched, named) + file.lostByTouch([]string{touched}, named)
 		}
 	}
 	return "if instead the bytes on one of " + named.all(senders) + " are the right ones, " + touch + " on that one alone and let " +
