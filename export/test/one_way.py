@@ -7,7 +7,7 @@
 import os
 
 from exporting import Exporting, main
-from syncthing import FOLDER, wait_until, wait_until_in_step
+from syncthing import FOLDER, version_of, wait_until, wait_until_in_step
 
 
 class ReceiveOnly(Exporting):
@@ -155,41 +155,70 @@ class ReceiveOnlyThatChangedItBefore(Exporting):
 
 
 class ReceiveOnlyChangedAgain(Exporting):
-    """A device that only receives recorded local changes, and the same names changed on its disk after that."""
+    """A device that only receives recorded local changes, and the same names changed on its disk after that. 'own' no other device ever changed."""
 
     kinds = {"two": "receiveonly"}
+    texts = {"text": "my second one", "empty": "back"}
+
+    @classmethod
+    def synchronise(cls):
+        super().synchronise()
+        cls.stop()
+        cls.two.configure(cls.devices)
+        cls.start()
+        (cls.two.files / "own").write_text("of two")
+        cls.two.scan()
+        wait_until_in_step(cls.one, cls.two)
 
     @classmethod
     def setUpClass(cls):
         super().setUpClass()
         files = cls.two.files
-        (files / "text").write_text("my own")
-        (files / "folder/large").write_text("my own")
+        for name in ("text", "folder/large", "own"):
+            (files / name).write_text("my own")
         (files / "empty").unlink()
+        cls.configure()
         cls.start()
         cls.two.scan()
         wait_until("the other device knows of the changes", lambda: cls.one.knows_all_of(cls.two))
         cls.stop()
-        (files / "text").write_text("my second one")
-        (files / "empty").write_text("back")
-        (files / "folder/large").unlink()
+        for name, text in cls.texts.items():
+            (files / name).write_text(text)
+        for name in ("folder/large", "own"):
+            (files / name).unlink()
 
-    def test_the_second_change_becomes_a_copy(self):
-        """The scan puts it beside what the others have, as the answer says. Nobody has to revert."""
+    def test_what_becomes_of_the_second_change(self):
+        """Syncthing 1.19 puts it beside what the others have, and nobody has to revert. 1.29 keeps it as a local change. What is missing either of
+        them brings back. The answer says so."""
         ran = self.on_homes("check", [device.home for device in self.devices], "--syncaudit", self.auditor)
         self.assertEqual(ran.returncode, 1, ran.stderr)
         entries = {entry.split("  (in ")[0]: " ".join(entry.split()) for entry in ran.stdout.split("\n\n")}
-        for name in ("text", "empty"):
-            self.assertIn("'Rescan': Syncthing then takes what the others have, and keeps what stands there as a conflict copy, a local addition", entries[name])
-        self.assertIn(f"the other devices keep it, and Syncthing brings what they have to {self.two.id[:7]}.", entries["folder/large"])
+        is_copied = version_of(self.two.program).startswith("syncthing v1.19")
+        told = "Syncthing then takes what the others have, and keeps what stands there as a conflict copy, a local addition" if is_copied \
+            else "the change stays there as a local one, which 'Revert Local Changes' takes back"
+        for name in self.texts:
+            self.assertIn(f"'Rescan': {told}", entries[name])
+        for name in ("folder/large", "own"):
+            self.assertIn(f"the other devices keep it, and Syncthing brings what they have to {self.two.id[:7]}.", entries[name])
         self.start()
-        wait_until("the copies are there", lambda: len(list(self.two.files.glob("*.sync-conflict-*"))) == 2)
+        self.two.scan()
+        wait_until("what is missing is brought back", lambda: all((self.two.files / name).exists() for name in ("folder/large", "own")))
         wait_until("all is taken", lambda: self.two.shows_up_to_date() and self.two.knows_all_of(self.one))
-        self.stop()
-        for name, copy in (("text", "my second one"), ("empty", "back")):
+        for name in ("folder/large", "own"):
             self.assertEqual((self.two.files / name).read_bytes(), (self.one.files / name).read_bytes())
-            self.assertEqual([path.read_text() for path in self.two.files.glob(f"{name}.sync-conflict-*")], [copy])
-        self.assertEqual((self.two.files / "folder/large").read_bytes(), (self.one.files / "folder/large").read_bytes())
+        if not is_copied:
+            self.assert_they_stay()
+            self.two.api("POST", f"db/revert?folder={FOLDER}")
+        wait_until("the others' files are there", lambda: all((self.two.files / name).read_bytes() == (self.one.files / name).read_bytes() for name in self.texts))
+        self.stop()
+        for name, text in self.texts.items():
+            self.assertEqual([path.read_text() for path in self.two.files.glob(f"{name}.sync-conflict-*")], [text] if is_copied else [])
+
+    def assert_they_stay(self):
+        """The second changes stand there, without copies, and count as local ones."""
+        self.assertEqual({name: (self.two.files / name).read_text() for name in self.texts}, self.texts)
+        self.assertEqual(list(self.two.files.glob("*.sync-conflict-*")), [])
+        self.assertEqual(self.two.api("GET", f"db/status?folder={FOLDER}")["receiveOnlyChangedFiles"], len(self.texts))
 
 
 class ReceiveOnlyChangedItsOwnAgain(Exporting):

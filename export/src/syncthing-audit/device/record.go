@@ -21,7 +21,7 @@ type Entry struct {
 }
 
 // ownEntry reads a device's own entry as it goes over the wire. A local change on a receive-only folder is invalid there,
-// and without a version.
+// and without a version. The version that the index has of it is kept beside, unless no document could have such a one.
 func ownEntry(entry protocol.FileInfo) Entry {
 	switch {
 	case entry.IsIgnored():
@@ -33,10 +33,16 @@ func ownEntry(entry protocol.FileInfo) Entry {
 	case entry.MustRescan():
 		return leftOut(entry, part.Rescan, "it waits for a scan: start Syncthing, let it finish, stop it")
 	}
-	if entry.IsReceiveOnlyChanged() {
-		entry.Version = protocol.Vector{}
+	if !entry.IsReceiveOnlyChanged() {
+		return entryOf(entry)
 	}
-	return entryOf(entry)
+	local, _ := versionOf(entry.Version)
+	entry.Version = protocol.Vector{}
+	made := entryOf(entry)
+	if made.Record != nil && len(local) > 0 {
+		made.Record.Local = local
+	}
+	return made
 }
 
 // leftOut gives an entry without a record.

@@ -78,7 +78,10 @@ func TestRecords(t *testing.T) {
 			func(r *part.Record) { noContent(r); r.Deleted = true }},
 		{"a local change of a receive-only folder goes invalid and without version",
 			func(e *protocol.FileInfo) { e.LocalFlags = protocol.FlagLocalReceiveOnly },
-			func(r *part.Record) { r.Invalid, r.Version = true, [][2]uint64{} }},
+			func(r *part.Record) { r.Invalid, r.Local, r.Version = true, r.Version, [][2]uint64{} }},
+		{"one whose version no document has goes so, too", func(e *protocol.FileInfo) {
+			e.LocalFlags, e.Version = protocol.FlagLocalReceiveOnly, manyCounters(17)
+		}, func(r *part.Record) { r.Invalid, r.Version = true, [][2]uint64{} }},
 		{"an invalid one stays so", func(e *protocol.FileInfo) { e.RawInvalid = true }, func(r *part.Record) { r.Invalid = true }},
 		{"a directory", func(e *protocol.FileInfo) { e.Type, e.Size, e.Blocks = protocol.FileInfoTypeDirectory, 0, nil },
 			func(r *part.Record) { r.Type, r.Content = 1, nil }},

@@ -208,6 +208,9 @@ func checkRecord(one *Record, greatest int64) error {
 	case one.Content != nil && !one.Content.isOne():
 		return errors.New("its content is none")
 	}
+	if err := checkVersion(one.Local); err != nil {
+		return err
+	}
 	return checkVersion(one.Version)
 }
 

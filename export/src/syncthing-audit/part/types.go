@@ -138,6 +138,7 @@ type Record struct {
 	ModifiedNs  int         `json:"ns,omitempty"`
 	ModifiedBy  uint64      `json:"by"`
 	Version     [][2]uint64 `json:"version"`
+	Local       [][2]uint64 `json:"local,omitempty"` // of a local change of a device that only receives: the version that its index has
 	Sequence    int64       `json:"sequence"`
 	Deleted     bool        `json:"deleted,omitempty"`
 	Invalid     bool        `json:"invalid,omitempty"`

@@ -76,6 +76,9 @@ func adviceOfFault(one *Fault, file *File, named labels) string {
 		if told := lateAdvice(one, file, at, named); told != "" {
 			return told
 		}
+		if one.Kind == receiveOnly && file.hasAt(one.Device, LocalChange) {
+			return changedAdvice(one, file, at, named)
+		}
 		return file.say("to have it gone, delete it", "to have them gone, delete them") + " on " + at + " before Syncthing scans there: a scan takes " +
 			file.say("it for a new file", "them for new files") + spreads(one, file, named)
 	case Behind, Conflicting:

@@ -45,6 +45,7 @@ type Fault struct {
 	contents []part.Content
 	ends     ends
 	late     late // what others have and the device's own version lacks
+	mayStay  bool // whether it may lack nothing, by the version of Syncthing there
 	isDue    bool // what stands on the disk is what is due, whatever the device recorded
 	isAlone  bool // of Missing: the device recorded a change that no other one has
 	isSeen   bool // by the next scan, since the mode isn't as recorded

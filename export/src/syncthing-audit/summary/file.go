@@ -300,7 +300,8 @@ func (r *reader) add(member int, cause Cause) {
 		if at.Disk != nil {
 			made.contents = at.Disk.Contents
 		}
-		made.late, made.isAlone, made.isDue = r.lateAt(member), cause == Missing && r.isAlone(member), isSame(at.Disk, r.winner)
+		made.late, made.mayStay = r.lateAt(member)
+		made.isAlone, made.isDue = cause == Missing && r.isAlone(member), isSame(at.Disk, r.winner)
 		made.isTied = cause == Behind && r.isTied(at)
 	}
 	made.isUntold = cause == Behind && !made.isTied && r.isUntold(member)

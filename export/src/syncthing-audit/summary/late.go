@@ -1,6 +1,8 @@
 package summary
 
 import (
+	"strings"
+
 	"golang.org/x/exp/slices"
 	"syncthing-audit/part"
 )
@@ -14,15 +16,24 @@ const (
 	lateChange        // others have another version of it
 )
 
-// lateAt says what a member lacks of a name.
-func (r *reader) lateAt(member int) late {
-	at, found := r.at(member), notLate
-	if at == nil {
-		return found
+// lateAt says what a member lacks of a name, and whether it may lack nothing, since what its next scan records isn't known.
+func (r *reader) lateAt(member int) (found late, mayStay bool) {
+	tops := r.topsAt(member)
+	if len(tops) == 0 {
+		return notLate, false
 	}
+	return r.lateUnder(tops[0]), len(tops) > 1 && r.lateUnder(tops[1]) == notLate
+}
+
+// isOnTop says whether what a scan records is on top of a version.
+type isOnTop func(version [][2]uint64) bool
+
+// lateUnder says what others have that what a scan records isn't on top of.
+func (r *reader) lateUnder(is isOnTop) late {
+	found := notLate
 	for _, one := range r.row.At {
 		switch {
-		case one == nil || one.Own == nil || one.Own.Invalid || isOnTop(at.Own, one.Own.Version, r.folder.Members[member].Number):
+		case one == nil || one.Own == nil || one.Own.Invalid || is(one.Own.Version):
 		case !one.Own.Deleted:
 			return lateChange
 		default:
@@ -32,16 +43,41 @@ func (r *reader) lateAt(member int) late {
 	return found
 }
 
-// isOnTop says whether what the next scan of a device records of a name is on top of another version. Once a device that only receives has recorded
-// a local change, a scan records what stands there since with the counts of the device itself alone.
-func isOnTop(own *part.Record, version [][2]uint64, number uint64) bool {
+// topsAt says of what the next scan of a member records on which versions it is; where that isn't known, the two ways in which it may be.
+func (r *reader) topsAt(member int) []isOnTop {
+	at := r.at(member)
 	switch {
-	case own == nil:
-		return false
-	case own.Invalid:
-		return !part.CountsOthers(version, number)
+	case at == nil:
+		return nil
+	case at.Own == nil:
+		return []isOnTop{onVersion(nil)}
+	case !at.Own.Invalid:
+		return []isOnTop{onVersion(at.Own.Version)}
+	case at.Disk == nil: // a deletion on top of a local change gets no version, so Syncthing takes what the others have
+		return []isOnTop{onVersion(nil)}
 	}
-	return part.IsAtMost(version, own.Version)
+	return r.topsOfLocal(member, at.Own.Local)
+}
+
+// onVersion is on top of what this version is on top of, or is.
+func onVersion(mine [][2]uint64) isOnTop {
+	return func(version [][2]uint64) bool { return part.IsAtMost(version, mine) }
+}
+
+// topsOfLocal says the same of a change on top of a local change with this version. Syncthing 1.19 drops what that counts of other devices. 1.29 does
+// so only once the folder sends, too. Of versions between nobody tried which. A part of an older program doesn't have the local change's version.
+func (r *reader) topsOfLocal(member int, local [][2]uint64) []isOnTop {
+	one := r.folder.Members[member]
+	dropping, keeping := func(version [][2]uint64) bool { return !part.CountsOthers(version, one.Number) }, onVersion(local)
+	switch runs := one.Head.Runs; {
+	case strings.HasPrefix(runs, firstTried) || kindOf(one) != receiveOnly:
+		return []isOnTop{dropping}
+	case len(local) == 0:
+		return []isOnTop{dropping, func([][2]uint64) bool { return true }}
+	case isFrom(runs, firstThatKeeps):
+		return []isOnTop{keeping}
+	}
+	return []isOnTop{dropping, keeping}
 }
 
 // isAlone says whether a member recorded a change that no other device has.
@@ -83,7 +119,10 @@ const noCopies = ". Where the folder's 'Max Conflicts' is 0 it keeps no copy: sa
 // lateAdvice says what a scan does with what stands on the disk of a device, where others have what its version lacks; nothing where they
 // have nothing of that kind. A device that only receives keeps its own where the others have deleted theirs.
 func lateAdvice(one *Fault, file *File, at string, named labels) string {
-	told := "start Syncthing on " + at + " and 'Rescan': "
+	told, takes := "start Syncthing on "+at+" and 'Rescan': ", "Syncthing then takes"
+	if one.mayStay {
+		takes = "what the version there does isn't known. Syncthing 1.29 may leave what stands there as a local change. 1.19 takes"
+	}
 	switch {
 	case one.late == notLate || one.late == lateDeletion && (one.Kind == receiveOnly || one.Cause == Back):
 		return ""
@@ -93,10 +132,10 @@ func lateAdvice(one *Fault, file *File, at string, named labels) string {
 		return told + file.say("the change goes before the deletion, and then ", "the changes go before the deletions, and then ") + file.toAll(one.Device, named) +
 			file.say(". If it isn't wanted, first delete the file there", ". If they aren't wanted, first delete the files there") + " while Syncthing is stopped"
 	case one.Kind == receiveOnly && one.hasNoCopy:
-		return told + "Syncthing then takes what the others have, and of a symlink or a directory that stands there it keeps no copy: save first what is " +
+		return told + takes + " what the others have, and of a symlink or a directory that stands there it keeps no copy: save first what is " +
 			"to stay. It puts nothing in place of a directory that isn't empty"
 	case one.Kind == receiveOnly:
-		return told + "Syncthing then takes what the others have, and keeps what stands there as " +
+		return told + takes + " what the others have, and keeps what stands there as " +
 			file.say("a conflict copy, a local addition", "conflict copies, local additions") + noCopies
 	}
 	told += "what stands there is then in conflict with what the others have. Syncthing " + file.conflicting(one.hasNoCopy)

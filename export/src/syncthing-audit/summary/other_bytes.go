@@ -65,7 +65,7 @@ func otherBytesAdvice(one *Fault, file *File, at string, named labels) string {
 func whenToMend(one *Fault, file *File, at string, named labels) string {
 	it := file.say("it", "them")
 	switch {
-	case one.isSeen && (one.isRival || one.late == lateChange):
+	case one.isSeen && (one.isRival || one.late == lateChange && !one.mayStay):
 		return "before Syncthing scans there (the scan takes these bytes for a change, in conflict with what the others have), "
 	case one.isSeen && one.Kind == receiveOnly:
 		return "before Syncthing scans there (the scan takes these bytes for a local change), "

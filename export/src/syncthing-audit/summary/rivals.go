@@ -18,7 +18,7 @@ func (f *File) noteRivals() {
 		one := &f.Faults[place]
 		switch {
 		case f.isOutdone(one, scanned):
-			one.late, one.isDue = lateChange, false
+			one.late, one.mayStay, one.isDue = lateChange, false, false
 		case one.Cause == Missing && one.late == lateChange && f.isMissingOnAll():
 			one.late = notLate
 		}

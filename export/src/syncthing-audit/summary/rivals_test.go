@@ -80,18 +80,6 @@ func linkRecorded() *part.Name {
 	return made
 }
 
-// local gives what a device has whose record is a local change; a part has no version of such a one.
-func local(one *part.Name) *part.Name {
-	one.Own.Invalid, one.Own.Version = true, nil
-	return one
-}
-
-// by gives a record the version of one change of a device.
-func by(number uint64, one *part.Name) *part.Name {
-	one.Own.Version = [][2]uint64{{number, 1}}
-	return one
-}
-
 // scannedByBoth are rows of a laptop and a server, of the kind given, of which scans record different things; which of them has another mode on its
 // disk; what is told, and what isn't.
 var scannedByBoth = []struct {
@@ -121,18 +109,6 @@ var scannedByBoth = []struct {
 		"keeps the one that was modified later (a symlink counts as of 1970; of two symlinks it keeps either), and the other one as a conflict copy only if it is a file", "goes to all"},
 	{"missing, and missing where it is behind", "", []*part.Name{with(file(2, 2), absent), with(file(1, 1), absent)}, "StoreDiffers 1,RecordDiffers 2,StoreDiffers 2", 0,
 		"mounted on server, before Syncthing starts there: a scan takes it for deleted, and then all devices delete it", "the other devices keep it"},
-	{"changed again after a local change", receiveOnly, []*part.Name{file(1, 1), local(changedTo(7))}, "LocalOnly 2,StoreDiffers 2", 0,
-		"'Rescan': Syncthing then takes what the others have, and keeps what stands there as a conflict copy, a local addition", "as a local one"},
-	{"changed again after a local change of what the device itself changed last", receiveOnly, []*part.Name{by(2, file(1, 1)), local(changedTo(7))}, "LocalOnly 2,StoreDiffers 2", 0,
-		"'Rescan': the change stays there as a local one", "takes what the others have"},
-	{"missing after a local change of what the device itself changed last", receiveOnly, []*part.Name{by(2, file(1, 1)), local(with(file(2, 2), absent))}, "LocalOnly 2,StoreDiffers 2", 0,
-		"After a 'Rescan', 'Revert Local Changes' there brings it back", "the other devices keep it"},
-	{"back after a local deletion", receiveOnly, []*part.Name{file(1, 1), local(with(changedTo(7), again))}, "LocalOnly 2,StoreDiffers 2", 0,
-		"'Rescan': Syncthing then takes what the others have, and keeps what stands there as a conflict copy, a local addition", "for a new file"},
-	{"missing after a local change", receiveOnly, []*part.Name{file(1, 1), local(with(file(2, 2), absent))}, "LocalOnly 2,StoreDiffers 2", 0,
-		"the other devices keep it, and Syncthing brings what they have to server", "After a 'Rescan'"},
-	{"missing after a local change of what is deleted", receiveOnly, []*part.Name{deletedAfter(), local(with(file(2, 2), absent))}, "LocalOnly 2,StoreDiffers 2", 0,
-		"start Syncthing on server and 'Rescan': the other devices have deleted it, too", "brings it back"},
 	{"other bytes of a local change", receiveOnly, []*part.Name{file(1, 1), local(with(file(2, 2), rotten))}, "LocalOnly 2,StoreDiffers 2", 0,
 		"Syncthing won't repair it: put the bytes back that server recorded, from old versions or backups", "copy it from laptop"},
 	{"another mode where it is behind", "", []*part.Name{file(2, 2), file(1, 1)}, "RecordDiffers 2", 2,

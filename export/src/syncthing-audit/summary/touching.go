@@ -5,16 +5,24 @@ import (
 	"strings"
 )
 
-// firstThatKeeps is the first Syncthing 1 of which it was seen that it keeps the owner and the attributes in a file's record, where it scans a
-// change of the file and its own scans look at none.
+// firstThatKeeps is the first Syncthing 1 of which it was seen that it keeps more of a file's record, where it scans a change of the file: the owner
+// and the attributes, where its own scans look at none, and of a local change what its version counts of other devices.
 const firstThatKeeps = 29
+
+// firstTried begins the version of the Syncthing of which it was seen that it keeps neither.
+const firstTried = "v1.19."
+
+// isFrom says whether a version of Syncthing is this minor one or a later one of Syncthing 1.
+func isFrom(version string, minor int) bool {
+	var is int
+	_, err := fmt.Sscanf(version, "v1.%d.", &is)
+	return err == nil && is >= minor
+}
 
 // mayForget says whether a scan of a device may record a changed file without owner and attributes. Syncthing 1.19 knows of none. Of a device
 // whose version isn't known that isn't known either.
 func (f *File) mayForget(device string) bool {
-	var minor int
-	_, err := fmt.Sscanf(f.runs[device], "v1.%d.", &minor)
-	return !f.areWide[device] && (err != nil || minor < firstThatKeeps)
+	return !f.areWide[device] && !isFrom(f.runs[device], firstThatKeeps)
 }
 
 // toTouch gives on which of several devices with the same bytes the file is to be touched: on one that keeps owner and attributes, where
@@ -36,7 +44,7 @@ func (f *File) lostByTouch(devices []string, named labels) string {
 			continue
 		}
 		forgetting = append(forgetting, one)
-		if !strings.HasPrefix(f.runs[one], "v1.19.") {
+		if !strings.HasPrefix(f.runs[one], firstTried) {
 			record = " may record no owners and attributes"
 		}
 	}
