@@ -35,12 +35,24 @@ class DataElsewhere(Exporting):
         for ran in (self.part_of_two()[1], self.check(), self.part_of_two("--begin")[1]):
             self.assertEqual(ran.returncode, 2, ran.stderr)
             self.assertIn(f"{self.two.home}: no index {INDEX}", ran.stderr)
-            self.assertIn("name that to 'part' as --data DIR: 'syncthing --paths' says where it is", ran.stderr)
+            self.assertIn("name that behind the home as --data DIR ('run' has no such flag): 'syncthing --paths' says where it is", ran.stderr)
 
     def test_a_part_with_the_database_named(self):
         path, ran = self.part_of_two("--data", self.two.data)
         self.assertEqual(ran.returncode, 0, ran.stderr)
         self.assertEqual(self.check_parts([self.part(self.one), path]).stdout.splitlines()[0], "settled")
+
+    def test_homes_with_the_database_named(self):
+        """'check' and 'export' read the second home's database where the flag behind it says it is, and the first one's at its home."""
+        homes = ["--home", self.one.home, "--home", self.two.home, "--data", self.two.data]
+        ran = run([self.program, "check", *homes, "--lines", "--syncaudit", self.auditor])
+        self.assertEqual((ran.returncode, ran.stdout.splitlines()[:1]), (0, ["settled"]), ran.stderr)
+        documents = self.room / "documents"
+        ran = run([self.program, "export", *homes, "--into", documents])
+        self.assertEqual((ran.returncode, (documents / "cut-0001.json").exists()), (0, True), ran.stderr)
+        ran = run([self.program, "check", "--home", self.one.home, "--data", self.two.data, "--home", self.two.home])
+        self.assertEqual(ran.returncode, 2)
+        self.assertIn(f"{self.two.home}: no index {INDEX}", ran.stderr)
 
     def run_on(self, home):
         """Audits the devices while they run, the second one by this home."""

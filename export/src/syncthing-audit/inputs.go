@@ -83,8 +83,8 @@ func openInputs(asked options) (*inputs, error) {
 
 func (i *inputs) open(asked options) error {
 	var homes []*device.Home
-	for _, dir := range asked.homes {
-		home, err := device.Open(dir, "")
+	for place, dir := range asked.homes {
+		home, err := device.Open(dir, asked.data[place])
 		if err != nil {
 			return err
 		}

@@ -78,12 +78,12 @@ func beginPart(asked options, write writing, output, log io.Writer) error {
 
 // openLive opens the home of a device that may run. Where its database isn't there and nobody says where it is, Syncthing is asked.
 func openLive(asked options, log io.Writer) (*source, error) {
-	if asked.data == "" && !device.HasIndex(asked.homes[0]) {
+	if asked.data[0] == "" && !device.HasIndex(asked.homes[0]) {
 		about, err := device.ReadConfig(asked.homes[0])
 		if err != nil {
 			return nil, err
 		}
-		if asked.data, err = rest.DataDirectory(asked.homes[0], about.GUI); err != nil {
+		if asked.data[0], err = rest.DataDirectory(asked.homes[0], about.GUI); err != nil {
 			fmt.Fprintf(log, "syncthing-audit: Syncthing can't be asked where its database is: %v\n", err)
 		}
 	}

@@ -44,7 +44,7 @@ func runPart(words []string, output, log io.Writer) (int, error) {
 func readPartOptions(words []string) (options, error) {
 	asked, err := readOptions("part", words, func(flags *flag.FlagSet, read *options) {
 		flags.StringVar(&read.output, "o", "", "")
-		flags.StringVar(&read.data, "data", "", "")
+		flags.Var(databaseOf{read}, "data", "")
 		flags.BoolVar(&read.about, "about", false, "")
 		flags.BoolVar(&read.begin, "begin", false, "")
 		flags.BoolVar(&read.end, "end", false, "")
@@ -58,9 +58,6 @@ func readPartOptions(words []string) (options, error) {
 	}
 	if err == nil && len(asked.homes) > 1 {
 		err = &wrongUsage{"a part is made of one --home"}
-	}
-	if err == nil && asked.data != "" && len(asked.homes) == 0 {
-		err = &wrongUsage{"--data is for a --home whose database is elsewhere: name both"}
 	}
 	if err == nil {
 		err = asked.checkLooks()
@@ -99,7 +96,7 @@ type source struct {
 
 // openSource opens the home, and those of its folders that are asked for, or all.
 func openSource(open func(dir, data string) (*device.Home, error), asked options, log io.Writer) (*source, error) {
-	home, err := open(asked.homes[0], asked.data)
+	home, err := open(asked.homes[0], asked.data[0])
 	if err != nil {
 		return nil, err
 	}

@@ -24,8 +24,12 @@ func TestWrongFlags(t *testing.T) {
 		"part --begin --slice 1/0":  "invalid value \"1/0\" for flag --slice: a slice is K/N",
 		"part --end --slice":        "--slice needs a word behind it",
 		"part --home a --jobs none": "invalid value \"none\" for flag --jobs: ",
-		"part --data d -o x":        "--data is for a --home whose database is elsewhere: name both",
-		"check --data d x":          "there is no flag --data",
+		"part --data d -o x":        "invalid value \"d\" for flag --data: it stands behind the --home whose database is there",
+		"check --data d --home a":   "invalid value \"d\" for flag --data: it stands behind the --home whose database is there",
+		"check p --data d":          "invalid value \"d\" for flag --data: it stands behind the --home whose database is there",
+		"check --home a --data ":    "invalid value \"\" for flag --data: empty",
+		"export --home a --home b --data c --data d --into x": "invalid value \"d\" for flag --data: the database of b is named already",
+		"run --data d x:": "there is no flag --data",
 	} {
 		var log strings.Builder
 		status := run(strings.Split(words, " "), io.Discard, &log)

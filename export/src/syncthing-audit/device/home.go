@@ -94,7 +94,7 @@ func (h *Home) database() string { return filepath.Join(h.dataDirectory(), datab
 // noIndex says that there is no index, and what can be done where Syncthing has it elsewhere.
 func (h *Home) noIndex() error {
 	return fmt.Errorf("%s: no index %s, as Syncthing 1 makes it on its first start (Syncthing 2's isn't read). Where Syncthing has its database "+
-		"in another directory, as by its own --data, name that to 'part' as --data DIR: 'syncthing --paths' says where it is", h.dataDirectory(), databaseName)
+		"in another directory, as by its own --data, name that behind the home as --data DIR ('run' has no such flag): 'syncthing --paths' says where it is", h.dataDirectory(), databaseName)
 }
 
 // HasIndex says whether a home has its index beside its configuration.

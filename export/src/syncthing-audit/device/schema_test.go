@@ -178,7 +178,7 @@ func TestAnIndexElsewhere(t *testing.T) {
 	for _, open := range []func(dir, data string) (*Home, error){Open, OpenLive} {
 		for given, named := range map[string]string{"": home, data: data} {
 			_, err := open(home, given)
-			if err == nil || !strings.HasPrefix(err.Error(), named+": no index "+databaseName) || !strings.Contains(err.Error(), "to 'part' as --data DIR") {
+			if err == nil || !strings.HasPrefix(err.Error(), named+": no index "+databaseName) || !strings.Contains(err.Error(), "name that behind the home as --data DIR") {
 				t.Errorf("%q: %v", given, err)
 			}
 		}
