@@ -4,10 +4,15 @@
     export/test/data_elsewhere.py
 """
 
+import os
+import shutil
+import time
+
 from exporting import Exporting, main, run
-from syncthing import version_of
+from syncthing import version_of, wait_until_in_step
 
 INDEX = "index-v0.14.0.db"
+DAYS_AGO = time.time() - 3 * 24 * 60 * 60
 
 
 class DataElsewhere(Exporting):
@@ -82,6 +87,68 @@ class DataElsewhere(Exporting):
         self.assertEqual((refused.returncode, look.returncode), (2, 0), look.stderr)
         self.assertIn("Syncthing runs on ", refused.stderr)
         self.assertEqual((ran.returncode, ran.stdout.splitlines()[:1]), (0, ["settled"]), ran.stderr)
+
+
+class OldIndex(Exporting):
+    """Two devices. An old index is still beside the second one's configuration, and its Syncthing writes to one elsewhere."""
+
+    note = "If Syncthing was started there since then, it has its database elsewhere, and this answer isn't about that: name it as --data DIR"
+
+    @classmethod
+    def setUpClass(cls):
+        super().setUpClass()
+        cls.two.data = cls.room / "two" / "data"
+        cls.two.data.mkdir()
+        shutil.copytree(cls.two.home / INDEX, cls.two.data / INDEX)
+        for path in (cls.two.home / INDEX).iterdir():
+            os.utime(path, (DAYS_AGO, DAYS_AGO))
+        cls.two.start()
+        (cls.two.files / "text").write_text("hello again")
+        cls.two.scan()
+        cls.two.stop()
+        cls.homes = ["--home", cls.one.home, "--home", cls.two.home]
+
+    def told(self, *words):
+        """What a person reads of both devices."""
+        ran = run([self.program, "check", *words, "--syncaudit", self.auditor])
+        return ran.returncode, " ".join(ran.stdout.split())
+
+    def test_the_answer_says_that_an_index_may_be_old(self):
+        status, told = self.told(*self.homes)
+        self.assertEqual((status, told.count(self.note)), (1, 1), told)
+        self.assertIn("changed on the disk since the last scan", told)
+        self.assertIn(f"maybe an old index: that of {self.two.id[:7]} was written last 20", told)
+        parts = [self.room / "one.part", self.room / "two.part"]
+        ran = [run([self.program, "part", "--home", one.home, "-o", path]) for one, path in zip(self.devices, parts)]
+        self.assertEqual([one.returncode for one in ran], [0, 0])
+        self.assertIn("name that as --data DIR. If config.xml was only edited, all is well", ran[1].stderr)
+        self.assertNotIn("--data", ran[0].stderr)
+        self.assertEqual(self.told(*parts), (status, told))
+
+    def test_the_database_that_is_named_is_not_doubted(self):
+        status, told = self.told(*self.homes, "--data", self.two.data)
+        self.assertEqual((status, told.count("maybe an old index"), told.count("changed on the disk")), (1, 0, 0), told)
+
+    def test_what_runs_and_what_is_refused(self):
+        """Syncthing says when it was started, and no file of the old index is as new. One of 1.29 also says where its database is. Once the other
+        device knows more of it than its old index has, no answer is given, and the refusal tells why that may be."""
+        self.start()
+        self.two.scan()
+        wait_until_in_step(self.one, self.two)
+        try:
+            ran = run([self.program, "run", self.one.home, self.two.home, "--still", "0", "--lines", "--syncaudit", self.auditor])
+            look = run([self.program, "part", "--begin", "--home", self.one.home, "-o", self.room / "look.part"])
+        finally:
+            self.stop()
+        self.assertEqual((look.returncode, "--data" in look.stderr), (0, False), look.stderr)
+        if version_of(self.two.program).startswith("syncthing v1.19"):
+            self.assertEqual(ran.returncode, 2)
+            self.assertIn("Syncthing runs, and it hasn't written to the index there since it was started: it has its database elsewhere", ran.stderr)
+        else:
+            self.assertEqual((ran.returncode, ran.stdout.splitlines()[:1], "maybe an old index" in ran.stdout), (0, ["settled"], False), ran.stderr)
+        ran = run([self.program, "check", *self.homes, "--syncaudit", self.auditor])
+        self.assertEqual((ran.returncode, ran.stdout), (2, ""))
+        self.assertIn(f"maybe an old index: device {self.two.id}, written 20", ran.stderr)
 
 
 if __name__ == "__main__":

@@ -56,6 +56,7 @@ func beginPart(asked options, write writing, output, log io.Writer) error {
 		return err
 	}
 	defer from.close()
+	from.tellDoubt(log)
 	glance, over, err := firstLook(from.home, from.read)
 	if err != nil {
 		return err
@@ -76,18 +77,42 @@ func beginPart(asked options, write writing, output, log io.Writer) error {
 	return err
 }
 
-// openLive opens the home of a device that may run. Where its database isn't there and nobody says where it is, Syncthing is asked.
+// openLive opens the home of a device that may run. Where its database isn't there and nobody says where it is, Syncthing is asked. Where it is
+// there, Syncthing is asked when it was started: its own index was written since then.
 func openLive(asked options, log io.Writer) (*source, error) {
-	if asked.data[0] == "" && !device.HasIndex(asked.homes[0]) {
-		about, err := device.ReadConfig(asked.homes[0])
-		if err != nil {
-			return nil, err
-		}
-		if asked.data[0], err = rest.DataDirectory(asked.homes[0], about.GUI); err != nil {
-			fmt.Fprintf(log, "syncthing-audit: Syncthing can't be asked where its database is: %v\n", err)
+	if asked.data[0] != "" {
+		return openSource(device.OpenLive, asked, log)
+	}
+	home := asked.homes[0]
+	about, err := device.ReadConfig(home)
+	if err != nil {
+		return nil, err
+	}
+	isOwn, has := false, device.HasIndex(home)
+	if has {
+		started, err := rest.Started(home, about.GUI)
+		if isOwn = err == nil && device.IsWrittenSince(home, started); err != nil || isOwn {
+			return openOwn(asked, isOwn, log)
 		}
 	}
+	asked.data[0], err = rest.DataDirectory(home, about.GUI)
+	if err != nil && has {
+		return nil, fmt.Errorf("refused: %s: Syncthing runs, and it hasn't written to the index there since it was started: it has its database elsewhere. "+
+			"Name that behind the home as --data DIR. It can't be asked where it is: %w", home, err)
+	}
+	if err != nil {
+		fmt.Fprintf(log, "syncthing-audit: Syncthing can't be asked where its database is: %v\n", err)
+	}
 	return openSource(device.OpenLive, asked, log)
+}
+
+// openOwn opens a home with the index that is beside its configuration. Where Syncthing has written to that since it was started, it is its own.
+func openOwn(asked options, isOwn bool, log io.Writer) (*source, error) {
+	made, err := openSource(device.OpenLive, asked, log)
+	if err == nil && isOwn {
+		made.home.State, made.read.Index = nil, nil
+	}
+	return made, err
 }
 
 // heedInput has the end of standard input end the program, as a hangup does. Nobody may read standard error by then.

@@ -78,6 +78,7 @@ func onePart(asked options, write writing, log io.Writer) error {
 		return err
 	}
 	defer from.close()
+	from.tellDoubt(log)
 	for _, one := range from.read.Others {
 		if len(asked.folders) == 0 {
 			fmt.Fprintf(log, "syncthing-audit: the part is without folder %s: %s\n", shell.Folder(one.ID, one.Label), join.WhyAway(one))
@@ -92,6 +93,13 @@ type source struct {
 	inputs
 	home *device.Home
 	read *gather.Device
+}
+
+// tellDoubt says that the index may not be Syncthing's present one.
+func (s *source) tellDoubt(log io.Writer) {
+	if why := s.home.Doubt(); why != "" {
+		fmt.Fprintf(log, "syncthing-audit: %s\n", why)
+	}
 }
 
 // openSource opens the home, and those of its folders that are asked for, or all.

@@ -45,6 +45,7 @@ type Home struct {
 	Copied Copied // of the index of a home whose Syncthing may run
 
 	Syncthing  string          // the version that was started on it last
+	State      *part.Index     // what may be amiss with its index
 	attributes map[string]bool // folders in which scans look at them
 
 	lock    *os.File
@@ -73,7 +74,11 @@ func openWith(dir, data string, open func(*Home) error) (*Home, error) {
 	if opened.attributes, err = attributesIn(filepath.Join(dir, "config.xml")); err != nil {
 		return nil, err
 	}
-	if err := open(opened); err != nil {
+	err = open(opened)
+	if err == nil {
+		err = opened.noteAge()
+	}
+	if err != nil {
 		opened.Close()
 		return nil, err
 	}

@@ -7,6 +7,7 @@ import (
 	"golang.org/x/exp/slices"
 	"syncthing-audit/choice"
 	"syncthing-audit/join"
+	"syncthing-audit/part"
 	"syncthing-audit/spill"
 )
 
@@ -30,6 +31,7 @@ type Device struct {
 	Runs   string    // the version of Syncthing that was started there last, as far as its part tells
 	Made   time.Time // when its part was made
 	From   string    // the home or file that it was read from
+	Index  *part.Index
 
 	Unasked  []Unasked // folders of it that weren't asked for
 	IsSilent bool      // whether its part doesn't say which folders it hasn't

@@ -28,7 +28,8 @@ type Folder interface {
 // Device is a device that is to be read.
 type Device struct {
 	ID, Name string
-	Runs     string   // the version of Syncthing that was started there last
+	Runs     string // the version of Syncthing that was started there last
+	Index    *part.Index
 	Folders  []Folder // rising by id
 	Names    choice.Names
 	Bytes    bool // the bytes of files, too, in memory alone
@@ -40,7 +41,7 @@ type Device struct {
 // Head gives the head of the device's part.
 func (d *Device) Head() *part.Head {
 	made := &part.Head{Device: d.ID, Name: d.Name, Runs: d.Runs, Made: time.Now().UTC().Truncate(time.Second),
-		Names: d.Names, Folders: []part.Folder{}, Look: d.Look, Others: append([]part.Other{}, d.Others...)}
+		Names: d.Names, Folders: []part.Folder{}, Look: d.Look, Index: d.Index, Others: append([]part.Other{}, d.Others...)}
 	made.Version = made.DueVersion()
 	for _, one := range d.Folders {
 		made.Folders = append(made.Folders, one.Folder())

@@ -45,7 +45,14 @@ type Head struct {
 	choice.Names           // those that were read
 	Folders      []Folder  `json:"folders"`        // rising by id
 	Look         *Look     `json:"look,omitempty"` // of a device that may run
-	Others       []Other   `json:"other_folders"`  // rising by id; nothing where an older program made the part, which doesn't say
+	Index        *Index    `json:"index,omitempty"`
+	Others       []Other   `json:"other_folders"` // rising by id; nothing where an older program made the part, which doesn't say
+}
+
+// Index is what may be amiss with the index of which a part was made: it isn't Syncthing's present one, say.
+type Index struct {
+	Written    time.Time `json:"written"`    // when a file of it changed last
+	Configured time.Time `json:"configured"` // when config.xml changed last, which was after that
 }
 
 // Other is a folder that the device has by its configuration, and that its part hasn't, since it wasn't asked for or isn't there.

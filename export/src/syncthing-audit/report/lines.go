@@ -6,6 +6,7 @@ import (
 	"io"
 	"strconv"
 	"strings"
+	"time"
 	"unicode/utf8"
 
 	"syncthing-audit/ask"
@@ -72,6 +73,16 @@ func Rest(to io.Writer, answer *finding.Answer) {
 		fmt.Fprintf(to, "left out: folder %s, device %s: %s\n", one.Folder, one.Device, one.Why)
 	}
 	unasked(to, answer)
+	for _, one := range answer.Devices {
+		if one.Index != nil {
+			fmt.Fprintf(to, "maybe an old index: on %d, %s\n", one.Number, ageOf(one.Index))
+		}
+	}
+}
+
+// ageOf says why an index may be an old one.
+func ageOf(index *part.Index) string {
+	return fmt.Sprintf("written %s, before config.xml was changed %s", index.Written.UTC().Format(time.RFC3339), index.Configured.UTC().Format(time.RFC3339))
 }
 
 // own prints of a folder that its device shares with nobody that this is so, and whether other devices have theirs of the same id.
@@ -216,6 +227,11 @@ func Refusals(to io.Writer, answer *finding.Answer) {
 		}
 	}
 	tellRefusals(to, answer.Refusals)
+	for _, one := range answer.Devices {
+		if one.Index != nil {
+			fmt.Fprintf(to, "syncthing-audit: maybe an old index: device %s, %s. Where Syncthing has its database elsewhere, name it as --data DIR\n", one.ID, ageOf(one.Index))
+		}
+	}
 	for _, one := range answer.Refusals {
 		add(one.Kind)
 	}

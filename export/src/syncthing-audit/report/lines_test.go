@@ -4,6 +4,7 @@ import (
 	"fmt"
 	"strings"
 	"testing"
+	"time"
 
 	"syncthing-audit/choice"
 	"syncthing-audit/finding"
@@ -228,5 +229,22 @@ not heard of: docs on 2 of 1: 4 names
 	folder.Live = &finding.Live{}
 	if verdict := Verdict(&finding.Answer{Folders: []*finding.Folder{folder}}); verdict != "settled" {
 		t.Errorf("all still: %s", verdict)
+	}
+}
+
+// An index that may be an old one has a line with its times, whatever the verdict is.
+func TestLineOfAnIndexThatMayBeOld(t *testing.T) {
+	var written strings.Builder
+	old := &part.Index{Written: time.Unix(1600000000, 0), Configured: time.Unix(1600000060, 0)}
+	Lines(&written, &finding.Answer{Folders: []*finding.Folder{folderOf("docs", 2)}, Devices: []finding.Device{{Number: 1}, {Number: 2, Index: old}}})
+	var refused strings.Builder
+	Refusals(&refused, &finding.Answer{Devices: []finding.Device{{ID: "A"}, {ID: "B", Index: old}}, Refusals: []finding.Refusal{{Folder: "docs", Why: "odd"}}})
+	if !strings.HasSuffix(refused.String(), "syncthing-audit: maybe an old index: device B, written 2020-09-13T12:26:40Z, before config.xml was changed "+
+		"2020-09-13T12:27:40Z. Where Syncthing has its database elsewhere, name it as --data DIR\n") || strings.Contains(refused.String(), "device A") {
+		t.Error(refused.String())
+	}
+	const told = "\nmaybe an old index: on 2, written 2020-09-13T12:26:40Z, before config.xml was changed 2020-09-13T12:27:40Z\n"
+	if !strings.HasPrefix(written.String(), "settled\n") || strings.Count(written.String(), "maybe an old") != 1 || !strings.HasSuffix(written.String(), told) {
+		t.Error(written.String())
 	}
 }

@@ -17,6 +17,7 @@ import (
 	"os"
 	"path/filepath"
 	"strings"
+	"time"
 
 	"github.com/syncthing/syncthing/lib/config"
 	"syncthing-audit/shell"
@@ -25,7 +26,7 @@ import (
 // Scan has the Syncthing of a home scan a folder, and waits until that is done.
 func Scan(home string, about config.GUIConfiguration, folder, label string) error {
 	called := shell.Folder(folder, label)
-	answer, err := ask(home, about, http.MethodPost, "db/scan?"+url.Values{"folder": {folder}}.Encode())
+	answer, err := ask(home, about, http.MethodPost, "db/scan?"+url.Values{"folder": {folder}}.Encode(), forAsLongAsItTakes)
 	if err != nil {
 		return fmt.Errorf("folder %s isn't scanned: does Syncthing run there? %w", called, err)
 	}
@@ -42,25 +43,16 @@ func Scan(home string, about config.GUIConfiguration, folder, label string) erro
 	return nil
 }
 
-// mostOfPaths is how much of an answer is read that says where a Syncthing has its files.
-const mostOfPaths = 1 << 20
+// Syncthing answers a question at once, and a scan takes its time.
+const (
+	atOnce             = 20 * time.Second
+	forAsLongAsItTakes = 0
+)
 
 // DataDirectory gives the directory in which the Syncthing of a home has its database.
 func DataDirectory(home string, about config.GUIConfiguration) (string, error) {
-	answer, err := ask(home, about, http.MethodGet, "system/paths")
-	if err != nil {
-		return "", err
-	}
-	defer answer.Body.Close()
-	switch answer.StatusCode {
-	case http.StatusOK:
-	case http.StatusNotFound:
-		return "", errors.New("this Syncthing doesn't say it, as 1.19 doesn't")
-	default:
-		return "", fmt.Errorf("Syncthing answers %s", answer.Status)
-	}
 	var paths map[string]string
-	if err := json.NewDecoder(io.LimitReader(answer.Body, mostOfPaths)).Decode(&paths); err != nil {
+	if err := get(home, about, "system/paths", &paths); err != nil {
 		return "", err
 	}
 	if !filepath.IsAbs(paths["baseDir-data"]) {
@@ -69,8 +61,41 @@ func DataDirectory(home string, about config.GUIConfiguration) (string, error) {
 	return paths["baseDir-data"], nil
 }
 
+// Started says when the Syncthing of a home was started.
+func Started(home string, about config.GUIConfiguration) (time.Time, error) {
+	var status struct {
+		StartTime time.Time `json:"startTime"`
+	}
+	if err := get(home, about, "system/status", &status); err != nil {
+		return time.Time{}, err
+	}
+	if status.StartTime.IsZero() {
+		return time.Time{}, errors.New("Syncthing doesn't say when it was started")
+	}
+	return status.StartTime, nil
+}
+
+// mostOfAnswer is how much is read of an answer.
+const mostOfAnswer = 1 << 20
+
+// get reads what the Syncthing of a home says of itself.
+func get(home string, about config.GUIConfiguration, what string, into any) error {
+	answer, err := ask(home, about, http.MethodGet, what, atOnce)
+	if err != nil {
+		return err
+	}
+	defer answer.Body.Close()
+	switch answer.StatusCode {
+	case http.StatusOK:
+		return json.NewDecoder(io.LimitReader(answer.Body, mostOfAnswer)).Decode(into)
+	case http.StatusNotFound:
+		return errors.New("this Syncthing doesn't say it, as 1.19 doesn't")
+	}
+	return fmt.Errorf("Syncthing answers %s", answer.Status)
+}
+
 // ask asks the Syncthing of a home.
-func ask(home string, about config.GUIConfiguration, method, what string) (*http.Response, error) {
+func ask(home string, about config.GUIConfiguration, method, what string, most time.Duration) (*http.Response, error) {
 	scheme := "http"
 	if about.UseTLS() {
 		scheme = "https"
@@ -80,7 +105,7 @@ func ask(home string, about config.GUIConfiguration, method, what string) (*http
 		return nil, err
 	}
 	asked.Header.Set("X-API-Key", about.APIKey)
-	return (&http.Client{Transport: transport(home, about)}).Do(asked)
+	return (&http.Client{Transport: transport(home, about), Timeout: most}).Do(asked)
 }
 
 // transport gives how the Syncthing of a home is spoken to: at its own address alone, and with its own certificate.

@@ -9,6 +9,7 @@ import (
 	"path/filepath"
 	"strings"
 	"testing"
+	"time"
 
 	"github.com/syncthing/syncthing/lib/config"
 )
@@ -19,6 +20,8 @@ func answering(t *testing.T, isSecure bool) (*httptest.Server, config.GUIConfigu
 		switch {
 		case asked.Method == http.MethodGet && asked.URL.Path == "/rest/system/paths" && asked.Header.Get("X-API-Key") == "key":
 			io.WriteString(to, `{"baseDir-config":"/srv/config","baseDir-data":"/srv/data"}`)
+		case asked.Method == http.MethodGet && asked.URL.Path == "/rest/system/status" && asked.Header.Get("X-API-Key") == "key":
+			io.WriteString(to, `{"startTime":"2026-11-28T10:00:00+01:00","uptime":7}`)
 		case asked.Method != http.MethodPost || asked.URL.Path != "/rest/db/scan":
 			http.Error(to, "odd", http.StatusNotFound)
 		case asked.Header.Get("X-API-Key") != "key":
@@ -90,6 +93,26 @@ func TestDataDirectory(t *testing.T) {
 		about.RawAddress = server.Listener.Addr().String()
 		if path, err := DataDirectory(t.TempDir(), about); err == nil || path != "" {
 			t.Errorf("%q is taken: %q", said, path)
+		}
+		server.Close()
+	}
+}
+
+// When a Syncthing was started is asked of itself. One that doesn't say it isn't taken for one that does.
+func TestStarted(t *testing.T) {
+	_, about := answering(t, false)
+	if at, err := Started(t.TempDir(), about); err != nil || at.UTC().Format(time.RFC3339) != "2026-11-28T09:00:00Z" {
+		t.Errorf("%v, %v", at, err)
+	}
+	about.APIKey = "x"
+	if at, err := Started(t.TempDir(), about); err == nil {
+		t.Errorf("with another key: %v", at)
+	}
+	for _, said := range []string{"", "{}", `{"startTime":"soon"}`, "[]"} {
+		server := httptest.NewServer(http.HandlerFunc(func(to http.ResponseWriter, _ *http.Request) { io.WriteString(to, said) }))
+		about.RawAddress = server.Listener.Addr().String()
+		if at, err := Started(t.TempDir(), about); err == nil {
+			t.Errorf("%q is taken: %v", said, at)
 		}
 		server.Close()
 	}

@@ -1,11 +1,13 @@
 package summary
 
 import (
+	"encoding/json"
 	"strings"
 	"testing"
 	"time"
 
 	"syncthing-audit/finding"
+	"syncthing-audit/part"
 )
 
 // Versions of Syncthing that this program wasn't tried with are told.
@@ -50,5 +52,20 @@ func TestOldParts(t *testing.T) {
 		if !strings.HasSuffix(written.String(), "on laptop, server\n"+one.told) {
 			t.Errorf("%s\nnot\n%s", written.String(), one.told)
 		}
+	}
+}
+
+// Where an index may be an old one, a person, a program and the lines are told when it was written, and the verdict stays.
+func TestAnIndexThatMayBeOld(t *testing.T) {
+	answer := answerOf(2, func(*finding.Folder) {})
+	answer.Devices[1].Index = &part.Index{Written: time.Unix(started, 0).UTC(), Configured: time.Unix(later, 0).UTC()}
+	const told = "maybe an old index: that of server was written last 2020-09-13 12:26:40 UTC, and config.xml there after that, 2020-09-13 12:27:40 UTC. " +
+		"If Syncthing was started there since then, it has its database elsewhere, and this answer isn't about that: name it as --data DIR"
+	if text := printed(answer); !strings.Contains(text, told) || strings.Contains(text, "that of laptop was written") {
+		t.Error(text)
+	}
+	made, err := json.Marshal(Of(answer).Devices)
+	if err != nil || !strings.Contains(string(made), `"index":{"written":"2020-09-13T12:26:40Z","configured":"2020-09-13T12:27:40Z"}`) || strings.Count(string(made), `"index"`) != 1 {
+		t.Errorf("%s, %v", made, err)
 	}
 }

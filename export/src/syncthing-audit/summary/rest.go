@@ -33,6 +33,7 @@ func (p *printer) rest(s *Summary) {
 	if s.Firm == finding.NotAsked {
 		p.line("not asked: whether what is in step is firm, too: this syncaudit is too old to say so")
 	}
+	p.doubts(s)
 	p.ages(s)
 	p.untried(s)
 	p.line("not compared: %s", strings.Join(s.NotCompared, ", "))
@@ -72,6 +73,17 @@ func (p *printer) ages(s *Summary) {
 	}
 	if len(old) > 0 {
 		p.line("read more than a day ago: %s; what changed on a disk since isn't seen", strings.Join(old, ", "))
+	}
+}
+
+// doubts tells of which devices another index may have been read than Syncthing's present one.
+func (p *printer) doubts(s *Summary) {
+	for _, one := range s.Devices {
+		if one.Index != nil {
+			p.line("maybe an old index: that of %s was written last %s, and config.xml there after that, %s. If Syncthing was started there since then, it "+
+				"has its database elsewhere, and this answer isn't about that: name it as --data DIR. If config.xml was only edited, all is well",
+				p.named.of(one.ID), p.when(one.Index.Written), p.when(one.Index.Configured))
+		}
 	}
 }
 

@@ -8,6 +8,7 @@ import (
 	"syncthing-audit/choice"
 	"syncthing-audit/finding"
 	"syncthing-audit/join"
+	"syncthing-audit/part"
 	"syncthing-audit/shell"
 )
 
@@ -44,8 +45,9 @@ type Device struct {
 	From string    `json:"from"`
 	Runs string    `json:"syncthing,omitempty"` // the version that was started there last
 
-	Prefix Text   `json:"names_that_begin,omitempty"` // only these were read
-	Slice  *Slice `json:"slice,omitempty"`            // only these were read
+	Prefix Text        `json:"names_that_begin,omitempty"` // only these were read
+	Slice  *Slice      `json:"slice,omitempty"`            // only these were read
+	Index  *part.Index `json:"index,omitempty"`            // what may be amiss with it
 	asked  choice.Names
 }
 
@@ -156,7 +158,7 @@ func Of(answer *finding.Answer) *Summary {
 	asked := askedOf(answer)
 	for _, one := range answer.Devices {
 		names := asked[one.ID]
-		made.Devices = append(made.Devices, Device{one.ID, one.Name, one.Made, one.From, one.Runs, Text(names.Prefix), sliceOf(names), names})
+		made.Devices = append(made.Devices, Device{one.ID, one.Name, one.Made, one.From, one.Runs, Text(names.Prefix), sliceOf(names), one.Index, names})
 	}
 	named := made.labels()
 	for _, one := range answer.Folders {

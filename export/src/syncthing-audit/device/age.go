@@ -1,0 +1,68 @@
+package device
+
+import (
+	"errors"
+	"fmt"
+	"os"
+	"path/filepath"
+	"time"
+
+	"syncthing-audit/part"
+)
+
+// mostCoarse is how coarse the times of files may be.
+const mostCoarse = 2 * time.Second
+
+// writtenAt says when a file of an index changed last. Syncthing writes to its index as it starts, and as it is stopped.
+func writtenAt(database string) (time.Time, error) {
+	var last time.Time
+	entries, err := os.ReadDir(database)
+	if err != nil {
+		return last, err
+	}
+	for _, one := range entries {
+		info, err := one.Info()
+		switch {
+		case errors.Is(err, os.ErrNotExist): // a running Syncthing took it away
+		case err != nil:
+			return last, err
+		case info.ModTime().After(last):
+			last = info.ModTime()
+		}
+	}
+	return last, nil
+}
+
+// IsWrittenSince says whether the index that is beside a home's configuration was written at some moment or after it.
+func IsWrittenSince(dir string, moment time.Time) bool {
+	written, err := writtenAt(filepath.Join(dir, databaseName))
+	return err == nil && moment.Sub(written) <= mostCoarse
+}
+
+// noteAge notes when the index was written last where config.xml changed after that.
+func (h *Home) noteAge() error {
+	written, err := writtenAt(h.database())
+	if err != nil {
+		return err
+	}
+	about, err := os.Stat(filepath.Join(h.Dir, "config.xml"))
+	if err != nil {
+		return err
+	}
+	if configured := about.ModTime(); configured.Sub(written) > mostCoarse {
+		h.State = &part.Index{Written: written.UTC(), Configured: configured.UTC()}
+	}
+	return nil
+}
+
+// Doubt says in words that the index may not be Syncthing's present one; nothing where no file's time says so.
+func (h *Home) Doubt() string {
+	if h.State == nil {
+		return ""
+	}
+	return fmt.Sprintf("%s was written last %s, and config.xml after that, %s. If Syncthing was started since then, it has its database elsewhere: name "+
+		"that as --data DIR. If config.xml was only edited, all is well", h.database(), local(h.State.Written), local(h.State.Configured))
+}
+
+// local gives a time as a person reads it.
+func local(when time.Time) string { return when.Local().Format("2006-01-02 15:04:05 MST") }
