@@ -10,6 +10,7 @@ import (
 	"math"
 	"os"
 	"path/filepath"
+	"sync"
 	"syscall"
 	"time"
 
@@ -47,6 +48,8 @@ type Home struct {
 	Syncthing  string          // the version that was started on it last
 	State      *part.Index     // what may be amiss with its index
 	attributes map[string]bool // folders in which scans look at them
+	written    sync.Once       // whether it is known what else writes into folders
+	writers    map[string][]string
 
 	lock    *os.File
 	before  listing // the index before it was copied

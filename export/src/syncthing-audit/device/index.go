@@ -129,7 +129,7 @@ func (i *Index) Folder() part.Folder {
 	made := part.Folder{ID: i.Config.ID, Label: i.Config.Label, Kind: kindOf(i.Config.Type), Path: adapt.Filesystem(i.Config.Filesystem, nil).URI(),
 		Directory: i.directory, IndexID: uint64(i.files.IndexID(protocol.LocalDeviceID)), Max: i.Max(),
 		IgnoresPermissions: i.Config.IgnorePerms, ScansAttributes: i.home.attributes[i.Config.ID], Sharing: i.home.Sharing(i.Config), Views: []part.View{},
-		Paused: i.Config.Paused, PausedDevices: i.home.pausedOf(i.Config), Writers: i.home.writersOf(i.Config),
+		Paused: i.Config.Paused, PausedDevices: i.home.pausedOf(i.Config), Writers: i.home.writersOf(i.Config.ID),
 		Indexed: i.names()}
 	for _, other := range i.Config.Devices {
 		if other.DeviceID == i.home.ID {

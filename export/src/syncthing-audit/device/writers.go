@@ -2,29 +2,115 @@ package device
 
 import (
 	"path/filepath"
+	"sort"
 	"strings"
 
 	"github.com/syncthing/syncthing/lib/config"
 	"github.com/syncthing/syncthing/lib/fs"
+	"github.com/syncthing/syncthing/lib/ignore"
 	"syncthing-audit/adapt"
 	"syncthing-audit/shell"
 )
 
 // writersOf says what else of the device's Syncthing writes into a folder's directory, in words: another folder, which is at it, in it or
 // above it, or the old versions of a folder. By themselves these are in .stversions, which no folder has.
-func (h *Home) writersOf(folder config.FolderConfiguration) []string {
-	var made []string
-	directory := realPath(adapt.Filesystem(folder.Filesystem, nil).URI())
-	for _, one := range h.Config.Folders {
-		if one.Paused {
-			continue
+func (h *Home) writersOf(folder string) []string {
+	h.written.Do(func() { h.writers = h.allWriters() })
+	return h.writers[folder]
+}
+
+// allWriters says so of all folders, by their ids.
+func (h *Home) allWriters() map[string][]string {
+	made := newPlaces(h.Config.Folders)
+	for place, one := range h.Config.Folders {
+		made.each(made.real[place], func(outer int) {
+			if outer != place {
+				made.note(outer, place, "folder ")
+				made.note(place, outer, "folder ")
+			}
+		})
+		if versions := h.versionsOf(one); versions != "" {
+			made.each(realPath(versions), func(outer int) { made.note(outer, place, "the old versions of ") })
 		}
-		other, name := realPath(adapt.Filesystem(one.Filesystem, nil).URI()), shell.Folder(one.ID, one.Label)
-		if one.ID != folder.ID && (isTaken(folder, directory, other) || isTaken(one, other, directory)) {
-			made = append(made, "folder "+name)
+	}
+	return made.words()
+}
+
+// places are the directories of a home's folders. Each is looked up, and each folder's patterns are read, once.
+type places struct {
+	folders  []config.FolderConfiguration
+	real     []string         // without symlinks
+	at       map[string][]int // which folders are at a directory
+	patterns map[int]*ignore.Matcher
+	notes    []map[int]map[string]bool // what each folder writes into another one's directory
+}
+
+func newPlaces(folders []config.FolderConfiguration) *places {
+	made := &places{folders: folders, at: map[string][]int{}, patterns: map[int]*ignore.Matcher{}}
+	for place, one := range folders {
+		real := realPath(adapt.Filesystem(one.Filesystem, nil).URI())
+		made.real, made.at[real] = append(made.real, real), append(made.at[real], place)
+		made.notes = append(made.notes, map[int]map[string]bool{})
+	}
+	return made
+}
+
+// each calls of each folder that has what is at a path, or below it.
+func (p *places) each(path string, call func(folder int)) {
+	for above := path; ; above = filepath.Dir(above) {
+		for _, one := range p.at[above] {
+			if p.isTaken(one, path) {
+				call(one)
+			}
 		}
-		if versions := h.versionsOf(one); versions != "" && isTaken(folder, directory, realPath(versions)) {
-			made = append(made, "the old versions of "+name)
+		if above == filepath.Dir(above) {
+			return
+		}
+	}
+}
+
+// isTaken says whether what is at a path in a folder's directory is the folder's. Where its patterns can't be read nobody knows, so it may be.
+func (p *places) isTaken(folder int, path string) bool {
+	name, err := filepath.Rel(p.real[folder], path)
+	if err != nil || name == "." || fs.IsInternal(name) {
+		return err == nil && name == "."
+	}
+	patterns, is := p.patterns[folder]
+	if !is {
+		if patterns, err = patternsIn(adapt.Filesystem(p.folders[folder].Filesystem, nil)); err != nil {
+			patterns = nil
+		}
+		p.patterns[folder] = patterns
+	}
+	return patterns == nil || !patterns.Match(name).IsIgnored()
+}
+
+// note notes what one folder writes into another one's directory; nothing of a paused one.
+func (p *places) note(into, of int, what string) {
+	if p.folders[of].Paused {
+		return
+	}
+	if p.notes[into][of] == nil {
+		p.notes[into][of] = map[string]bool{}
+	}
+	p.notes[into][of][what] = true
+}
+
+// words gives what writes into each folder's directory, in the order of the folders.
+func (p *places) words() map[string][]string {
+	made := map[string][]string{}
+	for into, notes := range p.notes {
+		order := []int{}
+		for of := range notes {
+			order = append(order, of)
+		}
+		sort.Ints(order)
+		for _, of := range order {
+			for _, what := range []string{"folder ", "the old versions of "} {
+				if notes[of][what] {
+					made[p.folders[into].ID] = append(made[p.folders[into].ID], what+shell.Folder(p.folders[of].ID, p.folders[of].Label))
+				}
+			}
 		}
 	}
 	return made
@@ -46,16 +132,6 @@ func (h *Home) versionsOf(folder config.FolderConfiguration) string {
 		return path
 	}
 	return filepath.Join(adapt.Filesystem(folder.Filesystem, nil).URI(), path)
-}
-
-// isTaken says whether a place is in a folder's directory, and what is there is the folder's.
-func isTaken(folder config.FolderConfiguration, directory, place string) bool {
-	name, err := filepath.Rel(directory, place)
-	if err != nil || name == ".." || strings.HasPrefix(name, "../") || fs.IsInternal(name) {
-		return false
-	}
-	patterns, err := patternsIn(adapt.Filesystem(folder.Filesystem, nil))
-	return err != nil || name == "." || !patterns.Match(name).IsIgnored()
 }
 
 // realPath gives a path without symlinks, as far as what it leads to is there.

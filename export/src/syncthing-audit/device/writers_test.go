@@ -4,6 +4,7 @@ import (
 	"os"
 	"path/filepath"
 	"reflect"
+	"strconv"
 	"testing"
 
 	"github.com/syncthing/syncthing/lib/config"
@@ -34,6 +35,10 @@ func TestWhatElseWritesIntoAFolder(t *testing.T) {
 	if err := os.WriteFile(filepath.Join(docs.Path, nameOfPatterns), []byte("/hidden\n"), 0o600); err != nil {
 		t.Fatal(err)
 	}
+	broken := folderIn(t, "broken", filepath.Join(room, "broken"))
+	if err := os.WriteFile(filepath.Join(broken.Path, nameOfPatterns), []byte("#include nowhere\n/inside\n"), 0o600); err != nil {
+		t.Fatal(err)
+	}
 	paused := inner
 	paused.Paused = true
 	if err := os.Symlink(docs.Path, filepath.Join(room, "link")); err != nil {
@@ -60,13 +65,45 @@ func TestWhatElseWritesIntoAFolder(t *testing.T) {
 		"old versions by a command":      {versioned(docs, "external", "old"), nil, "", nil},
 		"no old versions":                {versioned(docs, "", "old"), nil, "", nil},
 		"another one's, by a symlink":    {docs, []config.FolderConfiguration{versioned(beside, "simple", filepath.Join(room, "link"))}, "", []string{"the old versions of docs2"}},
-		"at a tilde, in 1.19":            {versioned(docs, "staggered", "~/old"), nil, "v1.19.2", []string{"the old versions of docs"}},
-		"at a tilde, in 1.29":            {versioned(docs, "staggered", "~/old"), nil, "v1.29.5", nil},
+		"another one's, in a folder in it": {docs, []config.FolderConfiguration{versioned(inner, "simple", "old")}, "",
+			[]string{"folder inner", "the old versions of inner"}},
+		"a folder in a folder in it": {docs, []config.FolderConfiguration{inner, folderIn(t, "deep", filepath.Join(inner.Path, "a/b"))}, "",
+			[]string{"folder inner", "folder deep"}},
+		"patterns that can't be read": {broken, []config.FolderConfiguration{folderIn(t, "inside", filepath.Join(broken.Path, "inside"))}, "",
+			[]string{"folder inside"}},
+		"a folder of which it is a marker": {docs, []config.FolderConfiguration{folderIn(t, "odd", filepath.Join(docs.Path, ".stversions/odd"))}, "", nil},
+		"at a tilde, in 1.19":              {versioned(docs, "staggered", "~/old"), nil, "v1.19.2", []string{"the old versions of docs"}},
+		"at a tilde, in 1.29":              {versioned(docs, "staggered", "~/old"), nil, "v1.29.5", nil},
 	} {
 		home := &Home{Syncthing: one.runs}
 		home.Config.Folders = append([]config.FolderConfiguration{one.of}, one.other...)
-		if told := home.writersOf(one.of); !reflect.DeepEqual(told, one.told) {
+		if told := home.writersOf(one.of.ID); !reflect.DeepEqual(told, one.told) {
 			t.Errorf("%s: %q", why, told)
 		}
+	}
+}
+
+// Of very many folders each path is looked up once: side by side in one folder, which ignores half of them, and one inside another.
+func TestWritersOfManyFolders(t *testing.T) {
+	const count = 3000
+	room := t.TempDir()
+	if err := os.WriteFile(filepath.Join(room, nameOfPatterns), []byte("/odd*\n"), 0o600); err != nil {
+		t.Fatal(err)
+	}
+	home := &Home{}
+	home.Config.Folders = append(home.Config.Folders, folderIn(t, "outer", room))
+	expected := []string{}
+	for next := 0; next < count; next++ {
+		id := []string{"even", "odd"}[next%2] + strconv.Itoa(next)
+		home.Config.Folders = append(home.Config.Folders, config.FolderConfiguration{ID: id, Path: filepath.Join(room, id)})
+		if next%2 == 0 {
+			expected = append(expected, "folder "+id)
+		}
+	}
+	if told := home.writersOf("outer"); !reflect.DeepEqual(told, expected) {
+		t.Errorf("%d are told: %.200q", len(told), told)
+	}
+	if even, odd := home.writersOf("even2"), home.writersOf("odd3"); !reflect.DeepEqual(even, []string{"folder outer"}) || odd != nil {
+		t.Errorf("%q, %q", even, odd)
 	}
 }
