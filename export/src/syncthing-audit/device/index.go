@@ -3,6 +3,7 @@ package device
 import (
 	"errors"
 	"fmt"
+	"math"
 	"strings"
 
 	"github.com/syncthing/syncthing/lib/config"
@@ -128,7 +129,7 @@ func (i *Index) names() int64 {
 func (i *Index) Folder() part.Folder {
 	made := part.Folder{ID: i.Config.ID, Label: i.Config.Label, Kind: kindOf(i.Config.Type), Path: adapt.Filesystem(i.Config.Filesystem, nil).URI(),
 		Directory: i.directory, IndexID: uint64(i.files.IndexID(protocol.LocalDeviceID)), Max: i.Max(),
-		IgnoresPermissions: i.Config.IgnorePerms, ScansAttributes: i.home.attributes[i.Config.ID], Sharing: i.home.Sharing(i.Config), Views: []part.View{},
+		IgnoresPermissions: i.Config.IgnorePerms, TimeWindow: timeWindowOf(i.Config), ScansAttributes: i.home.attributes[i.Config.ID], Sharing: i.home.Sharing(i.Config), Views: []part.View{},
 		Paused: i.Config.Paused, PausedDevices: i.home.pausedOf(i.Config), Writers: i.home.writersOf(i.Config.ID),
 		Indexed: i.names()}
 	for _, other := range i.Config.Devices {
@@ -141,6 +142,18 @@ func (i *Index) Folder() part.Folder {
 		}
 	}
 	return made
+}
+
+// timeWindowOf gives by how many seconds less the times of a file may differ that Syncthing takes for one.
+func timeWindowOf(folder config.FolderConfiguration) int64 {
+	window := int64(folder.RawModTimeWindowS)
+	switch {
+	case window < 0:
+		return 0
+	case window > math.MaxInt32:
+		return math.MaxInt32
+	}
+	return window
 }
 
 // kindOf gives the document's word for a folder's type.

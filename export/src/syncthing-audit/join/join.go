@@ -28,6 +28,7 @@ func NewDevice(stream part.Stream, from string) *Device {
 type Member struct {
 	*Device
 	About *part.Folder
+	Near  int64 // how many of its files have another time than recorded, which its Syncthing takes for the same
 }
 
 // Folder is a folder with those of its devices that are audited, their numbers rising.
@@ -219,8 +220,17 @@ func (f *Folder) next() (*Row, error) {
 			continue
 		}
 		f.Members[place].line = nil
+		f.Members[place].takeTime(next)
 	}
 	return row, nil
+}
+
+// takeTime gives a file the recorded time where the device's Syncthing takes that for the same: no scan there finds it changed.
+func (m *Member) takeTime(one *part.Name) {
+	if m.About.TimeWindow > 0 && len(one.Out) == 0 && len(one.Moved) == 0 && one.HasNearTime(m.About.Window()) {
+		one.TakeTime()
+		m.Near++
+	}
 }
 
 // finish takes the ends of a folder.

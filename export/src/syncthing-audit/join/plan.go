@@ -115,7 +115,7 @@ func (p *Plan) foldersOf(id string) []*Folder {
 	made := &Folder{ID: id}
 	for _, device := range p.Devices {
 		if about := device.Head.Folder(id); about != nil {
-			made.Members = append(made.Members, Member{device, about})
+			made.Members = append(made.Members, Member{Device: device, About: about})
 			if made.Label == "" {
 				made.Label = about.Label
 			}

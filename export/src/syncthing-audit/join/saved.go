@@ -11,10 +11,11 @@ type savedMember struct {
 	Head  *part.Head
 	From  string
 	About *part.Folder
+	Near  int64 `json:",omitempty"`
 }
 
 func (m Member) MarshalJSON() ([]byte, error) {
-	return json.Marshal(savedMember{m.Head, m.From, m.About})
+	return json.Marshal(savedMember{m.Head, m.From, m.About, m.Near})
 }
 
 func (m *Member) UnmarshalJSON(text []byte) error {
@@ -26,6 +27,6 @@ func (m *Member) UnmarshalJSON(text []byte) error {
 	if read.Head != nil {
 		m.Number = read.Head.Number()
 	}
-	m.About = read.About
+	m.About, m.Near = read.About, read.Near
 	return nil
 }

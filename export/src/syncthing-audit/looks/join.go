@@ -81,7 +81,7 @@ func joinFolder(one, other *part.Folder) (*part.Folder, error) {
 	case one.Max > other.Max:
 		return nil, fmt.Errorf("folder %s: its index went back from change %d to %d between the two looks: begin again", shell.Folder(one.ID, one.Label), one.Max, other.Max)
 	case one.Directory != other.Directory || one.Kind != other.Kind || one.IgnoresPermissions != other.IgnoresPermissions ||
-		one.ScansAttributes != other.ScansAttributes ||
+		one.ScansAttributes != other.ScansAttributes || one.TimeWindow != other.TimeWindow ||
 		!reflect.DeepEqual(one.Sharing, other.Sharing):
 		return nil, fmt.Errorf("folder %s: its configuration changed between the two looks: begin again", shell.Folder(one.ID, one.Label))
 	}
@@ -192,7 +192,7 @@ func (s *Stream) both(one, other *part.Name) *part.Name {
 		add(!reflect.DeepEqual(s.first.viewsOf(one, s.folder), s.second.viewsOf(other, s.folder)), part.MovedViews)
 		add(one.Receiving != other.Receiving, part.MovedReceiving)
 		add(!sameDisk || !isOutAlike(one, other), part.MovedDisk)
-		add(len(one.Out) == 0 && sameDisk && !one.IsAsRecorded(), part.MovedUnscanned)
+		add(len(one.Out) == 0 && sameDisk && !one.IsAsRecorded(s.head.Folders[s.folder].Window()), part.MovedUnscanned)
 	}
 	if len(moved) > 0 {
 		return &part.Name{Name: one.Name, Moved: moved}

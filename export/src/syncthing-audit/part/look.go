@@ -55,8 +55,8 @@ func (n *Node) Mark() string {
 	return fmt.Sprint(n.Type, n.Permissions, " ", n.Stamp)
 }
 
-// IsAsRecorded says whether what stands on the disk is what the own record says, by kind, size, time and target.
-func (n *Name) IsAsRecorded() bool {
+// IsAsRecorded says whether what stands on the disk is what the own record says, by kind, size, time and target. Times within the window are one.
+func (n *Name) IsAsRecorded(window time.Duration) bool {
 	own, disk := n.Own, n.Disk
 	if own == nil || own.Deleted {
 		return disk == nil
@@ -64,7 +64,7 @@ func (n *Name) IsAsRecorded() bool {
 	if disk == nil || own.Type != disk.Type || own.Target != disk.Target {
 		return false
 	}
-	return own.Content == nil || own.Content.Size == disk.Size && own.ModifiedS == disk.ModifiedS && own.ModifiedNs == disk.ModifiedNs
+	return own.Content == nil || n.HasNearTime(window) || own.Content.Size == disk.Size && own.ModifiedS == disk.ModifiedS && own.ModifiedNs == disk.ModifiedNs
 }
 
 // IsDamaged says whether the disk itself fails to give what it has of a name.

@@ -63,6 +63,9 @@ func checkFolder(one *Folder) error {
 	if one.IndexID == 0 || one.Max < 0 || one.Indexed < 0 {
 		return errors.New("its index has no id, or a greatest sequence or a count below 0")
 	}
+	if one.TimeWindow < 0 || one.TimeWindow > math.MaxInt32 {
+		return errors.New("its window for times is none")
+	}
 	seen := map[string]bool{}
 	for _, of := range one.Views {
 		if Number(of.Device) == 0 || seen[of.Device] || of.Max < 0 {

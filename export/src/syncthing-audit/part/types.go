@@ -73,6 +73,7 @@ type Folder struct {
 	IndexID            uint64    `json:"index_id,string"`
 	Max                int64     `json:"max"`
 	IgnoresPermissions bool      `json:"ignores_permissions,omitempty"`
+	TimeWindow         int64     `json:"time_window,omitempty"`      // in seconds: times of files that differ by less Syncthing takes for one
 	ScansAttributes    bool      `json:"scans_attributes,omitempty"` // owners or extended ones, so it hashes files whose inode changed
 	Sharing            []Sharing `json:"sharing"`
 	Views              []View    `json:"views"`

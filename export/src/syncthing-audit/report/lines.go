@@ -65,6 +65,11 @@ func Rest(to io.Writer, answer *finding.Answer) {
 		permissions(to, folder)
 		damaged(to, folder)
 		leftOut(to, folder)
+		for _, one := range folder.Members {
+			if one.Near > 0 {
+				fmt.Fprintf(to, "times taken for the same: %s %d files on %d, by less than %d s\n", folder.ID, one.Near, one.Number, one.About.TimeWindow)
+			}
+		}
 	}
 	for _, folder := range answer.Folders {
 		own(to, answer, folder)

@@ -248,3 +248,14 @@ func TestLineOfAnIndexThatMayBeOld(t *testing.T) {
 		t.Error(written.String())
 	}
 }
+
+// So has each device on which times are taken for the same.
+func TestLineOfNearTimes(t *testing.T) {
+	var written strings.Builder
+	folder := folderOf("docs", 2)
+	folder.Members[1].About, folder.Members[1].Near = &part.Folder{TimeWindow: 2}, 3
+	Lines(&written, &finding.Answer{Folders: []*finding.Folder{folder}})
+	if !strings.HasSuffix(written.String(), "\ntimes taken for the same: docs 3 files on 2, by less than 2 s\n") || strings.Count(written.String(), "times") != 1 {
+		t.Error(written.String())
+	}
+}

@@ -69,3 +69,19 @@ func TestAnIndexThatMayBeOld(t *testing.T) {
 		t.Errorf("%s, %v", made, err)
 	}
 }
+
+// Of how many files the time differs and Syncthing takes it for the same is told, where there are such ones.
+func TestTimesThatAreNear(t *testing.T) {
+	answer := answerOf(2, func(folder *finding.Folder) {
+		folder.Members[0].About.TimeWindow = 2
+		folder.Members[1].About.TimeWindow, folder.Members[1].Near = 2, 3
+	})
+	const told = "times taken for the same: 3 files of docs (Documents) on server: the time on the disk isn't the recorded one, by less than 2 seconds. No scan there sees that"
+	if text := printed(answer); !strings.Contains(text, told) || strings.Count(text, "times taken") != 1 {
+		t.Error(text)
+	}
+	made, err := json.Marshal(Of(answer).Folders[0].Devices)
+	if err != nil || strings.Count(string(made), `"time_window":2`) != 2 || strings.Count(string(made), `"near_times":3`) != 1 {
+		t.Errorf("%s, %v", made, err)
+	}
+}

@@ -24,6 +24,7 @@ func (p *printer) rest(s *Summary) {
 	p.own(s)
 	p.paused(s)
 	p.writers(s)
+	p.nearTimes(s)
 	for _, one := range s.LeftOut {
 		p.line("left out: %s of %s: %s", shell.Folder(one.Folder, one.label), one.Device, one.Why)
 	}
@@ -57,6 +58,19 @@ func (p *printer) own(s *Summary) {
 		p.line("not shared with one another: %s on %s: each has a folder of this id, and shares it with no device. What stands on its disk was "+
 			"compared with its own index alone, and not with what the others have", folder, devices)
 	})
+}
+
+// nearTimes prints of how many files the time isn't as recorded, and Syncthing takes it for the same: no scan finds them changed.
+func (p *printer) nearTimes(s *Summary) {
+	for _, folder := range s.Folders {
+		for _, one := range folder.Devices {
+			if one.Near > 0 {
+				p.line("times taken for the same: %s of %s on %s: the time on the disk isn't the recorded one, by less than %s. No scan there sees that "+
+					"(modTimeWindowS)", counted(one.Near, "file", "files"), shell.Folder(folder.ID, folder.Label), p.named.of(one.Device),
+					counted(one.Window, "second", "seconds"))
+			}
+		}
+	}
 }
 
 // mostAge is how long ago a device may have been read without that being told.

@@ -100,13 +100,15 @@ type Member struct {
 	Paused        bool     `json:"paused,omitempty"`
 	PausedDevices []string `json:"paused_devices,omitempty"` // others, by their ids
 	Writers       []string `json:"writers,omitempty"`        // what else of Syncthing writes into the directory
+	Window        int64    `json:"time_window,omitempty"`    // in seconds
+	Near          int64    `json:"near_times,omitempty"`     // files with other times than recorded within that
 }
 
 func memberOf(one join.Member) Member {
 	made := Member{Device: one.Head.Device, Kind: kindOf(one)}
 	if one.About != nil {
 		made.Path, made.Indexed, made.Paused, made.PausedDevices = one.About.Path, one.About.Indexed, one.About.Paused, one.About.PausedDevices
-		made.Writers = one.About.Writers
+		made.Writers, made.Window, made.Near = one.About.Writers, one.About.TimeWindow, one.Near
 	}
 	return made
 }
