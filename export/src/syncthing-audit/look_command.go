@@ -56,7 +56,7 @@ func beginPart(asked options, write writing, output, log io.Writer) error {
 		return err
 	}
 	defer from.close()
-	from.tellDoubt(log)
+	from.tellDoubts(log)
 	glance, over, err := firstLook(from.home, from.read)
 	if err != nil {
 		return err

@@ -78,7 +78,7 @@ func onePart(asked options, write writing, log io.Writer) error {
 		return err
 	}
 	defer from.close()
-	from.tellDoubt(log)
+	from.tellDoubts(log)
 	for _, one := range from.read.Others {
 		if len(asked.folders) == 0 {
 			fmt.Fprintf(log, "syncthing-audit: the part is without folder %s: %s\n", shell.Folder(one.ID, one.Label), join.WhyAway(one))
@@ -95,9 +95,9 @@ type source struct {
 	read *gather.Device
 }
 
-// tellDoubt says that the index may not be Syncthing's present one.
-func (s *source) tellDoubt(log io.Writer) {
-	if why := s.home.Doubt(); why != "" {
+// tellDoubts says what may be amiss with the index.
+func (s *source) tellDoubts(log io.Writer) {
+	for _, why := range s.home.Doubts() {
 		fmt.Fprintf(log, "syncthing-audit: %s\n", why)
 	}
 }

@@ -55,13 +55,18 @@ func (h *Home) noteAge() error {
 	return nil
 }
 
-// Doubt says in words that the index may not be Syncthing's present one; nothing where no file's time says so.
-func (h *Home) Doubt() string {
-	if h.State == nil {
-		return ""
+// Doubts says in words what may be amiss with the index: it may not be Syncthing's present one, by the times of its files, or is to be repaired.
+func (h *Home) Doubts() []string {
+	made := []string{}
+	if h.State != nil {
+		made = append(made, fmt.Sprintf("%s was written last %s, and config.xml after that, %s. If Syncthing was started since then, it has its database "+
+			"elsewhere: name that as --data DIR. If config.xml was only edited, all is well", h.database(), local(h.State.Written), local(h.State.Configured)))
 	}
-	return fmt.Sprintf("%s was written last %s, and config.xml after that, %s. If Syncthing was started since then, it has its database elsewhere: name "+
-		"that as --data DIR. If config.xml was only edited, all is well", h.database(), local(h.State.Written), local(h.State.Configured))
+	if h.ToRepair {
+		made = append(made, fmt.Sprintf("Syncthing found a fault in %s, and is to repair it at its next start (%s is there). Start it, let it finish, and "+
+			"audit again", h.database(), databaseName+endingOfMark))
+	}
+	return made
 }
 
 // local gives a time as a person reads it.

@@ -48,8 +48,8 @@ func TestAgeOfAnIndex(t *testing.T) {
 		if one.isOld && (home.State.Written.Unix() != 1000 || home.State.Configured.Unix() != one.configured) {
 			t.Errorf("%s: %+v", one.why, home.State)
 		}
-		if told := home.Doubt(); (told != "") != one.isOld || one.isOld && !strings.Contains(told, "If Syncthing was started since then, it has its database elsewhere") {
-			t.Errorf("%s: %s", one.why, told)
+		if told := home.Doubts(); len(told) > 0 != one.isOld || one.isOld && !strings.Contains(told[0], "If Syncthing was started since then, it has its database elsewhere") {
+			t.Errorf("%s: %q", one.why, told)
 		}
 	}
 }

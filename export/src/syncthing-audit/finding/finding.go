@@ -33,6 +33,8 @@ type Device struct {
 	From   string    // the home or file that it was read from
 	Index  *part.Index
 
+	ToRepair bool // whether Syncthing is to repair its index at its next start
+
 	Unasked  []Unasked // folders of it that weren't asked for
 	IsSilent bool      // whether its part doesn't say which folders it hasn't
 }

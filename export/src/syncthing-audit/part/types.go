@@ -46,7 +46,8 @@ type Head struct {
 	Folders      []Folder  `json:"folders"`        // rising by id
 	Look         *Look     `json:"look,omitempty"` // of a device that may run
 	Index        *Index    `json:"index,omitempty"`
-	Others       []Other   `json:"other_folders"` // rising by id; nothing where an older program made the part, which doesn't say
+	ToRepair     bool      `json:"index_to_repair,omitempty"` // Syncthing is to repair the index at its next start
+	Others       []Other   `json:"other_folders"`             // rising by id; nothing where an older program made the part, which doesn't say
 }
 
 // Index is what may be amiss with the index of which a part was made: it isn't Syncthing's present one, say.

@@ -82,6 +82,9 @@ func Rest(to io.Writer, answer *finding.Answer) {
 		if one.Index != nil {
 			fmt.Fprintf(to, "maybe an old index: on %d, %s\n", one.Number, ageOf(one.Index))
 		}
+		if one.ToRepair {
+			fmt.Fprintf(to, "to be repaired: the index on %d\n", one.Number)
+		}
 	}
 }
 
@@ -235,6 +238,9 @@ func Refusals(to io.Writer, answer *finding.Answer) {
 	for _, one := range answer.Devices {
 		if one.Index != nil {
 			fmt.Fprintf(to, "syncthing-audit: maybe an old index: device %s, %s. Where Syncthing has its database elsewhere, name it as --data DIR\n", one.ID, ageOf(one.Index))
+		}
+		if one.ToRepair {
+			fmt.Fprintf(to, "syncthing-audit: to be repaired: the index of device %s. Start Syncthing there, and let it finish\n", one.ID)
 		}
 	}
 	for _, one := range answer.Refusals {

@@ -259,3 +259,17 @@ func TestLineOfNearTimes(t *testing.T) {
 		t.Error(written.String())
 	}
 }
+
+// And so has each index that Syncthing is to repair, also where the answer is a refusal.
+func TestLineOfAnIndexThatIsToBeRepaired(t *testing.T) {
+	devices := []finding.Device{{ID: "A", Number: 1}, {ID: "B", Number: 2, ToRepair: true}}
+	var written, refused strings.Builder
+	Lines(&written, &finding.Answer{Folders: []*finding.Folder{folderOf("docs", 2)}, Devices: devices})
+	Refusals(&refused, &finding.Answer{Devices: devices, Refusals: []finding.Refusal{{Folder: "docs", Why: "odd"}}})
+	for text, told := range map[string]string{written.String(): "\nto be repaired: the index on 2\n",
+		refused.String(): "\nsyncthing-audit: to be repaired: the index of device B. Start Syncthing there, and let it finish\n"} {
+		if !strings.HasSuffix(text, told) || strings.Count(text, "repaired") != 1 {
+			t.Error(text)
+		}
+	}
+}

@@ -85,3 +85,17 @@ func TestTimesThatAreNear(t *testing.T) {
 		t.Errorf("%s, %v", made, err)
 	}
 }
+
+// An index that Syncthing is to repair is told, and the verdict stays.
+func TestAnIndexThatIsToBeRepaired(t *testing.T) {
+	answer := answerOf(2, func(*finding.Folder) {})
+	answer.Devices[1].ToRepair = true
+	const told = "to be repaired: the index of server. Syncthing found a fault in it, and repairs it at its next start"
+	if text := printed(answer); !strings.Contains(text, told) || strings.Count(text, "to be repaired") != 1 {
+		t.Error(text)
+	}
+	made, err := json.Marshal(Of(answer).Devices)
+	if err != nil || strings.Count(string(made), `"index_to_repair":true`) != 1 || strings.Contains(string(made), `"index":`) {
+		t.Errorf("%s, %v", made, err)
+	}
+}

@@ -6,6 +6,7 @@ import (
 	"os/exec"
 	"strings"
 	"testing"
+	"time"
 
 	"syncthing-audit/choice"
 	"syncthing-audit/finding"
@@ -34,12 +35,14 @@ func full(folder *finding.Folder) {
 	folder.Members[0].Head.Names = choice.Names{Prefix: "a", Slice: 3, Slices: 7}
 	folder.Members[0].About.Indexed = 1001
 	folder.Members[0].About.Writers = []string{"folder photos"}
+	folder.Members[0].About.TimeWindow, folder.Members[0].Near = 2, 3
 }
 
 // What is written is what the schema says, and what the schema says is looked at: a document of other words is none.
 func TestSchema(t *testing.T) {
 	answer := answerOf(2, full)
 	answer.Devices[0].Runs = "v1.29.5"
+	answer.Devices[0].Index, answer.Devices[0].ToRepair = &part.Index{Written: time.Unix(started, 0).UTC(), Configured: time.Unix(later, 0).UTC()}, true
 	answer.LeftOut = []finding.Refusal{{Kind: part.Absent, Folder: "docs", Device: "phone", Why: "no part of it is given"}}
 	answer.Devices[1].Unasked = []finding.Unasked{{ID: "music", Label: "my music", InPart: true}, {ID: "pics"}}
 	answer.Devices[0].IsSilent = true

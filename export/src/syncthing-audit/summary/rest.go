@@ -90,13 +90,17 @@ func (p *printer) ages(s *Summary) {
 	}
 }
 
-// doubts tells of which devices another index may have been read than Syncthing's present one.
+// doubts tells of which devices another index may have been read than Syncthing's present one, or one with a fault.
 func (p *printer) doubts(s *Summary) {
 	for _, one := range s.Devices {
 		if one.Index != nil {
 			p.line("maybe an old index: that of %s was written last %s, and config.xml there after that, %s. If Syncthing was started there since then, it "+
 				"has its database elsewhere, and this answer isn't about that: name it as --data DIR. If config.xml was only edited, all is well",
 				p.named.of(one.ID), p.when(one.Index.Written), p.when(one.Index.Configured))
+		}
+		if one.Repair {
+			p.line("to be repaired: the index of %s. Syncthing found a fault in it, and repairs it at its next start. Till then it may not take or tell what it "+
+				"should there, whatever its page shows, and records may be missing here. Start it there, let it finish, and audit again", p.named.of(one.ID))
 		}
 	}
 }

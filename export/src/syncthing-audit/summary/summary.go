@@ -48,6 +48,7 @@ type Device struct {
 	Prefix Text        `json:"names_that_begin,omitempty"` // only these were read
 	Slice  *Slice      `json:"slice,omitempty"`            // only these were read
 	Index  *part.Index `json:"index,omitempty"`            // what may be amiss with it
+	Repair bool        `json:"index_to_repair,omitempty"`
 	asked  choice.Names
 }
 
@@ -160,7 +161,7 @@ func Of(answer *finding.Answer) *Summary {
 	asked := askedOf(answer)
 	for _, one := range answer.Devices {
 		names := asked[one.ID]
-		made.Devices = append(made.Devices, Device{one.ID, one.Name, one.Made, one.From, one.Runs, Text(names.Prefix), sliceOf(names), one.Index, names})
+		made.Devices = append(made.Devices, Device{one.ID, one.Name, one.Made, one.From, one.Runs, Text(names.Prefix), sliceOf(names), one.Index, one.ToRepair, names})
 	}
 	named := made.labels()
 	for _, one := range answer.Folders {
