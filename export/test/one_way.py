@@ -221,6 +221,41 @@ class ReceiveOnlyChangedAgain(Exporting):
         self.assertEqual(self.two.api("GET", f"db/status?folder={FOLDER}")["receiveOnlyChangedFiles"], len(self.texts))
 
 
+class ReceiveOnlyThatOthersPassed(Exporting):
+    """A device that only receives recorded local changes, and the other one changed the same names while it was off."""
+
+    kinds = {"two": "receiveonly"}
+
+    def test_syncthing_takes_what_the_other_one_has(self):
+        """It does so by itself, as the answer says, and keeps the local changes as conflict copies."""
+        files = self.two.files
+        for name in ("text", "folder/large"):
+            (files / name).write_text("my own")
+        (files / "empty").unlink()
+        self.two.start()
+        self.two.scan()
+        self.two.stop()
+        for name in ("text", "empty"):
+            (self.one.files / name).write_text("of one")
+        self.one.start()
+        self.one.scan()
+        self.one.stop()
+        ran = self.on_homes("check", [device.home for device in self.devices], "--syncaudit", self.auditor)
+        self.assertEqual(ran.returncode, 1, ran.stderr)
+        entries = {entry.split("  (in ")[0]: " ".join(entry.split()) for entry in ran.stdout.split("\n\n")}
+        for name in ("text", "empty"):
+            self.assertIn(f"others changed it since. Once Syncthing runs on {self.two.id[:7]}, it takes what they have", entries[name])
+        self.assertIn("and keeps what stands there as a conflict copy, a local addition", entries["text"])
+        self.assertNotIn("conflict copy", entries["empty"])
+        self.assertIn("'Revert Local Changes' on", entries["folder/large"])
+        self.start()
+        wait_until("the others' files are there", lambda: all((files / name).exists() and (files / name).read_text() == "of one" for name in ("text", "empty")))
+        wait_until("all is taken", lambda: self.two.shows_up_to_date() and self.two.knows_all_of(self.one))
+        self.stop()
+        self.assertEqual([path.read_text() for path in files.glob("*.sync-conflict-*")], ["my own"])
+        self.assertEqual((files / "folder/large").read_text(), "my own")
+
+
 class ReceiveOnlyChangedItsOwnAgain(Exporting):
     """A file that a device made while it sent, too, and that no other one ever changed: the device only receives now, recorded a local change, and the
     file changed after that."""

@@ -54,6 +54,7 @@ type Fault struct {
 	isUntold bool // of Behind: its view goes beyond what it lacks, so nobody tells it of that again
 	isBefore bool // of a device that only receives: the version of what is due counts a change of it from before
 	isLast   bool // and no change of another device
+	isPassed bool // of LocalChange: others changed the name after that, so Syncthing takes theirs by itself
 	// Another device has to take the file, and may fetch it from there.
 	isFetched bool
 	// A scan of another device records another change there, of which neither's record knows.

@@ -303,6 +303,7 @@ func (r *reader) add(member int, cause Cause) {
 		made.late, made.mayStay = r.lateAt(member)
 		made.isAlone, made.isDue = cause == Missing && r.isAlone(member), isSame(at.Disk, r.winner)
 		made.isTied = cause == Behind && r.isTied(at)
+		made.isPassed = cause == LocalChange && made.Kind == receiveOnly && r.isPassed(at.Own)
 	}
 	made.isUntold = cause == Behind && !made.isTied && r.isUntold(member)
 	made.isBefore = made.Kind == receiveOnly && r.winner != nil && part.Counts(r.winner.Version, one.Number)

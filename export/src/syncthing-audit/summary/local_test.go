@@ -93,3 +93,33 @@ func TestOtherBytesOfALocalChangeThatAScanSees(t *testing.T) {
 		}
 	}
 }
+
+// Where others changed a name since a local change of it, Syncthing takes theirs by itself: nobody is told to revert.
+func TestLocalChangesThatOthersPassed(t *testing.T) {
+	const taken = "others changed it since. Once Syncthing runs on server, it takes what they have"
+	link := func() *part.Name {
+		made := local(file(2, 2), onFirst...)
+		made.Own.Type, made.Own.Target, made.Own.Content, made.Disk = 4, "a", nil, &part.Node{Type: 4, Target: "a"}
+		return made
+	}
+	for _, one := range []struct {
+		why      string
+		row      []*part.Name
+		has, not string
+	}{
+		{"changed", []*part.Name{file(2, 1), local(file(2, 2), onFirst...)}, taken + ", and keeps what stands there as a conflict copy, a local addition", "Revert"},
+		{"deleted", []*part.Name{file(2, 1), local(with(with(file(2, 2), again), absent), onFirst...)}, taken + ".", "Revert"},
+		{"a symlink", []*part.Name{file(2, 1), link()}, taken + ", and of a symlink or a directory that stands there it keeps no copy", "as a conflict copy"},
+		{"on top of theirs", []*part.Name{file(1, 1), local(file(2, 2), onFirst...)}, "'Revert Local Changes' on server takes back", "others changed it since"},
+		{"by an older part", []*part.Name{file(2, 1), local(file(2, 2))}, "'Revert Local Changes' on server takes back", "others changed it since"},
+		{"deleted elsewhere", []*part.Name{deletedAfter(), local(file(2, 2), onFirst...)}, "'Revert Local Changes' on server deletes it", "others changed it since"},
+	} {
+		text := printed(answerOf(2, func(folder *finding.Folder) {
+			folder.Members[1].About.Kind = receiveOnly
+			fails(folder, "a", one.row, "LocalOnly 2")
+		}))
+		if !strings.Contains(text, one.has) || strings.Contains(text, one.not) {
+			t.Errorf("%s: %s", one.why, text)
+		}
+	}
+}

@@ -1,6 +1,10 @@
 package summary
 
-import "strings"
+import (
+	"strings"
+
+	"syncthing-audit/part"
+)
 
 // localChangeAdvice says what becomes of a local change of a device that only receives, where it is reverted or sent.
 func localChangeAdvice(one *Fault, file *File, at string, named labels) string {
@@ -9,6 +13,8 @@ func localChangeAdvice(one *Fault, file *File, at string, named labels) string {
 	switch {
 	case file.isOwn:
 		return "'Revert Local Changes' on " + at + file.say(" deletes the file", " deletes the files") + noOther
+	case one.isPassed:
+		return passedAdvice(one, file, at)
 	case one.isKeptFromDeletion():
 		return "'Revert Local Changes' on " + at + " doesn't delete " + it + file.keptFromDeletion(at) + ". To have " + it + " " + send
 	case one.isDeletedElsewhere():
@@ -24,6 +30,24 @@ func localChangeAdvice(one *Fault, file *File, at string, named labels) string {
 		return told + ": " + file.say("it then goes", "they then go") + " to all, since no other device ever changed " + it
 	}
 	return told + ": " + file.say("it is", "they are") + " then in conflict with what the others have. Syncthing " + file.conflicting(one.hasNoCopy)
+}
+
+// isPassed says whether others changed a name after a local change of it, or beside that. Of an older part that isn't known.
+func (r *reader) isPassed(own *part.Record) bool {
+	return own != nil && len(own.Local) > 0 && r.winner != nil && !r.winner.Deleted && !part.IsAtMost(r.winner.Version, own.Local)
+}
+
+// passedAdvice says what becomes of such a local change. Nobody has to revert it.
+func passedAdvice(one *Fault, file *File, at string) string {
+	told := "others changed " + file.say("it", "them") + " since. Once Syncthing runs on " + at + ", it takes what they have"
+	switch {
+	case one.Deletion:
+		return told
+	case one.hasNoCopy:
+		return told + ", and of a symlink or a directory that stands there it keeps no copy: save first what is to stay. It puts nothing in place of a " +
+			"directory that isn't empty"
+	}
+	return told + ", and keeps what stands there as " + file.say("a conflict copy, a local addition", "conflict copies, local additions") + noCopies
 }
 
 // isDeletedElsewhere says whether a deletion is what is due.
