@@ -158,7 +158,7 @@ class ReceiveOnlyChangedAgain(Exporting):
     """A device that only receives recorded local changes, and the same names changed on its disk after that. 'own' no other device ever changed."""
 
     kinds = {"two": "receiveonly"}
-    texts = {"text": "my second one", "empty": "back"}
+    texts = {"text": "my second one", "empty": "back", "folder/mode": "my own"}
 
     @classmethod
     def synchronise(cls):
@@ -168,13 +168,15 @@ class ReceiveOnlyChangedAgain(Exporting):
         cls.start()
         (cls.two.files / "own").write_text("of two")
         cls.two.scan()
+        (cls.one.files / "folder/mode").write_text("of one")
+        cls.one.scan()
         wait_until_in_step(cls.one, cls.two)
 
     @classmethod
     def setUpClass(cls):
         super().setUpClass()
         files = cls.two.files
-        for name in ("text", "folder/large", "own"):
+        for name in ("text", "folder/large", "folder/mode", "own"):
             (files / name).write_text("my own")
         (files / "empty").unlink()
         cls.configure()
@@ -182,8 +184,9 @@ class ReceiveOnlyChangedAgain(Exporting):
         cls.two.scan()
         wait_until("the other device knows of the changes", lambda: cls.one.knows_all_of(cls.two))
         cls.stop()
-        for name, text in cls.texts.items():
-            (files / name).write_text(text)
+        for name in ("text", "empty"):
+            (files / name).write_text(cls.texts[name])
+        (files / "folder/mode").chmod(0o600)
         for name in ("folder/large", "own"):
             (files / name).unlink()
 
@@ -196,8 +199,10 @@ class ReceiveOnlyChangedAgain(Exporting):
         is_copied = version_of(self.two.program).startswith("syncthing v1.19")
         told = "Syncthing then takes what the others have, and keeps what stands there as a conflict copy, a local addition" if is_copied \
             else "the change stays there as a local one, which 'Revert Local Changes' takes back"
-        for name in self.texts:
+        for name in ("text", "empty"):
             self.assertIn(f"'Rescan': {told}", entries[name])
+        scan = "what stands there for a change, in conflict with what the others have" if is_copied else "0600 for a local change"
+        self.assertIn(f"the scan takes {scan}; or", entries["folder/mode"])
         for name in ("folder/large", "own"):
             self.assertIn(f"the other devices keep it, and Syncthing brings what they have to {self.two.id[:7]}.", entries[name])
         self.start()
@@ -217,7 +222,7 @@ class ReceiveOnlyChangedAgain(Exporting):
     def assert_they_stay(self):
         """The second changes stand there, without copies, and count as local ones."""
         self.assertEqual({name: (self.two.files / name).read_text() for name in self.texts}, self.texts)
-        self.assertEqual(list(self.two.files.glob("*.sync-conflict-*")), [])
+        self.assertEqual(list(self.two.files.rglob("*.sync-conflict-*")), [])
         self.assertEqual(self.two.api("GET", f"db/status?folder={FOLDER}")["receiveOnlyChangedFiles"], len(self.texts))
 
 

@@ -123,3 +123,20 @@ func TestLocalChangesThatOthersPassed(t *testing.T) {
 		}
 	}
 }
+
+// So it is of another mode of what is recorded as a local change.
+func TestAnotherModeOfALocalChange(t *testing.T) {
+	for runs, has := range map[string]string{
+		"v1.19.2": "the scan takes what stands there for a change, in conflict with what the others have", "v1.29.5": "the scan takes 0600 for a local change; ",
+		"v1.27.0": "the scan takes 0600 for a local change, or, as 1.19 does, for one in conflict with what the others have",
+	} {
+		text := printed(answerOf(2, func(folder *finding.Folder) {
+			folder.Members[1].Head.Runs, folder.Members[1].About.Kind = runs, receiveOnly
+			fails(folder, "a", []*part.Name{file(1, 1), local(file(2, 2), onFirst...)}, "LocalOnly 2")
+			addStray(folder, 2)
+		}))
+		if !strings.Contains(text, has) {
+			t.Errorf("%s: %s", runs, text)
+		}
+	}
+}

@@ -38,13 +38,34 @@ func (f *File) scanOfMode(one *Mode, named labels) string {
 	case lack != nil && lack.Cause == Behind && lack.Deletion:
 		return "takes that for a change, which goes before the deletion"
 	case lack != nil || slices.Contains(f.rivals, one.Device):
-		return "takes " + f.say("what stands there for a change", "them for changes") + ", in conflict with what the others have"
+		return f.scanOfConflict()
 	case slices.Contains(f.receivers, one.Device):
-		return "takes " + one.Disk + " for a local change"
+		return f.scanOfReceivedMode(one)
 	case f.isTiedAt(one.Device):
 		return "takes what stands there for a change, and sends it " + f.toAll(one.Device, named)
 	}
 	return f.spread("may send "+one.Disk+" "+f.toAll(one.Device, named), "records "+one.Disk)
+}
+
+// scanOfConflict says that of a mode where others have another version of the name.
+func (f *File) scanOfConflict() string {
+	return "takes " + f.say("what stands there for a change", "them for changes") + ", in conflict with what the others have"
+}
+
+// scanOfReceivedMode says that of a device that only receives. On top of a local change Syncthing 1.19 takes it for a conflict, as any change.
+func (f *File) scanOfReceivedMode(one *Mode) string {
+	told := "takes " + one.Disk + " for a local change"
+	for place := range f.Faults {
+		local := &f.Faults[place]
+		if local.Device != one.Device || local.Cause != LocalChange || local.late != lateChange {
+			continue
+		}
+		if !local.mayStay {
+			return f.scanOfConflict()
+		}
+		return told + ", or, as 1.19 does, for one in conflict with what the others have"
+	}
+	return told
 }
 
 // isStray says whether a disk has another mode than the device's index.
