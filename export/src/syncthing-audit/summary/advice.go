@@ -73,14 +73,7 @@ func adviceOfFault(one *Fault, file *File, named labels) string {
 	case Missing:
 		return missingAdvice(one, file, at, named)
 	case Back:
-		if told := lateAdvice(one, file, at, named); told != "" {
-			return told
-		}
-		if one.Kind == receiveOnly && file.hasAt(one.Device, LocalChange) {
-			return changedAdvice(one, file, at, named)
-		}
-		return file.say("to have it gone, delete it", "to have them gone, delete them") + " on " + at + " before Syncthing scans there: a scan takes " +
-			file.say("it for a new file", "them for new files") + spreads(one, file, named)
+		return backAdvice(one, file, at, named)
 	case Behind, Conflicting:
 		return behindAdvice(one, file, at, named)
 	case LocalChange:
@@ -112,6 +105,18 @@ func spreads(one *Fault, file *File, named labels) string {
 		return file.say(", a local addition", ", local additions")
 	}
 	return file.spread(" and sends "+file.say("it", "them")+" "+file.toAll(one.Device, named), " and records "+file.say("it", "them"))
+}
+
+// backAdvice says what a scan does with what is back, though the device has deleted it.
+func backAdvice(one *Fault, file *File, at string, named labels) string {
+	if told := lateAdvice(one, file, at, named); told != "" {
+		return told
+	}
+	if one.Kind == receiveOnly && file.hasAt(one.Device, LocalChange) {
+		return changedAdvice(one, file, at, named)
+	}
+	return file.say("to have it gone, delete it", "to have them gone, delete them") + " on " + at + " before Syncthing scans there: a scan takes " +
+		file.say("it for a new file", "them for new files") + spreads(one, file, named)
 }
 
 // notScannedAdvice says what a scan does with what it hasn't seen yet.
