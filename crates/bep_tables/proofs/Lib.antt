@@ -8,3 +8,4 @@ mod Finite
 mod Said
 mod ListingFacts
 mod Regrouped
+mod Rooms

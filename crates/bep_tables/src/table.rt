@@ -36,13 +36,13 @@ impl<'a> Table<'a> {
     pub fn of(alloc: Global, cut: &'a Cut) -> Result<Table<'a>, AllocError>
         ensures { IfOk result (IsGrouped (cut_listed cut.now)) }
     {
-        let mut list = Vec::with_capacity(alloc, listing::most_entries(cut))?;
-        listing::add_cut(&mut list, cut)?;
-        let count = list.len();
-        let groups = Groups::of(alloc, list.as_slice())?;
-        drop(list);
-        let entries = groups.entries(alloc, count)?;
-        Ok(Table { entries })
+        let mut groups = Groups::new(alloc);
+        listing::add_cut(&mut groups, cut)?;
+        groups.make_room(alloc)?;
+        listing::add_cut(&mut groups, cut)?;
+        Ok(Table {
+            entries: groups.entries(),
+        })
     }
 
     /// The entries, by folder and then name.

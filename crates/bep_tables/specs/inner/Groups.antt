@@ -1,42 +1,74 @@
 -- Groups of entries, one for each folder and name, and a map that says where each stands.
-use Rattle.std.specs.Prelude.{◌≡◌, ◌<◌, ℕ, Bool, true, false, List, [], ◌∷◌, Option, Some, None, length, get_or}
+use Rattle.std.specs.Prelude.{◌≡◌, ◌<◌, ◌≤◌, ◌+◌, ◌++◌, ℕ, Bool, ◌&&◌, List, [], Option, Some, None, Contains, length, map, get_or, ltb}
+use Rattle.std.specs.Ordering.{is_eq}
 use Rattle.std.specs.BTreeMap.{is_at}
 use Rattle.std.specs.List.{flat_map}
-use Rattle.std.specs.Map.{lookup}
-use Rattle.bep_model.specs.Tables.{Device, Folder, FileName}
-use Rattle.bep_tables.specs.declared.table.entry.Held.{Held}
+use Rattle.std.specs.List.Sorted.{IsStrictlySortedBy}
+use Rattle.std.specs.Map.{lookup, keys_of}
+use Rattle.bep_model.specs.Tables.{Folder, FileName}
+use Rattle.bep_model.specs.Settled.{key_cmp}
 use Rattle.bep_tables.specs.declared.table.entry.TableEntry.{TableEntry}
-use Rattle.bep_tables.specs.Listed.{Listed, key_at, listed_at, held, listed, is_of, group_of}
+use Rattle.bep_tables.specs.Listed.{Listed, key_at, listed, group_of}
 use Rattle.bep_tables.specs.inner.TableOrder.{entry_cmp}
 
 -- the folder and the name of a lent entry
 abbrev pub key_in : TableEntry → Folder × FileName
 key_in one = key_at (listed one)
 
--- what another device, or the same one, has of the entry's folder and name
-abbrev pub alike : TableEntry → Device × Held → Listed
-alike one other = listed_at one.folder.now one.name.now other.0 (held other.1)
+-- where the group of the folder and name stands, by these pairs of an entry and a place
+abbrev pub place_of : List (TableEntry × ℕ) → Folder × FileName → Option ℕ
+place_of places key = lookup (is_at (λ (one : TableEntry). key_cmp key (key_in one))) places
 
--- where the group of the entry's folder and name stands, by these pairs of an entry and a place
-abbrev pub place_in : List (TableEntry × ℕ) → TableEntry → Option ℕ
-place_in places one = lookup (is_at (entry_cmp one)) places
+-- a group: its folder and name, and its number
+abbrev pub Spot : Type 0
+Spot = (Folder × FileName) × ℕ
 
--- the first entry, if there is one, is of this folder and name
-abbrev pub begins_with : Folder × FileName → List Listed → Bool
-begins_with key [] = false
-begins_with key (one ∷ more) = is_of key one
+-- what groups are: their spots, where the group of each folder and name stands among them, and the room for their entries
+pub record Grouping : Type 0 where
+  pub groups : List Spot
+  pub places : List (TableEntry × ℕ)
+  pub entries : List TableEntry
 
--- each place is that of a group with an entry, and each group's first entry has its place
-pub record AreFull (groups : List (List Listed)) (places : List (TableEntry × ℕ)) : Type 0 where
-  pub filled : (one : TableEntry) (place : ℕ) → place_in places one ≡ Some place → (place < length groups) × (begins_with (key_in one) (get_or groups place []) ≡ true)
-  pub first : (one : TableEntry) (place : ℕ) → begins_with (key_in one) (get_or groups place []) ≡ true → place_in places one ≡ Some place
+abbrev pub grouping : List Spot → List (TableEntry × ℕ) → List TableEntry → Grouping
+grouping groups places entries = record { groups = groups; places = places; entries = entries }
 
--- the groups have these entries: each group those of its folder and name, in the order in which they came
-pub record AreGroups (seen : List Listed) (groups : List (List Listed)) (places : List (TableEntry × ℕ)) : Type 0 where
-  pub full : AreFull groups places
-  pub found : (one : TableEntry) (place : ℕ) → place_in places one ≡ Some place → group_of (key_in one) seen ≡ get_or groups place []
-  pub absent : (one : TableEntry) → place_in places one ≡ None → group_of (key_in one) seen ≡ []
+-- the group at this place
+abbrev pub spot_at : List Spot → ℕ → Spot
+spot_at groups place = get_or groups place (([], []), 0)
 
--- all entries of the groups, in the order of these places
-abbrev pub entries_by : List (List Listed) → List (TableEntry × ℕ) → List Listed
-entries_by groups = flat_map (λ (one : TableEntry × ℕ). get_or groups one.1 [])
+-- there is a group at the place, and it is of this folder and name
+abbrev pub begins_with : Folder × FileName → ℕ → List Spot → Bool
+begins_with key place groups = ltb place (length groups) && is_eq (key_cmp (spot_at groups place).0 key)
+
+-- each place is that of a group of the folder and name, and each group has its place
+pub record AreFull (groups : List Spot) (places : List (TableEntry × ℕ)) : Type 0 where
+  pub filled : (key : Folder × FileName) (place : ℕ) → place_of places key ≡ Some place → (place < length groups) × ((spot_at groups place).0 ≡ key)
+  pub first : (place : ℕ) → place < length groups → place_of places (spot_at groups place).0 ≡ Some place
+
+-- the groups' numbers say how many of these entries are of their folders and names, and no entry is of another one
+pub record Counted (seen : List Listed) (all : Grouping) : Type 0 where
+  pub counts : (key : Folder × FileName) (place : ℕ) → place_of all.places key ≡ Some place → (spot_at all.groups place).1 ≡ length (group_of key seen)
+  pub absent : (key : Folder × FileName) → place_of all.places key ≡ None → group_of key seen ≡ []
+
+-- the entries of the folders and names of these pairs, in the order of the pairs
+abbrev pub in_order_of : List Listed → List (TableEntry × ℕ) → List Listed
+in_order_of all = flat_map (λ (pair : TableEntry × ℕ). group_of (key_in pair.0) all)
+
+-- there is room for all these entries, in the order of the places, and those that were seen so far stand where they belong:
+-- each group has its room from its base on, and its number says where its next entry goes
+pub record Filled (every seen : List Listed) (all : Grouping) : Type 0 where
+  pub base : ℕ → ℕ
+  pub sorted : IsStrictlySortedBy entry_cmp (keys_of all.places)
+  pub places : (pair : TableEntry × ℕ) → Contains all.places pair → place_of all.places (key_in pair.0) ≡ Some pair.1
+  pub absent : (key : Folder × FileName) → place_of all.places key ≡ None → group_of key every ≡ []
+  pub long : length all.entries ≡ length (in_order_of every all.places)
+  pub next : (key : Folder × FileName) (place : ℕ) → place_of all.places key ≡ Some place → (spot_at all.groups place).1 ≡ base place + length (group_of key seen)
+  pub within : (key : Folder × FileName) (place : ℕ) → place_of all.places key ≡ Some place → base place + length (group_of key every) ≤ length (in_order_of every all.places)
+  pub rooms : (key : Folder × FileName) (place i : ℕ) (none : Listed) → place_of all.places key ≡ Some place → i < length (group_of key every) → get_or (in_order_of every all.places) (base place + i) none ≡ get_or (group_of key every) i none
+  pub right : (key : Folder × FileName) (place i : ℕ) (none : Listed) → place_of all.places key ≡ Some place → i < length (group_of key seen) → get_or (map listed all.entries) (base place + i) none ≡ get_or (in_order_of every all.places) (base place + i) none
+  pub covers : (i : ℕ) → i < length (in_order_of every all.places) → (pair : TableEntry × ℕ) × Contains all.places pair × (j : ℕ) × (j < length (group_of (key_in pair.0) every)) × (i ≡ base pair.1 + j)
+
+-- the groups took these entries: what was counted, or put, before is so with them
+pub record Took (more : List Listed) (before after : Grouping) : Type 0 where
+  pub counted : (seen : List Listed) → Counted seen before → Counted (seen ++ more) after
+  pub filled : (every seen rest : List Listed) → every ≡ (seen ++ more) ++ rest → Filled every seen before → Filled every (seen ++ more) after

@@ -1,171 +1,256 @@
 //! Entries put together by their folders and names.
-ghost use Rattle.std.specs.Prelude.{◌≡◌, ◌++◌, ◌∷◌, [], true, IfOk, OnOk, List, get_or, map};
-ghost use Rattle.bep_tables.specs.declared.table.entry.TableEntry.{TableEntry};
+ghost use Rattle.std.specs.Prelude.{◌≡◌, ◌+◌, ◌∷◌, [], Some, List, None, IfOk, OnOk, length, map, set};
+ghost use Rattle.std.specs.Ordering.{is_eq};
+ghost use Rattle.bep_model.specs.Settled.{key_cmp};
 ghost use Rattle.bep_tables.specs.Listed.{IsGrouped, Listed, listed};
-ghost use Rattle.bep_tables.specs.inner.Groups.{AreFull, AreGroups, begins_with, entries_by, key_in, place_in};
+ghost use Rattle.bep_tables.specs.inner.Groups.{AreFull, Counted, Filled, Took, begins_with, grouping, key_in, place_of};
 
-use super::{Held, TableEntry};
-use bep_record::DeviceId;
+use super::TableEntry;
 use std::alloc::{AllocError, Global};
 use std::collections::BTreeMap;
 use std::marker::Model;
 
-// The entries of one folder and name, in the order in which they came. The folder and the name stand once, with the first
-// entry: a cut may have very many entries of one name.
+// The entries of one folder and name: the first of them, which has the folder and the name, and a number. While entries are
+// counted, it says how many there are; once there is room for all, where the next one goes.
 #[derive(Drop)]
 struct Group<'a> {
     first: TableEntry<'a>,
-    others: Vec<(DeviceId, Held<'a>)>,
+    number: usize,
 }
 
 impl<'a> Model for Group<'a> {
-    ghost use Rattle.std.specs.Prelude.{List, ◌∷◌, map};
-    ghost use Rattle.bep_tables.specs.Listed.{Listed, listed};
-    ghost use Rattle.bep_tables.specs.inner.Groups.{alike};
+    ghost use Rattle.bep_tables.specs.inner.Groups.{Spot, key_in};
 
-    ghost Value = { List Listed };
+    ghost Value = { Spot };
 
-    ghost view = { λ group. listed group.first ∷ map (alike group.first) group.others.items };
+    ghost view = { λ group. (key_in group.first, group.number) };
 }
 
 impl<'a> Group<'a> {
-    // The group of this entry.
-    fn of(alloc: Global, entry: &TableEntry<'a>) -> Self
-        ensures { result ≡ listed entry.now ∷ [] }
+    // The group of this entry alone.
+    fn of(entry: &TableEntry<'a>) -> Self
+        ensures { result ≡ (key_in entry.now, 1) }
     {
         Group {
             first: entry.again(),
-            others: Vec::new(alloc),
+            number: 1,
         }
     }
 
-    // Adds an entry of the group's folder and name behind the others.
-    fn push(&mut self, entry: &TableEntry<'a>) -> Result<(), AllocError>
-        requires { begins_with (key_in entry.now) self.old ≡ true }
-        ensures { OnOk result (self.new ≡ self.old ++ listed entry.now ∷ []) }
-    {
-        self.others.reserve(1)?;
-        self.others
-            .push_reserved((entry.device, entry.held.again()));
-        Ok(())
-    }
-
-    // Whether the first entry is of the other one's folder and name.
+    // Whether it is of the entry's folder and name.
     fn begins_as(&self, entry: &TableEntry<'_>) -> bool
-        ensures { result ≡ begins_with (key_in entry.now) self.now }
+        ensures { result ≡ is_eq (key_cmp self.now.0 (key_in entry.now)) }
     {
         self.first.compare(entry.folder, entry.name).is_eq()
     }
 
-    // Adds the entries behind those of the list.
-    fn add_to(&self, list: &mut Vec<TableEntry<'a>>) -> Result<(), AllocError>
-        ensures { OnOk result (map listed list.new.items ≡ map listed list.old.items ++ self.now) }
+    // Its number.
+    fn number(&self) -> usize
+        ensures { result ≡ self.now.1 }
     {
-        let first = &self.first;
-        list.reserve(1)?;
-        list.push_reserved(first.again());
-        for other in self.others.as_slice() {
-            list.reserve(1)?;
-            list.push_reserved(TableEntry {
-                folder: first.folder,
-                name: first.name,
-                device: other.0,
-                held: other.1.again(),
-            });
-        }
+        self.number
+    }
+
+    // Has this number from now on.
+    fn renumber(&mut self, number: usize)
+        ensures { self.new ≡ (self.old.0, number) }
+    {
+        self.number = number;
+    }
+
+    // Makes room behind the list for as many entries as were counted, and begins there.
+    fn take_room(&mut self, list: &mut Vec<TableEntry<'a>>) -> Result<(), AllocError>
+        ensures key { self.new.0 ≡ self.old.0 }
+        ensures place { OnOk result (self.new.1 ≡ length list.old.items) }
+        ensures room { OnOk result (length list.new.items ≡ length list.old.items + self.old.1) }
+    {
+        let place = list.len();
+        push_copies(list, &self.first, self.number)?;
+        self.number = place;
         Ok(())
     }
 }
 
-// Groups of entries, and where the group of each folder and name stands. The lists of a cut mostly have their names in one
-// order, so the group behind the last one is looked at first.
+// Adds the entry behind the list so many times.
+fn push_copies<'a>(
+    list: &mut Vec<TableEntry<'a>>,
+    entry: &TableEntry<'a>,
+    count: usize,
+) -> Result<(), AllocError>
+    ensures { OnOk result (length list.new.items ≡ length list.old.items + count) }
+{
+    for _copy in 0..count {
+        list.reserve(1)?;
+        list.push_reserved(entry.again());
+    }
+    Ok(())
+}
+
+// Room for the entries of all groups, one group's behind the other's: first come those of the least folder and name.
+fn rooms<'a>(
+    alloc: Global,
+    groups: &mut Vec<Group<'a>>,
+    places: &BTreeMap<TableEntry<'a>, usize>,
+) -> Result<Vec<TableEntry<'a>>, AllocError>
+    requires { AreFull groups.old.items places.now.entries }
+    ensures full { AreFull groups.new.items places.now.entries }
+    ensures room { IfOk result (λ made. (all : List Listed) →
+        Counted all (grouping groups.old.items places.now.entries []) → Filled all [] (grouping groups.new.items places.now.entries made.items)) }
+{
+    let mut list = Vec::with_capacity(alloc, counted(groups.as_slice()))?;
+    for (_first, place) in places.iter() {
+        let group = &mut groups[*place];
+        group.take_room(&mut list)?;
+    }
+    Ok(list)
+}
+
+// How many entries the groups have. It is the room that the list of all is made with. No contract needs that it is right, but
+// with too great a number the list would want more memory than there is.
+fn counted(groups: &[Group<'_>]) -> usize {
+    let mut count: usize = 0;
+    for group in groups {
+        count = count.saturating_add(group.number());
+    }
+    count
+}
+
+// The number behind this one. More entries than there are numbers want more memory than there is.
+fn one_more(number: usize) -> Result<usize, AllocError>
+    ensures { IfOk result (λ next. next ≡ number + 1) }
+{
+    match number.checked_add(1) {
+        Some(next) => Ok(next),
+        None => Err(AllocError),
+    }
+}
+
+// Puts the entry at this place, if the list has it.
+fn put_at<'a>(list: &mut Vec<TableEntry<'a>>, place: usize, entry: &TableEntry<'a>)
+    ensures { map listed list.new.items ≡ set (map listed list.old.items) place (listed entry.now) }
+{
+    if place >= list.len() {
+        return;
+    }
+    list[place] = entry.again();
+}
+
+// Groups of entries, and where the group of each folder and name stands. All entries are added twice: first they are
+// counted, and then, when there is room for them, each is put behind those of its group. So no second list of them is made.
+// The lists of a cut mostly have their names in one order, so the group behind the last one is looked at first.
 #[derive(Drop)]
 pub(crate) struct Groups<'a> {
     groups: Vec<Group<'a>>,
     places: BTreeMap<TableEntry<'a>, usize>,
     next: usize,
+    entries: Vec<TableEntry<'a>>,
+}
+
+impl<'a> Model for Groups<'a> {
+    ghost use Rattle.bep_tables.specs.inner.Groups.{AreFull, Grouping, grouping};
+
+    ghost Value = { Grouping };
+
+    ghost view = { λ all. grouping all.groups.items all.places.entries all.entries.items };
+
+    ghost invariant = { λ all. AreFull all.groups.items all.places.entries };
 }
 
 impl<'a> Groups<'a> {
-    // The groups of these entries.
-    pub(crate) fn of(alloc: Global, entries: &[TableEntry<'a>]) -> Result<Self, AllocError>
-        ensures { IfOk result (λ made. AreGroups (map listed entries.now) made.groups.items made.places.entries) }
+    // No groups, and room for no entry.
+    pub(crate) fn new(alloc: Global) -> Self
+        ensures { result ≡ grouping [] [] [] }
     {
-        let mut made = Groups {
+        Groups {
             groups: Vec::new(alloc),
             places: BTreeMap::new(alloc),
             next: 0,
-        };
-        for entry in entries {
-            made.add(alloc, entry)?;
+            entries: Vec::new(alloc),
         }
-        Ok(made)
     }
 
-    // Adds the entry to its group, or begins one with it.
-    fn add(&mut self, alloc: Global, entry: &TableEntry<'a>) -> Result<(), AllocError>
-        requires { AreFull self.old.groups.items self.old.places.entries }
-        ensures { OnOk result ((seen : List Listed) →
-            AreGroups seen self.old.groups.items self.old.places.entries →
-            AreGroups (seen ++ listed entry.now ∷ []) self.new.groups.items self.new.places.entries) }
+    // Counts the entry or, where there is room for all, puts it behind those of its group.
+    pub(crate) fn add(&mut self, entry: &TableEntry<'a>) -> Result<(), AllocError>
+        ensures { OnOk result (Took (listed entry.now ∷ []) self.old self.new) }
     {
         match self.place_of(entry) {
-            Some(place) => {
-                self.groups[place].push(entry)?;
-                self.next = place + 1;
-            }
-            None => {
-                let place = self.groups.len();
-                let group = Group::of(alloc, entry);
-                match self.places.insert(entry.again(), place) {
-                    Ok(_) => {}
-                    Err(_) => return Err(AllocError),
-                }
-                self.groups.push(group)?;
-                self.next = place + 1;
-            }
+            Some(place) => self.add_at(place, entry),
+            None => self.begin(entry),
         }
+    }
+
+    // The same for an entry whose group stands at this place.
+    fn add_at(&mut self, place: usize, entry: &TableEntry<'a>) -> Result<(), AllocError>
+        requires { place_of self.old.places (key_in entry.now) ≡ Some place }
+        ensures { OnOk result (Took (listed entry.now ∷ []) self.old self.new) }
+    {
+        let at = self.groups[place].number();
+        let next = one_more(at)?;
+        self.groups[place].renumber(next);
+        put_at(&mut self.entries, at, entry);
+        self.next = place + 1;
+        Ok(())
+    }
+
+    // The same for the first entry of a group.
+    fn begin(&mut self, entry: &TableEntry<'a>) -> Result<(), AllocError>
+        requires { place_of self.old.places (key_in entry.now) ≡ None }
+        ensures { OnOk result (Took (listed entry.now ∷ []) self.old self.new) }
+    {
+        let place = self.groups.len();
+        self.groups.reserve(1)?;
+        match self.places.insert(entry.again(), place) {
+            Ok(_) => {}
+            Err(_) => return Err(AllocError),
+        }
+        let group = Group::of(entry);
+        self.groups.push_reserved(group);
+        self.next = place + 1;
         Ok(())
     }
 
     // Where the entry's group stands, if there is one.
     fn place_of(&self, entry: &TableEntry<'a>) -> Option<usize>
-        requires { AreFull self.now.groups.items self.now.places.entries }
-        ensures { result ≡ place_in self.now.places.entries entry.now }
+        ensures { result ≡ place_of self.now.places (key_in entry.now) }
     {
-        let next = if self.next < self.groups.len() {
-            self.next
-        } else {
-            0
-        };
+        let places = &self.places;
+        let next = self.guess();
         if self.stands_at(next, entry) {
             return Some(next);
         }
-        self.places.get(entry).copied()
+        places.get(entry).copied()
+    }
+
+    // Where to look first: behind the group of the last entry, or at the first one.
+    fn guess(&self) -> usize {
+        if self.next < self.groups.len() {
+            self.next
+        } else {
+            0
+        }
     }
 
     // Whether the entry's group stands at this place.
     fn stands_at(&self, place: usize, entry: &TableEntry<'_>) -> bool
-        ensures { result ≡ begins_with (key_in entry.now) (get_or self.now.groups.items place []) }
+        ensures { result ≡ begins_with (key_in entry.now) place self.now.groups }
     {
         place < self.groups.len() && self.groups[place].begins_as(entry)
     }
 
-    // All entries, by folder and then name; there are so many.
-    pub(crate) fn entries(
-        &self,
-        alloc: Global,
-        count: usize,
-    ) -> Result<Vec<TableEntry<'a>>, AllocError>
-        requires { AreFull self.now.groups.items self.now.places.entries }
-        ensures { IfOk result (λ made. (before : List TableEntry) →
-            AreGroups (map listed before) self.now.groups.items self.now.places.entries →
-            IsGrouped (map listed before) made.items) }
+    // Makes room for all entries that were counted.
+    pub(crate) fn make_room(&mut self, alloc: Global) -> Result<(), AllocError>
+        ensures { OnOk result ((all : List Listed) → Counted all self.old → Filled all [] self.new) }
     {
-        let mut entries = Vec::with_capacity(alloc, count)?;
-        for (_first, place) in self.places.iter() {
-            self.groups[*place].add_to(&mut entries)?;
-        }
-        Ok(entries)
+        let entries = rooms(alloc, &mut self.groups, &self.places)?;
+        self.entries = entries;
+        Ok(())
+    }
+
+    // All entries, by folder and then name, once each was put.
+    pub(crate) fn entries(self) -> Vec<TableEntry<'a>>
+        ensures { (all : List Listed) → Filled all all self.entry → IsGrouped all result.items }
+    {
+        let Groups { entries, .. } = self;
+        entries
     }
 }

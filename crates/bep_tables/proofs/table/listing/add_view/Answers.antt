@@ -1,0 +1,21 @@
+use Rattle.std.proofs.Common.{◌∙◌, flat_map, subst, sym}
+use Rattle.bep_tables.specs.declared.table.entry.Source.TheVariants.{View}
+use Rattle.bep_tables.specs.Listed.{foreign_listed}
+use Rattle.bep_tables.specs.inner.Groups.{Took}
+use Rattle.bep_tables.proofs.ListingFacts.{took_both, took_none}
+use Rattle.bep_tables.proofs.table.listing.add_view.Goals as goal
+
+pub loop-name-init : goal.loop-name-init
+loop-name-init c = λ last took.
+    subst (λ left. Took (flat_map (foreign_listed c.args.folder.now c.args.device View) left) c.args.groups.now last) (c.into_iter-name-iterator.ensures.into_iter_gives ∙ c.iter-name-items.ensures) took
+
+pub loop-name-preserved : goal.loop-name-preserved
+loop-name-preserved c = λ last took.
+    c.loop-name.invariant last
+    (subst (λ left. Took (flat_map (foreign_listed c.args.folder.now c.args.device View) left) c.loop-name.groups last) (sym c.in-Some.ensures.steps)
+    (took_both (foreign_listed c.args.folder.now c.args.device View (c.in-Some.name.now, c.in-Some.found.now)) (flat_map (foreign_listed c.args.folder.now c.args.device View) c.next.new.self) c.in_ok-add_foreign.ensures took))
+
+pub returns : goal.returns
+returns c =
+    c.loop-name.invariant c.loop-name.groups
+    (subst (λ left. Took (flat_map (foreign_listed c.args.folder.now c.args.device View) left) c.loop-name.groups c.loop-name.groups) (sym c.in-None.ensures.steps.0) (took_none c.loop-name.groups))
