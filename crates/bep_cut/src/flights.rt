@@ -110,7 +110,7 @@ fn add_flight(
 {
     batch.as_slice();
     let folder = folder.copy(alloc)?;
-    let records = Items::new(batch.copy(alloc)?.into_vec());
+    let records = batch.to_items(alloc)?;
     flights.push(Flight {
         folder,
         full,

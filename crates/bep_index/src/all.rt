@@ -1,7 +1,6 @@
 //! The records of a batch together, in a map.
 ghost use Rattle.std.specs.Prelude.{◌≡◌, ◌≤◌, [], IfOk, IsOk, IsSome, OnErr, OnOk, length};
 ghost use Rattle.std.specs.FinMap as finite;
-ghost use Rattle.std.specs.Vec.Iter.{into_iter_items};
 ghost use Rattle.bep_index.specs.Batch.{IsBatch, last_sequence, with_all};
 ghost use Rattle.bep_index.specs.Change.{given_back};
 ghost use Rattle.bep_index.specs.inner.Count.{new_names};
@@ -11,7 +10,6 @@ use crate::Batch;
 use bep_map::NameMap;
 use bep_record::{Name, Record};
 use std::alloc::{AllocError, Global};
-use std::vec::IntoIter;
 
 // The sequence of the last record, `low` where there is none.
 pub(crate) fn last_sequence_of(low: u64, records: &[Record]) -> u64
@@ -51,25 +49,22 @@ pub(crate) fn put_batch(
     ensures good { AllGood batch }
 {
     batch.records_are_good();
-    put_all(map, alloc, &mut batch.into_vec().into_iter())
+    put_all(map, alloc, batch.as_slice())
 }
 
-// Puts each of the records at its name. Without memory the map is as before: each call takes its own record out again,
-// so that no copy of the map is made. It calls itself once for each record, at most 1000 deep.
-fn put_all(
-    map: &mut NameMap<Record>,
-    alloc: Global,
-    records: &mut IntoIter<Record>,
-) -> Result<(), AllocError>
-    ensures ok { OnOk result (map.new ≡ with_all map.old (into_iter_items records.old)) }
+// Puts a copy of each of the records at its name: other batches may share them. Without memory the map is as before: each
+// call takes its own record out again, so that no copy of the map is made. It calls itself once for each record, at most
+// 1000 deep.
+fn put_all(map: &mut NameMap<Record>, alloc: Global, records: &[Record]) -> Result<(), AllocError>
+    ensures ok { OnOk result (map.new ≡ with_all map.old records.now) }
     ensures err { OnErr result (map.new ≡ map.old) }
-    ensures none { into_iter_items records.old ≡ [] → IsOk result }
+    ensures none { records.now ≡ [] → IsOk result }
 {
-    let Some(entry) = records.next() else {
+    let [entry, more @ ..] = records else {
         return Ok(());
     };
-    let put = put_one(map, alloc, entry)?;
-    let rest = put_all(map, alloc, records);
+    let put = put_one(map, alloc, entry.copy(alloc)?)?;
+    let rest = put_all(map, alloc, more);
     keep_if_ok(map, put, rest)
 }
 

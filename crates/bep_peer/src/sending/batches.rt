@@ -18,7 +18,7 @@ pub fn next_batch(alloc: Global, index: &Index, cursor: Plan) -> Result<Batch, A
     ensures { IfOk result (λ batch. IsAfter index.now.records (sent_up_to cursor) MAX_RECORDS batch) }
 {
     let found = index.after(alloc, sent_up_to(cursor), MAX_RECORDS)?;
-    Ok(Batch::of(found))
+    Ok(Batch::of(found)?)
 }
 
 /// Whether nothing is left to send. An Index is sent even if it is empty. It takes no memory.

@@ -18,7 +18,7 @@ has_value (Err _) old put new name key entry is same left =
 
 pub keep_if_ok-requires : goal.keep_if_ok-requires
 keep_if_ok-requires t c =
-    has_value c.put_all-rest.result c.args.map.now c.put_one.new.map c.put_all-rest.new.map c.in_ok-put.put.name c.in-Some.entry.name c.in-Some.entry c.in_ok-put.ensures.ok c.in_ok-put.ensures.name c.put_all-rest.ensures.err
+    has_value c.put_all-rest.result c.args.map.now c.put_one.new.map c.put_all-rest.new.map c.in_ok-put.put.name c.in_ok-copy.field-0.name c.in_ok-copy.field-0 c.in_ok-put.ensures.ok c.in_ok-put.ensures.name c.put_all-rest.ensures.err
 
 -- what had a value before has it again
 as_before : {T E : Type 0} (rest kept : Result T E) (old put new last : ByName Entry) (name key : List ℕ) (entry : Entry) (before : Option Entry) → kept ≡ rest → put ≡ insert old key entry → name ≡ key → before ≡ get old key
@@ -30,5 +30,5 @@ as_before (Err e) kept old put new last name key entry before same is here was l
 
 pub returns-clause-err : goal.returns-clause-err
 returns-clause-err t c =
-    as_before c.put_all-rest.result c.keep_if_ok.result c.args.map.now c.put_one.new.map c.put_all-rest.new.map c.keep_if_ok.new.map c.in_ok-put.put.name c.in-Some.entry.name c.in-Some.entry c.in_ok-put.put.before
+    as_before c.put_all-rest.result c.keep_if_ok.result c.args.map.now c.put_one.new.map c.put_all-rest.new.map c.keep_if_ok.new.map c.in_ok-put.put.name c.in_ok-copy.field-0.name c.in_ok-copy.field-0 c.in_ok-put.put.before
     c.keep_if_ok.ensures.same c.in_ok-put.ensures.ok c.in_ok-put.ensures.name c.in_ok-put.ensures.before c.put_all-rest.ensures.err c.keep_if_ok.ensures.err

@@ -1,6 +1,5 @@
 use Rattle.std.proofs.Common.{length}
-use Rattle.std.specs.Vec.Iter.{into_iter_items}
 use Rattle.bep_index.proofs.all.+put_all.Given as goal
 
 abbrev pub decreases-put_all : goal.decreases-put_all
-decreases-put_all l = length (into_iter_items l.records.now)
+decreases-put_all l = length l.records.now

@@ -9,5 +9,5 @@ of-requires c = c.in_ok-found.ensures.batch (omega arith)
 pub returns : goal.returns
 returns c =
     let records = c.args.index.now.records in
-    subst (λ sequence. IsAfter records sequence MAX_RECORDS c.of.result) c.sent_up_to.ensures
-    (subst (IsAfter records c.sent_up_to.result MAX_RECORDS) (sym c.of.ensures) c.in_ok-found.ensures.found)
+    subst (λ sequence. IsAfter records sequence MAX_RECORDS c.in_ok-of.field-0) c.sent_up_to.ensures
+    (subst (IsAfter records c.sent_up_to.result MAX_RECORDS) (sym c.in_ok-of.ensures) c.in_ok-found.ensures.found)
