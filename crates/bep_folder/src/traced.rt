@@ -2,6 +2,7 @@
 ghost use Rattle.std.specs.Prelude.{◌≡◌, ◌↔◌, true, None, Some, IsTrue, IfOk, IfErr, IfSome, OnOk, OnErr};
 ghost use Rattle.std.specs.Option.{option_copied};
 ghost use Rattle.std.specs.FinMap as map;
+ghost use Rattle.bep_store.specs.Range.{HasRangeHash};
 ghost use Rattle.bep_store.specs.Store.{AreNodes, after_set_time};
 ghost use Rattle.bep_store.specs.Sure.{NeverFails};
 ghost use Rattle.bep_store.specs.declared.error.StoreError.TheVariants.{Fault};
@@ -138,6 +139,15 @@ impl<S: Store> Traced<S> {
         ensures { IfSome (option_copied result) (λ node. map.get self.now.contents name.now ≡ Some node) }
     {
         self.store.at_hand(name)
+    }
+
+    // The hash of so many bytes of the name's file from this offset on, where the store can tell it from its memory. It is no
+    // call of the store that may fail.
+    pub(crate) fn hash_at_hand(&mut self, name: &Name, offset: u64, size: u32) -> Option<[u8; 32]>
+        ensures hash { IfSome result (HasRangeHash (map.get self.old.contents name.now) offset size) }
+        ensures same { self.new ≡ self.old }
+    {
+        self.store.hash_at_hand(name, offset, size)
     }
 
     // Whether the name has no node.

@@ -13,7 +13,7 @@ use Rattle.bep_machine.specs.Replica.{ByDevice}
 use Rattle.bep_folder.specs.Held.{Held}
 use Rattle.bep_folder.specs.Makes.{Stays}
 use Rattle.bep_peer.specs.declared.trace.Trace.{Trace}
-use Rattle.bep_peer.specs.Member.{Member, AreOwn, NameShared, Remains, HasFailed, tables_in, nothing_told}
+use Rattle.bep_peer.specs.Member.{Member, AreOwn, NameShared, HasFailed, tables_in}
 use Rattle.bep_peer.proofs.Mapped.{get-changed, insert-changed}
 
 -- a device, of its parts

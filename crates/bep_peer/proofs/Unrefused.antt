@@ -1,5 +1,5 @@
 -- Rows that refuse nothing, from part to part.
-use Rattle.std.proofs.Common.{◌≡◌, ◌<◌, ◌⊎◌, ℕ, Bor, Bool, true, false, List, [], Option, Some, None, Result, Ok, Err, refl, sym, ap, subst, ◌∙◌, inl, inr}
+use Rattle.std.proofs.Common.{◌≡◌, ◌<◌, ℕ, Bor, Bool, false, List, Option, Some, None, Result, Ok, Err, refl, sym, ap, subst, ◌∙◌, inl, inr}
 use Rattle.std.specs.FinMap.{empty, get, len}
 use Rattle.std.proofs.lemmas.Option.{same_Some}
 use Rattle.bep_map.specs.NameMap.{ByName}
@@ -10,7 +10,7 @@ use Rattle.bep_index.specs.declared.send.Plan.{Plan}
 use Rattle.bep_index.specs.After.{IsAfter}
 use Rattle.bep_index.specs.Batch.{with_all}
 use Rattle.bep_index.specs.Listing.{Listing}
-use Rattle.bep_index.specs.View.{IsOld, amended, replaced}
+use Rattle.bep_index.specs.View.{IsOld, amended}
 use Rattle.bep_model.specs.Tables.{Device, Folder, FileName}
 use Rattle.bep_machine.specs.declared.message.Announced.{Announced}
 use Rattle.bep_machine.specs.declared.message.Message.{Message}
@@ -18,11 +18,9 @@ use Rattle.bep_machine.specs.declared.message.Message.TheVariants as messages
 use Rattle.bep_machine.specs.declared.message.Request.{Request}
 use Rattle.bep_machine.specs.declared.message.Response.{Response}
 use Rattle.bep_machine.specs.declared.moved.Moved.{Moved}
-use Rattle.bep_machine.specs.declared.moved.Moved.TheVariants.{Changed, LinkLost}
-use Rattle.bep_machine.specs.declared.refusal.Refusal.{Refusal}
 use Rattle.bep_machine.specs.declared.refusal.Refusal.TheVariants.{NotShared}
-use Rattle.bep_machine.specs.Answer.{Answer, Done, Refused, Row, becomes, when◌then◌else◌, ◌answers◌when◌else◌}
-use Rattle.bep_machine.specs.Exchange.{AnnounceRow, AnsweredRow, AskRow, AskedRow, AskingRow, BeginRow, CanAsk, CursorRow, DeliverRow, IsAllSent, IsNamed, LosingRow, MessageRow, ReplicaRow, RequestRow, ResponseRow, SendingRow, SessionRow, ViewRow, WaitingRow, asked_for, sent_up_to}
+use Rattle.bep_machine.specs.Answer.{Refused, Row}
+use Rattle.bep_machine.specs.Exchange.{AnnounceRow, AnsweredRow, AskRow, AskedRow, AskingRow, BeginRow, CanAsk, CursorRow, DeliverRow, IsAllSent, IsNamed, MessageRow, ReplicaRow, SendingRow, SessionRow, WaitingRow, asked_for, sent_up_to}
 use Rattle.bep_machine.specs.Link.{End, Sight, end_of, sight_of}
 use Rattle.bep_machine.specs.Peer.{Acted, Peer, Session}
 use Rattle.bep_machine.specs.Pull.{StartPullRow}

@@ -1,2 +1,3 @@
 pub mod InsertFacts
+pub mod KeptFacts
 pub mod NodeFacts

@@ -11,7 +11,7 @@ use Rattle.bep_record.specs.declared.limits.TheConstants.{MAX_NANOSECONDS}
 use Rattle.bep_record.specs.Node.{FitsKind, IsNode}
 use Rattle.bep_store.specs.Store.{AreNodes, at_time, with_time}
 
-abbrev same_name : List ℕ → List ℕ → Bool
+abbrev pub same_name : List ℕ → List ℕ → Bool
 same_name = eq_by_cmp (slice_cmp nat_cmp)
 
 pub no_nodes : AreNodes empty

@@ -1,5 +1,6 @@
 //! A store that fails one of its calls.
-ghost use Rattle.std.specs.Prelude.{◌≡◌, ◌<◌, false, IfOk, IsErr, IsErrOf, IsTrue, OnErr, OnOk};
+ghost use Rattle.std.specs.Prelude.{◌≡◌, ◌<◌, false, IfOk, IsErr, IsErrOf, IsTrue, None, OnErr, OnOk};
+ghost use Rattle.std.specs.Option.{option_copied};
 ghost use Rattle.std.specs.FinMap as map;
 ghost use Rattle.bep_store.specs.FaultStore.{is_due, after_call, all_faults, CountsCall};
 ghost use Rattle.bep_store.specs.Store.{after_set_time, CountsFault};
@@ -140,6 +141,22 @@ impl<S: Store> Store for FaultStore<S> {
             return Err(StoreFault);
         }
         self.inner.remove(name)
+    }
+
+    /// It lends nothing: each read of it is a call, which it counts.
+    fn at_hand(&self, _name: &Name) -> Option<&Node>
+        ensures none { option_copied result ≡ None }
+    {
+        let _ = &self.inner;
+        None
+    }
+
+    /// It tells nothing from memory.
+    fn hash_at_hand(&mut self, _name: &Name, _offset: u64, _size: u32) -> Option<[u8; 32]>
+        ensures none { result ≡ None }
+        ensures unchanged { self.new ≡ self.old }
+    {
+        None
     }
 
     fn faults(&self) -> u64 {

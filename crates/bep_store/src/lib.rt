@@ -9,10 +9,13 @@
 
 mod error;
 mod fault_store;
+mod kept;
 mod mem_store;
+mod range;
 mod store;
 
 pub use error::{StoreError, StoreFault};
 pub use fault_store::FaultStore;
 pub use mem_store::MemStore;
+pub use range::range_of;
 pub use store::Store;

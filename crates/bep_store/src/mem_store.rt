@@ -4,22 +4,31 @@ ghost use Rattle.std.specs.Option.{option_copied};
 ghost use Rattle.std.specs.FinMap as map;
 ghost use Rattle.bep_store.specs.Store.{at_time, with_time};
 
-use crate::{Store, StoreError, StoreFault};
+use crate::kept::{hash_of, keep, kept_hash};
+use crate::{Store, StoreError, StoreFault, range_of};
 use bep_map::NameMap;
-use bep_record::{Items, Kind, MAX_NANOSECONDS, Name, Node, NodeParts, Target};
+use bep_record::{Block, BlockSize, Items, Kind, MAX_NANOSECONDS, Name, Node, NodeParts, Target};
 use std::alloc::{AllocError, Global};
 use std::marker::Model;
 
 /// A store in memory, which never fails.
+///
+/// It keeps the hash of each range of a file that was asked for (`hash_at_hand`), until something else is written at the
+/// name. There are at most as many as the file has blocks of 131072 bytes.
 pub struct MemStore {
     nodes: NameMap<Node>,
+    kept: NameMap<Items<Block>>,
     alloc: Global,
 }
 
 // By hand: a caller's proof then sees one call where it lets go of one, and not each field (docs/developing.md).
 impl Drop for MemStore {
     fn drop(self) {
-        let MemStore { nodes: _, alloc: _ } = self;
+        let MemStore {
+            nodes: _,
+            kept: _,
+            alloc: _,
+        } = self;
     }
 }
 
@@ -36,9 +45,9 @@ impl Model for MemStore {
 
     ghost view = { λ store. store.nodes };
 
-    ghost use Rattle.bep_store.specs.Store.{AreNodes};
+    ghost use Rattle.bep_store.specs.Kept.{IsStore};
 
-    ghost invariant = { λ store. AreNodes store.nodes };
+    ghost invariant = { λ store. IsStore store.nodes store.kept };
 }
 
 impl MemStore {
@@ -48,6 +57,7 @@ impl MemStore {
     {
         MemStore {
             nodes: NameMap::new(alloc),
+            kept: NameMap::new(alloc),
             alloc,
         }
     }
@@ -60,6 +70,7 @@ impl MemStore {
     {
         // `parts` is called for its clause `is_node`
         let _parts = node.parts();
+        self.kept.remove(&name);
         self.nodes.insert(name, node)?;
         Ok(())
     }
@@ -68,7 +79,11 @@ impl MemStore {
     pub fn into_nodes(self) -> NameMap<Node>
         ensures { result ≡ self }
     {
-        let MemStore { nodes, alloc: _ } = self;
+        let MemStore {
+            nodes,
+            kept: _,
+            alloc: _,
+        } = self;
         nodes
     }
 }
@@ -96,11 +111,26 @@ impl Store for MemStore {
         self.nodes.get(name)
     }
 
+    /// A range that was asked for is hashed once, until its name's node changes in more than its time.
+    fn hash_at_hand(&mut self, name: &Name, offset: u64, size: u32) -> Option<[u8; 32]> {
+        let node = self.nodes.get(name)?;
+        let range = range_of(node, offset, size)?;
+        if let Some(hash) = kept_hash(&self.kept, name, offset, size) {
+            return Some(hash);
+        }
+        let hash = hash_of(self.alloc, range)?;
+        let most = BlockSize::base().block_count(node.parts().bytes.as_slice().len() as u64);
+        let block = Block { offset, size, hash };
+        let _kept = keep(self.alloc, &mut self.kept, name, most, block);
+        Some(hash)
+    }
+
     fn write(&mut self, name: &Name, node: &Node) -> Result<(), StoreError> {
         // `parts` is called for its clause `is_node`
         let _parts = node.parts();
         let key = name.copy(self.alloc)?;
         let copy = node.copy(self.alloc)?;
+        self.kept.remove(&key);
         self.nodes.insert(key, copy)?;
         Ok(())
     }
@@ -113,6 +143,7 @@ impl Store for MemStore {
     }
 
     fn remove(&mut self, name: &Name) -> Result<(), StoreFault> {
+        self.kept.remove(name);
         self.nodes.remove(name);
         Ok(())
     }

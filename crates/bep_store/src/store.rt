@@ -4,6 +4,7 @@ ghost use Rattle.std.specs.Option.{option_copied};
 ghost use Rattle.std.specs.FinMap as map;
 ghost use Rattle.bep_map.specs.NameMap.{ByName};
 ghost use Rattle.bep_record.specs.declared.node.NodeParts.{NodeParts};
+ghost use Rattle.bep_store.specs.Range.{HasRangeHash};
 ghost use Rattle.bep_store.specs.Store.{after_set_time, AreNodes, CountsFault};
 
 use crate::{StoreError, StoreFault};
@@ -12,8 +13,8 @@ use std::alloc::Global;
 
 /// Where a device keeps the files of a folder: a node under each name that has one.
 ///
-/// Each call but `faults` may fail. It answers a fault exactly where the count of faults rose, and after a fault or
-/// want of memory the store holds what it held. This project's profile.
+/// Each call but `at_hand`, `hash_at_hand` and `faults` may fail. It answers a fault exactly where the count of faults
+/// rose, and after a fault or want of memory the store holds what it held. This project's profile.
 pub trait Store: Drop {
     /// What the store holds: the node of each name that has one.
     ghost contents: { Self → ByName NodeParts };
@@ -58,6 +59,17 @@ pub trait Store: Drop {
     /// says nothing; a store that has no nodes in memory answers nothing else.
     fn at_hand(&self, _name: &Name) -> Option<&Node>
         ensures lent { IfSome (option_copied result) (λ node. map.get (contents self.now) _name.now ≡ Some node) }
+    {
+        None
+    }
+
+    /// The SHA-256 of so many bytes of the name's file from this offset on, where the store can tell it from its memory: this
+    /// is no call that may fail. A store may keep what it told, so that the hash is made once until the file changes. `None`
+    /// says nothing.
+    fn hash_at_hand(&mut self, _name: &Name, _offset: u64, _size: u32) -> Option<[u8; 32]>
+        ensures hash { IfSome result (HasRangeHash (map.get (contents self.old) _name.now) _offset _size) }
+        ensures same { contents self.new ≡ contents self.old }
+        ensures steady { faults self.new ≡ faults self.old }
     {
         None
     }

@@ -2,6 +2,7 @@
 ghost use Rattle.std.specs.Prelude.{◌≡◌, None, Some, IfSome};
 ghost use Rattle.std.specs.Option.{option_copied};
 ghost use Rattle.std.specs.FinMap as map;
+ghost use Rattle.bep_store.specs.Range.{HasRangeHash};
 ghost use Rattle.bep_store.specs.Sure.{NeverFails};
 ghost use Rattle.bep_machine.specs.Replica.{node_at};
 ghost use Rattle.bep_folder.specs.Held.{AreOthers, ArePulls};
@@ -77,6 +78,15 @@ impl<S: Store> Replica<S> {
         ensures { IfSome (option_copied result) (λ node. node_at self.now.tables name.now ≡ Some node) }
     {
         self.store.at_hand(name)
+    }
+
+    /// The hash of so many bytes of the name's file from this offset on, where the store can tell it from its memory; that is no
+    /// call of the store that may fail. `None` says nothing.
+    pub fn hash_at_hand(&mut self, name: &Name, offset: u64, size: u32) -> Option<[u8; 32]>
+        ensures hash { IfSome result (HasRangeHash (node_at self.old.tables name.now) offset size) }
+        ensures same { self.new ≡ self.old }
+    {
+        self.store.hash_at_hand(name, offset, size)
     }
 
     /// What the last call did that may change the folder or look into its store: which of its calls of the store

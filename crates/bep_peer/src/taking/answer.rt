@@ -2,11 +2,14 @@
 ghost use Rattle.std.specs.Prelude.{◌≡◌, ◌↔◌, ◌<◌, ◌≤◌, ◌+◌, ◌^◌, length, take, drop, Some, None, IsTrue, IfOk, IfSome, IfNone};
 ghost use Rattle.std.specs.Option.{option_copied};
 ghost use Rattle.bep_blocks.specs.Plain.{hash_of};
+ghost use Rattle.bep_store.specs.Range.{HasRangeHash};
+ghost use Rattle.bep_machine.specs.declared.message.Code.TheVariants.{NoError};
 ghost use Rattle.bep_machine.specs.Exchange.{Answers, HasBytes, HasRange, bytes_asked, refusing};
 
 use bep_blocks::matches;
 use bep_machine::{Code, Request, Response};
-use bep_record::{Block, Items, Kind, Node};
+use bep_record::{Block, Items, Node};
+use bep_store::range_of;
 use std::alloc::{AllocError, Global};
 
 /// The answer without bytes, and the reason why it has none. It takes no memory.
@@ -40,6 +43,32 @@ pub fn answer_to(
     if !has_hash(bytes, &request.hash) {
         return Ok(refuse(alloc, request, Code::InvalidFile));
     }
+    bringing(alloc, request, bytes)
+}
+
+/// The same answer by a node that is known to have the range that is asked for, and the range this hash; so it isn't hashed.
+pub(crate) fn answer_known(
+    alloc: Global,
+    request: &Request,
+    node: &Node,
+    hash: &[u8; 32],
+) -> Result<Response, AllocError>
+    requires { HasRangeHash (Some node.now) request.now.offset request.now.size hash.now }
+    ensures { IfOk result (Answers request.now None (Some node.now)) }
+{
+    let Some(bytes) = asked_bytes(request, Some(node)) else {
+        unreachable!();
+    };
+    if *hash != request.hash {
+        return Ok(refuse(alloc, request, Code::InvalidFile));
+    }
+    bringing(alloc, request, bytes)
+}
+
+// The answer that brings these bytes, or want of memory.
+fn bringing(alloc: Global, request: &Request, bytes: &[u8]) -> Result<Response, AllocError>
+    ensures { IfOk result (λ response. response ≡ record { id = request.now.id; code = NoError; bytes = bytes.now }) }
+{
     Ok(Response {
         id: request.id,
         code: Code::NoError,
@@ -65,24 +94,7 @@ fn asked_bytes<'a>(request: &Request, node: Option<&'a Node>) -> Option<&'a [u8]
     let Some(node) = node else {
         return None;
     };
-    let parts = node.parts();
-    match parts.kind {
-        Kind::File => range_of(parts.bytes.as_slice(), request.offset, request.size),
-        Kind::Directory | Kind::Symlink => None,
-    }
-}
-
-// As many bytes from this place on, if there are so many.
-fn range_of(bytes: &[u8], offset: u64, size: u32) -> Option<&[u8]>
-    ensures some { IfSome result (λ range. (offset + size ≤ length bytes.now) × (range.now ≡ take size (drop offset bytes.now)) × (length range.now < 2 ^ 32)) }
-    ensures none { IfNone result (length bytes.now < offset + size) }
-{
-    let len = bytes.len() as u64;
-    if offset > len || u64::from(size) > len - offset {
-        return None;
-    }
-    let start = offset as usize;
-    Some(&bytes[start..start + size as usize])
+    range_of(node, request.offset, request.size)
 }
 
 // Whether the bytes have this SHA-256.

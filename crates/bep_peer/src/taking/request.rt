@@ -3,6 +3,7 @@ ghost use Rattle.std.specs.Prelude.{◌≡◌, ◌↔◌, ◌⊎◌, false, Opti
 ghost use Rattle.std.specs.Option.{option_copied};
 ghost use Rattle.std.specs.FinMap as map;
 ghost use Rattle.bep_record.specs.declared.node.NodeParts.{NodeParts};
+ghost use Rattle.bep_store.specs.Range.{HasRangeHash};
 ghost use Rattle.bep_store.specs.Sure.{NeverFails};
 ghost use Rattle.bep_folder.specs.Held.{Held};
 ghost use Rattle.bep_folder.specs.Makes.{CountsFaults, Stays};
@@ -19,7 +20,7 @@ ghost use Rattle.bep_peer.specs.inner.Request.{IsNodeAt, ReadsFrom, failed_by};
 ghost use Rattle.bep_peer.specs.Unhidden.{GoesOn};
 ghost use Rattle.bep_peer.specs.declared.error.PeerError.TheVariants.{Memory};
 
-use crate::taking::answer::{answer_to, refuse};
+use crate::taking::answer::{answer_known, answer_to, refuse};
 use crate::taking::effect::Effect;
 use crate::{Peer, PeerError};
 use bep_folder::{FolderError, Replica};
@@ -52,8 +53,9 @@ impl<S: Store> Peer<S> {
         if full {
             return Err(PeerError::Refused(Refusal::LinkFull));
         }
+        let hash = self.hash_at_hand(request);
         if let Some(node) = self.node_at_hand(&request.folder, &request.name) {
-            return Ok(Effect::Answered(answer_seen(self.alloc, request, node)?));
+            return Ok(Effect::Answered(answer_seen(self.alloc, request, node, hash)?));
         }
         let read = self.read(&request.folder, &request.name);
         Ok(Effect::Answered(answer_read(self.alloc, request, read)?))
@@ -68,6 +70,15 @@ impl<S: Store> Peer<S> {
             Some(session) => session.cursor(folder).is_some(),
             None => false,
         }
+    }
+
+    // The hash of what is asked for, where the folder's store can tell it from its memory. So a block that is asked for again
+    // and again is hashed once.
+    fn hash_at_hand(&mut self, request: &Request) -> Option<[u8; 32]>
+        ensures hash { IfSome result (λ hash. (held : Held) → map.get self.old.folders request.now.folder ≡ Some held → HasRangeHash (node_at held.tables request.now.name) request.now.offset request.now.size hash) }
+        ensures same { self.new ≡ self.old }
+    {
+        hash_at(&mut self.folders, request)
     }
 
     // The folder's node at the name, lent, where its store has it at hand. So a large file isn't copied for each of its blocks.
@@ -92,6 +103,17 @@ impl<S: Store> Peer<S> {
         let read = read_at(&mut self.folders, folder, name);
         self.trace.tell_failed(failed_by(&read));
         read
+    }
+}
+
+// The hash of what is asked for, where the folder's store can tell it from its memory.
+fn hash_at<S: Store>(folders: &mut FolderMap<Replica<S>>, request: &Request) -> Option<[u8; 32]>
+    ensures hash { IfSome result (λ hash. (held : Held) → map.get folders.old request.now.folder ≡ Some held → HasRangeHash (node_at held.tables request.now.name) request.now.offset request.now.size hash) }
+    ensures same { folders.new ≡ folders.old }
+{
+    match folders.get_mut(&request.folder) {
+        Some(replica) => replica.hash_at_hand(&request.name, request.offset, request.size),
+        None => None,
     }
 }
 
@@ -135,12 +157,21 @@ fn failed_by(read: &Result<Option<Node>, FolderError>) -> Option<u32>
     }
 }
 
-// The answer to a request whose node is at hand, or want of memory.
-fn answer_seen(alloc: Global, request: &Request, node: &Node) -> Result<Response, PeerError>
+// The answer to a request whose node is at hand, by the hash of what is asked for where it is known, or want of memory.
+fn answer_seen(
+    alloc: Global,
+    request: &Request,
+    node: &Node,
+    hash: Option<[u8; 32]>,
+) -> Result<Response, PeerError>
+    requires known { IfSome hash (HasRangeHash (Some node.now) request.now.offset request.now.size) }
     ensures ok { IfOk result (Answers request.now None (Some node.now)) }
     ensures code { IfOk result (λ response. failure_of response.code ≡ None) }
     ensures only { IfErr result (λ e. e ≡ Memory) }
 {
+    if let Some(hash) = hash {
+        return Ok(answer_known(alloc, request, node, &hash)?);
+    }
     Ok(answer_to(alloc, request, Some(node))?)
 }
 

@@ -1,12 +1,11 @@
-use Rattle.std.proofs.Common.{sym, subst}
-use Rattle.bep_store.specs.Store.{AreNodes}
-use Rattle.bep_store.proofs.NodeFacts.{nodes_with}
+use Rattle.bep_store.proofs.KeptFacts.{store_left, store_with}
 use Rattle.bep_store.proofs.mem_store.MemStore.put.Goals as goal
 
 pub invariant_of-self : goal.invariant_of-self
-invariant_of-self c = subst AreNodes (sym c.in_err-insert.ensures.err) c.self.invariant
+invariant_of-self c =
+    store_left c.self.inside.nodes c.insert.new.self c.self.inside.kept c.remove.new.self c.args.name c.in_err-insert.ensures.err c.remove.ensures.removed c.self.invariant
 
 pub invariant_of-self-2 : goal.invariant_of-self-2
 invariant_of-self-2 c =
-    subst AreNodes (sym c.in_ok-insert.ensures.ok)
-    (nodes_with c.self.inside.nodes c.args.name c.args.node c.parts-parts.ensures.is_node c.self.invariant)
+    store_with c.self.inside.nodes c.insert.new.self c.self.inside.kept c.remove.new.self c.args.name c.args.node c.in_ok-insert.ensures.ok c.remove.ensures.removed
+    c.parts-parts.ensures.is_node c.self.invariant
