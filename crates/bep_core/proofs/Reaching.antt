@@ -63,7 +63,6 @@ sound_later keep from (event ∷ more) later sound nodes run =
     sound_later keep run.0 more later (keep event.step event.failed from run.0 event.answer nodes.0 sound run.1) nodes.1 run.2
 
 pub reached_is_gapless : StepsKeepSound → RunsAreGapless → ReachedIsGapless
-reached_is_gapless keep gapless cluster reached = (
-  sound_later keep reached.from reached.events cluster reached.sound reached.nodes reached.run,
-  gapless reached.from cluster reached.events reached.sound reached.apart reached.nodes reached.run,
-)
+reached_is_gapless keep gapless cluster reached =
+    let later = gapless reached.from cluster reached.events reached.sound reached.apart reached.nodes reached.run in
+    (sound_later keep reached.from reached.events cluster reached.sound reached.nodes reached.run, later.0, later.1)

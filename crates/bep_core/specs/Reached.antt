@@ -1,7 +1,7 @@
 -- Clusters that steps lead to (this project's profile).
 use Rattle.std.specs.Prelude.{List}
 use Rattle.bep_machine.specs.Cluster.{Cluster}
-use Rattle.bep_machine.specs.Gapless.{IsApart, IsGapless}
+use Rattle.bep_machine.specs.Gapless.{IsApart, IsGapless, IsOfNoLaterIndex}
 use Rattle.bep_machine.specs.Laws.{AreSound}
 use Rattle.bep_machine.specs.Sound.{IsSound}
 use Rattle.bep_machine.specs.Steps.{Event, IsRun}
@@ -16,6 +16,6 @@ pub record IsReached (cluster : Cluster) : Type 0 where
   pub nodes : AreSound events
   pub run : IsRun from events cluster
 
--- such a cluster is sound, and what its devices know of each other has no gap
+-- such a cluster is sound, and what its devices know of each other has no gap and is of no index that is still to come
 abbrev pub ReachedIsGapless : Type 0
-ReachedIsGapless = (cluster : Cluster) → IsReached cluster → IsSound cluster × IsGapless cluster
+ReachedIsGapless = (cluster : Cluster) → IsReached cluster → IsSound cluster × IsGapless cluster × IsOfNoLaterIndex cluster

@@ -1,5 +1,5 @@
 -- What follows where two records have the same content.
-use Rattle.std.proofs.Common.{◌≡◌, ◌≢◌, ◌∙◌, ℕ, Bool, true, false, List, Option, Some, None, refl, sym, subst, subst₂, ⊎_elim, arith}
+use Rattle.std.proofs.Common.{◌≡◌, ◌≢◌, ◌∙◌, ℕ, Bool, true, false, List, Option, Some, None, refl, sym, subst, subst₂, ⊎_elim}
 use Rattle.std.proofs.lemmas.Bool.{cases_Bool, cond-true, cond-false}
 use Rattle.bep_record.specs.declared.block.Block.{Block}
 use Rattle.bep_record.specs.declared.entry.Entry.{Entry}

@@ -16,7 +16,7 @@ use Rattle.bep_machine.specs.Peer.{Session}
 use Rattle.bep_machine.specs.Cluster.{Cluster, link_between}
 use Rattle.bep_machine.specs.Steps.{Event, IsRun}
 use Rattle.bep_machine.specs.Sound.{IsSound}
-use Rattle.bep_machine.specs.Gapless.{HasNoGap, IsGapless, IsApart}
+use Rattle.bep_machine.specs.Gapless.{HasNoGap, IsGapless, IsOfNoLaterIndex, IsApart}
 use Rattle.bep_machine.specs.Laws.{AreSound, StepsKeepSound, RunsAreGapless, FreshIsApart, SamePointSameIndex}
 use Rattle.bep_machine.proofs.GapPair.{IsOfEpoch}
 use Rattle.bep_machine.proofs.GapCluster.{IsExchanging}
@@ -77,11 +77,18 @@ exchanging_gapless cluster sound exchanging device other folder replica others s
     let beside = (((sound.peers device member).fit folder replica there).others other).0 among in
     ((exchanging.between device other member (sound.config.sharing folder other beside.1) (λ equal. beside.0 (sym equal)) folder replica others there there_too).keeps_up same)
 
+exchanging_earlier : (cluster : Cluster) → IsSound cluster → IsExchanging cluster → IsOfNoLaterIndex cluster
+exchanging_earlier cluster sound exchanging device other folder replica others shares there there_too among =
+    let member = sound.config.sharing folder device shares in
+    let beside = (((sound.peers device member).fit folder replica there).others other).0 among in
+    ((exchanging.between device other member (sound.config.sharing folder other beside.1) (λ equal. beside.0 (sym equal)) folder replica others there there_too).earlier)
+
 -- ---- runs
 
 module _ (keeps_sound : StepsKeepSound) (found : FoundIsOfBatchOrBefore) (taken : BatchIsFound) (others : OthersAreKept) where
-  run_gapless : (old later : Cluster) (events : List Event) → IsSound old → IsExchanging old → AreSound events → IsRun old events later → IsGapless later
-  run_gapless old later [] sound exchanging user same = subst IsGapless (sym same) (exchanging_gapless old sound exchanging)
+  run_gapless : (old later : Cluster) (events : List Event) → IsSound old → IsExchanging old → AreSound events → IsRun old events later → IsGapless later × IsOfNoLaterIndex later
+  run_gapless old later [] sound exchanging user same =
+      subst (λ cluster. IsGapless cluster × IsOfNoLaterIndex cluster) (sym same) (exchanging_gapless old sound exchanging, exchanging_earlier old sound exchanging)
   run_gapless old later (event ∷ more) sound exchanging user run =
       run_gapless run.0 later more
       (keeps_sound event.step event.failed old run.0 event.answer user.0 sound run.1)

@@ -1,5 +1,5 @@
 -- An override puts the own content above the chosen record, and a revert takes a local change back.
-use Rattle.std.proofs.Common.{◌≡◌, ◌≢◌, ◌≤◌, ℕ, ◌+◌, max, List, [], Option, Some, None, refl, sym, subst, inr, arith}
+use Rattle.std.proofs.Common.{◌≡◌, ◌≢◌, ◌≤◌, ℕ, ◌+◌, max, List, [], Option, Some, None, refl, sym, subst, ◌∙◌, inr, arith}
 use Rattle.bep_record.specs.declared.entry.Entry.{Entry}
 use Rattle.bep_record.specs.Content.{content_of}
 use Rattle.bep_record.specs.Laws.{BumpExists, MergeExists}
@@ -13,7 +13,7 @@ use Rattle.bep_machine.specs.Local.{IsLocalOnly, IsMergedAndRaised, OverridingRo
 use Rattle.bep_machine.specs.Effects.{OverrideWins, RevertTakesBack, content_owned}
 use Rattle.bep_machine.proofs.EffectFacts.{none_fails, put_row, own_version, counter_is_bounded}
 use Rattle.bep_machine.proofs.GoodChoice.{chosen_is_good}
-use Rattle.bep_machine.proofs.ReplicaFacts.{with_record_here, remove_here}
+use Rattle.bep_machine.proofs.ReplicaFacts.{with_record_here, with_record_apart, remove_apart, remove_here}
 
 -- ---- override
 
@@ -62,6 +62,12 @@ module _ (merge_exists : MergeExists) (bump_exists : BumpExists)
         overriding_content device name own chosen raised.0 (old.index.sequence + 1),
         subst (λ (v : List (ℕ × ℕ)). IsBelow chosen.version v) (sym (overriding_version device name own chosen raised.0)) raised.2,
         refl,
+        record {
+          records = λ other apart. with_record_apart old entry other (λ same. apart (same ∙ named));
+          files = λ other apart. refl;
+          pulls = refl;
+          views = refl;
+        },
       )
 
 -- ---- revert
@@ -81,4 +87,10 @@ revert_takes_back_lem device name old own kind is local_only clean not_full =
       refl,
       refl,
       refl,
+      record {
+        records = λ other apart. with_record_apart (with_node old name None) left other apart;
+        files = λ other apart. remove_apart old.store name other apart;
+        pulls = refl;
+        views = refl;
+      },
     )

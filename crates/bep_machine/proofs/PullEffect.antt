@@ -33,6 +33,7 @@ start_pull_begins_lem device name old wanted wants room = (
   with_pull old name (new_pull wanted),
   inr (λ none. none wanted wants.chosen, (wanted, wants.chosen, inr (λ no. no.0 wants.needed, inr (λ no. no wants.needed, inr (room, (refl, refl)))))),
   insert_here old.pulls name (new_pull wanted),
+  refl,
 )
 
 -- a wanted record isn't at most the own one

@@ -17,7 +17,7 @@ use Rattle.bep_model.specs.Settled.{content_of_node}
 use Rattle.bep_model.specs.Tables.{Device, FileName}
 use Rattle.bep_machine.specs.Answer.{Answer, Done, Row}
 use Rattle.bep_machine.specs.declared.moved.Moved.TheVariants.{Changed, Dropped}
-use Rattle.bep_machine.specs.Replica.{Pull, Replica, own_at, node_at, pull_at, version_of, HasContentOf, Chooses, Wants}
+use Rattle.bep_machine.specs.Replica.{Pull, Replica, own_at, node_at, pull_at, version_of, HasContentOf, Chooses, Wants, with_pull}
 use Rattle.bep_machine.specs.Local.{EditRow, RemoveRow, ScanRow, IsCrowded, IsOverridable, ids_with, OverrideRow, RevertRow}
 use Rattle.bep_machine.specs.Pull.{StartPullRow, FinishRow, ArePullsFull, new_pull, IsFile, IsMissingBlocks, IsStillWanted, IsConflictDue, EndsWith, copy_name}
 use Rattle.bep_machine.specs.Sound.{IsSoundReplica}
@@ -91,11 +91,12 @@ WantedIsNewer =
     (device : Device) (name : FileName) (replica : Replica) (wanted own : Entry) → Wants device replica name wanted →
     own_at replica name ≡ Some own → own.invalid ≡ false → ¬ IsAtMost wanted.version own.version
 
--- the pull of a wanted record begins
+-- the pull of a wanted record begins, and all else is as it was
 abbrev pub StartPullBegins : Type 0
 StartPullBegins =
     (device : Device) (name : FileName) (old : Replica) (wanted : Entry) → Wants device old name wanted → (¬ ArePullsFull old name) →
-    (new : Replica) × StartPullRow device name old new (Done Changed) × (pull_at new name ≡ Some (new_pull wanted))
+    (new : Replica) × StartPullRow device name old new (Done Changed) × (pull_at new name ≡ Some (new_pull wanted)) ×
+    (new ≡ with_pull old name (new_pull wanted))
 
 -- all blocks of the pull came, its target is still wanted, the name was scanned, and versions and index have room
 pub record CanFinish (device : Device) (name : FileName) (old : Replica) (pull : Pull) : Type 0 where
@@ -165,6 +166,13 @@ abbrev pub content_owned : Option Entry → Content
 content_owned None = Deleted
 content_owned (Some own) = content_of own
 
+-- each other name has the record and the file that it had, and pulls and views are as they were
+pub record KeepsOtherNames (name : FileName) (old new : Replica) : Type 0 where
+  pub records : (other : FileName) → other ≢ name → own_at new other ≡ own_at old other
+  pub files : (other : FileName) → other ≢ name → node_at new other ≡ node_at old other
+  pub pulls : new.pulls ≡ old.pulls
+  pub views : new.views ≡ old.views
+
 -- an override puts the own content above the chosen record; no file changes
 abbrev pub OverrideWins : Type 0
 OverrideWins =
@@ -173,7 +181,8 @@ OverrideWins =
     max (counter_of (version_of (own_at old name)) device) (counter_of chosen.version device) ≢ greatest_counter →
     ids_with device (version_of (own_at old name)) chosen.version ≤ most_counters → HasRoom old.index name →
     (new : Replica) × (entry : Entry) × OverrideRow device name old new (Done Changed) × (own_at new name ≡ Some entry) ×
-    (content_of entry ≡ content_owned (own_at old name)) × IsBelow chosen.version entry.version × (new.store ≡ old.store)
+    (content_of entry ≡ content_owned (own_at old name)) × IsBelow chosen.version entry.version × (new.store ≡ old.store) ×
+    KeepsOtherNames name old new
 
 -- a revert removes the file, and leaves a deletion with an empty version
 abbrev pub RevertTakesBack : Type 0
@@ -182,4 +191,5 @@ RevertTakesBack =
     old.kind ≡ ReceiveOnly → own_at old name ≡ Some own → own.invalid ≡ true → IsClean (node_at old name) (own_at old name) →
     (¬ IsSequenceFull old.index) →
     (new : Replica) × (entry : Entry) × RevertRow device name None old new (Done Changed) × (own_at new name ≡ Some entry) ×
-    (node_at new name ≡ None) × (content_of entry ≡ Deleted) × (entry.invalid ≡ false) × (entry.version ≡ [])
+    (node_at new name ≡ None) × (content_of entry ≡ Deleted) × (entry.invalid ≡ false) × (entry.version ≡ []) ×
+    KeepsOtherNames name old new

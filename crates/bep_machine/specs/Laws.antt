@@ -18,7 +18,7 @@ use Rattle.bep_machine.specs.Cluster.{Cluster}
 use Rattle.bep_machine.specs.Steps.{IsStep, Event, IsRun, IsQuiet, AreQuiet, reset_by, reset_in, HasNoReset}
 use Rattle.bep_machine.specs.Said.{tables_of_cluster}
 use Rattle.bep_machine.specs.Sound.{IsSound}
-use Rattle.bep_machine.specs.Gapless.{HasNoGap, IsGapless, IsApart, IsFresh}
+use Rattle.bep_machine.specs.Gapless.{HasNoGap, IsGapless, IsOfNoLaterIndex, IsApart, IsFresh}
 
 -- what a user puts into a folder is a node
 abbrev pub IsSoundStep : Step → Type 0
@@ -73,10 +73,11 @@ QuietStepsKeepRecords = (step : Step) (failed : Option ℕ) (old new : Cluster) 
     IsQuiet step → reset_by step ≡ [] → IsSound old → IsStep step failed old new answer →
     KeepsRecords (tables_of_cluster old) (tables_of_cluster new)
 
--- no view has a gap, in every cluster that a run reaches from one without a gap whose links are all down
+-- no view has a gap, and none is of an index that is still to come, in every cluster that a run reaches from one of which this
+-- holds and whose links are all down
 abbrev pub RunsAreGapless : Type 0
 RunsAreGapless = (cluster later : Cluster) (events : List Event) →
-    IsSound cluster → IsApart cluster → AreSound events → IsRun cluster events later → IsGapless later
+    IsSound cluster → IsApart cluster → AreSound events → IsRun cluster events later → IsGapless later × IsOfNoLaterIndex later
 
 -- so it is where nothing was exchanged yet
 abbrev pub FreshIsApart : Type 0

@@ -25,7 +25,7 @@ pub fn wanted_is_newer()
     ensures { WantedIsNewer }
 {}
 
-/// The pull of a wanted record begins where there is room for one more.
+/// The pull of a wanted record begins where there is room for one more, and nothing else changes.
 pub fn start_pull_begins()
     ensures { StartPullBegins }
 {}
@@ -46,7 +46,7 @@ pub fn finish_drops()
     ensures { FinishDrops }
 {}
 
-/// An override puts the device's own content above the record that it would choose.
+/// An override puts the device's own content above the record that it would choose. No other name changes.
 pub fn override_wins()
     ensures { OverrideWins }
 {
@@ -57,7 +57,7 @@ pub fn override_wins()
     Vector::below_goes_on();
 }
 
-/// A revert removes the local file, and leaves a deletion with an empty version.
+/// A revert removes the local file, and leaves a deletion with an empty version. No other name changes.
 pub fn revert_takes_back()
     ensures { RevertTakesBack }
 {}

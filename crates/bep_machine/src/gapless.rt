@@ -5,9 +5,9 @@ use crate::steps_keep_sound;
 use bep_index::{batch_records_are_found, batches_bring_the_index};
 
 /// In every cluster that a run reaches from one without a gap whose links are all down, a view under the id of the other
-/// device's own index has each of its records up to the view's sequence, and none that is newer than the index's own;
-/// whatever the views of earlier indexes hold at first, and whichever devices are reset. So a run may begin where nothing
-/// was exchanged yet.
+/// device's own index has each of its records up to the view's sequence, and none that is newer than the index's own; and no
+/// view is under a later id. That holds whatever the views of earlier indexes hold at first, and whichever devices are reset.
+/// So a run may begin where nothing was exchanged yet.
 pub fn runs_are_gapless()
     ensures runs { RunsAreGapless }
     ensures fresh { FreshIsApart }
