@@ -23,7 +23,7 @@ use Rattle.bep_tables.specs.declared.share.Share.{Share}
 use Rattle.bep_tables.specs.declared.share.SharedFolder.{SharedFolder}
 use Rattle.bep_tables.specs.declared.link.LinkState.{LinkState}
 use Rattle.bep_tables.specs.declared.cut.CutParts.{CutParts}
-use Rattle.bep_tables.specs.Cut.{devices_of, ends_of, index_of, known_of, link_of, share_of, shares_of}
+use Rattle.bep_tables.specs.Cut.{devices_of, ends_of, index_of, known_of, link_of, share_of, shares_of, tables_of}
 
 -- ---- devices
 
@@ -90,9 +90,11 @@ cluster_from cut = record {
   link = λ lower upper. link_from (link_of lower upper cut.links);
 }
 
--- there is a sound cluster that says this
-abbrev pub HasCluster : Tables → Type 0
-HasCluster tables = (cluster : Cluster) × IsSound cluster × (tables_of_cluster cluster ≡ tables)
+-- this cluster is sound and says what the cut does; no device of it has a session
+pub record HasCluster (cut : CutParts) : Type 0 where
+  pub sound : IsSound (cluster_from cut)
+  pub says : tables_of_cluster (cluster_from cut) ≡ tables_of cut
+  pub sessions : (device : Device) → ((cluster_from cut).peer device).sessions ≡ empty
 
 -- ---- what the types of a cut's parts keep
 

@@ -16,7 +16,7 @@ use bep_tables::{Cut, LinkState, PeerView, Share, SharedFolder};
 /// There is a sound cluster with the cut's tables, whatever document the cut was read from. It changes nothing, and takes
 /// no memory; its contract is the fact.
 pub fn cut_has_cluster(cut: &Cut)
-    ensures { HasCluster (tables_of cut.now) }
+    ensures { HasCluster cut.now }
 {
     cuts_have_clusters();
     cut_is_good(cut);
