@@ -3,3 +3,4 @@ pub mod FirmSaid
 pub mod Statuses
 mod OneAnswer
 pub mod UnderWinners
+pub mod LineText

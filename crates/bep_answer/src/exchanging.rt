@@ -1,6 +1,6 @@
 //! A document is read and answered, and the answer written, whatever is asked of it.
-ghost use Rattle.std.specs.Prelude.{List, ℕ, Option, IfOk, IfErr};
-ghost use Rattle.bep_answer.specs.Beside.{IsTelling};
+ghost use Rattle.std.specs.Prelude.{List, ℕ, Option, IfOk, IfErr, IsUtf8};
+ghost use Rattle.bep_answer.specs.Beside.{AreLines, IsTelling};
 ghost use Rattle.bep_answer.specs.Exchange.{IsEndedEarly, IsWhole};
 
 use bep_hints::Hint;
@@ -54,4 +54,18 @@ pub fn exchange<T: Drop, Q: Question<T>, R: Read, W: Write>(
     let ((outcome, text), beside) = question.answer(alloc, bytes)?;
     write_all(writer, text.as_slice())?;
     Ok((outcome, beside))
+}
+
+/// The lines, if there are any, to be told beside an answer.
+pub fn lines_beside(told: Vec<u8>) -> Option<Beside>
+    requires { IsUtf8 told.items }
+    ensures { AreLines told.items result }
+{
+    if told.is_empty() {
+        return None;
+    }
+    match String::from_utf8(told) {
+        Ok(lines) => Some(Beside::Lines(lines)),
+        Err(_) => unreachable!(),
+    }
 }

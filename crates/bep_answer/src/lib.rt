@@ -31,7 +31,7 @@ mod under_winners;
 pub use answers::{certify_text, check_text, firm_text};
 pub use certify::{CertificateOfCut, certify_cut};
 pub use check::{AuditOfCut, outcome_of};
-pub use exchanging::{Answer, Beside, Hinted, Question, exchange};
+pub use exchanging::{Answer, Beside, Hinted, Question, exchange, lines_beside};
 pub use firm::{FirmnessOfCut, firmness_of};
 pub use laws::{answers_are_unique, certify_then_check};
 pub use outcome::{Certified, Firmness, Outcome, Partial};

@@ -1,12 +1,13 @@
 //! The certificate for a document's cut as far as its names have winners.
-ghost use Rattle.std.specs.Prelude.{◌≡◌, IfOk, map};
+ghost use Rattle.std.specs.Prelude.{◌≡◌, ◌++◌, IfOk, IsUtf8, OnOk, map};
+ghost use Rattle.std.specs.List.{flat_map};
 ghost use Rattle.bep_audit.specs.Shown.{place_shown};
 ghost use Rattle.bep_answer.specs.Partial.{IsPart, IsPartlyOfBytes};
 ghost use Rattle.bep_answer.specs.Partial as spec;
-ghost use Rattle.bep_answer.specs.Beside.{AreSomeLines, TellsOfPart};
+ghost use Rattle.bep_answer.specs.Beside.{AreLines, TellsOfPart, TellsWithout, line_without};
 
 use crate::certify::document_of;
-use crate::exchanging::{Answer, Beside, Question};
+use crate::exchanging::{Answer, Beside, Question, lines_beside};
 use crate::outcome::Partial;
 use crate::refusing::{fault_line, hint_for};
 use bep_audit::{Spot, winners};
@@ -18,8 +19,8 @@ use bep_model::Reason;
 use bep_tables::Cut;
 use std::alloc::{AllocError, Global};
 
-/// The winners of the document's cut as far as there are any, in the document of that cut, and beside it the names that have
-/// none; where the document is refused, a hint on where it is at fault.
+/// The winners of the document's cut as far as there are any, in the document of that cut, and beside it a line for each name
+/// that has none; where the document is refused, a hint on where it is at fault.
 #[derive(Drop)]
 pub struct PartOfCut;
 
@@ -53,7 +54,7 @@ fn certify_part(
     cut: &Cut,
 ) -> Result<Answer<Partial>, AllocError>
     ensures part { IfOk result (λ told. IsPart version cut.now told.0.0 told.0.1.items) }
-    ensures lines { IfOk result (λ told. AreSomeLines told.1) }
+    ensures lines { IfOk result (λ told. TellsWithout cut.now told.1) }
 {
     let (certificate, without) = winners(alloc, cut)?;
     let text = document_of(alloc, version, cut, &certificate)?;
@@ -73,17 +74,21 @@ fn partial_of(without: &[Spot<'_>]) -> Partial
 
 // The line of each of these names, if there are any.
 fn lines_of(alloc: Global, without: &[Spot<'_>]) -> Result<Option<Beside>, AllocError>
-    ensures { IfOk result AreSomeLines }
+    ensures { IfOk result (AreLines (flat_map line_without (map place_shown without.now))) }
 {
-    let mut lines = Vec::new(alloc);
+    let mut text = Vec::new(alloc);
     for spot in without {
-        push_not_settled(&mut lines, Reason::NotWinner, spot.folder, spot.name, None)?;
+        push_line(&mut text, spot)?;
     }
-    if lines.is_empty() {
-        return Ok(None);
-    }
-    match String::from_utf8(lines) {
-        Ok(lines) => Ok(Some(Beside::Lines(lines))),
-        Err(_) => Ok(None),
-    }
+    Ok(lines_beside(text))
+}
+
+// Appends the line of a name without a winner. A text stays one.
+fn push_line(text: &mut Vec<u8>, spot: &Spot<'_>) -> Result<(), AllocError>
+    ensures line { OnOk result (text.new.items ≡ text.old.items ++ line_without (place_shown spot.now)) }
+    ensures text { OnOk result (IsUtf8 text.old.items → IsUtf8 text.new.items) }
+{
+    // `as_str` is called for its clause: what it lends is a text
+    let (_folder, _name) = (spot.folder.as_str(), spot.name.as_str());
+    push_not_settled(text, Reason::NotWinner, spot.folder, spot.name, None)
 }
