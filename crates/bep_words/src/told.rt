@@ -21,9 +21,11 @@ pub enum Unfollowed {
 
 /// What the words ask for. If clap refuses them, its text tells why on standard error.
 ///
-/// Words in which nothing is at fault aren't followed only where memory runs out.
+/// Words in which something is at fault are never followed, nor are those that ask for help or for the version. All
+/// others are, unless memory runs out.
 pub fn mode_told<P: AllocGlobal + Eprint, S: AsStr>(rt: &P, words: &[S]) -> Result<Mode, Unfollowed>
     ensures asked { IfOk result (Asks (map S.text words.entry.now)) }
+    ensures faultless { IfOk result (λ _. fault_of program (map S.text words.entry.now) ≡ []) }
     ensures memory { fault_of program (map S.text words.entry.now) ≡ [] → IfErr result (λ why. why ≡ Memory) }
 {
     tell(rt, mode_of(rt.alloc(), words))

@@ -46,6 +46,7 @@ pub run_without_memory : FaultlessWordsAsk → (words : List Text) (unread held 
 run_without_memory ask words unread held status told =
     let isnt : status ≡ 0 → ⊥ = λ zero. (let e : 4 ≡ 0 = sym told ∙ zero in cc) in record {
       followed = followed_without_memory ask words unread held status told;
+      unfollowed = λ at_fault. (inr told, refl, Keeps-refl held);
       end = inl (inr told, refl, Keeps-refl held);
       settled = λ asks zero. absurd (isnt zero);
       settled_under_winners = λ asks zero. absurd (isnt zero);

@@ -1,5 +1,5 @@
 -- What came of the words of the command line (this project's profile).
-use Rattle.std.specs.Prelude.{◌≡◌, ◌⊎◌, ◌<◌, ℕ, List, [], Option, Err}
+use Rattle.std.specs.Prelude.{◌≡◌, ◌≢◌, ◌⊎◌, ◌<◌, ℕ, List, [], Option, Err}
 use Rattle.std.specs.Io.KnownBytes.{Keeps}
 use Rattle.std.specs.declared.io.ErrorKind.{ErrorKind}
 use Rattle.std.specs.declared.io.ErrorKind.TheVariants.{OutOfMemory}
@@ -86,16 +86,20 @@ IsDone (Run ending turns) = IsRunning ending turns
 abbrev pub IsFollowed : List Text → Option (List ℕ) → Option (List ℕ) → Option (List ℕ) → Option (List ℕ) → ℕ → Type 0
 IsFollowed words unread left held now status = (mode : Mode) × Asks words mode × IsDone mode unread left held now status
 
--- the status tells that the words weren't followed, or that there was no memory for them, and then nothing was read or
--- written; or they were followed
+-- the status tells that the words weren't followed, or that there was no memory for them, and nothing was read or written
+abbrev pub IsUnfollowed : Option (List ℕ) → Option (List ℕ) → Option (List ℕ) → Option (List ℕ) → ℕ → Type 0
+IsUnfollowed unread left held now status = ((status ≡ usage) ⊎ (status ≡ status_of (Err Memory))) × (left ≡ unread) × Keeps held now
+
+-- one of the two came of the words
 abbrev pub IsEnd : List Text → Option (List ℕ) → Option (List ℕ) → Option (List ℕ) → Option (List ℕ) → ℕ → Type 0
-IsEnd words unread left held now status =
-    (((status ≡ usage) ⊎ (status ≡ status_of (Err Memory))) × (left ≡ unread) × Keeps held now) ⊎ IsFollowed words unread left held now status
+IsEnd words unread left held now status = IsUnfollowed unread left held now status ⊎ IsFollowed words unread left held now status
 
 -- what comes of the words that the program is given
 pub record IsProgramRun (words : List Text) (unread left held now : Option (List ℕ)) (status : ℕ) : Type 0 where
   -- those in which nothing is at fault are followed
   pub followed : fault_of program words ≡ [] → IsFollowed words unread left held now status
+  -- others aren't: those that clap refuses, and those that ask for help or for the version
+  pub unfollowed : fault_of program words ≢ [] → IsUnfollowed unread left held now status
   pub end : IsEnd words unread left held now status
   pub settled : Asks words (Check Given) → status ≡ 0 → SaysSettled unread left
   pub settled_under_winners : Asks words (Check Winners) → status ≡ 0 → SaysSettledUnderWinners unread left

@@ -1,5 +1,5 @@
 //! From the words of the command line to the exit status.
-ghost use Rattle.std.specs.Prelude.{◌≡◌, [], IfErr, IfOk, map};
+ghost use Rattle.std.specs.Prelude.{◌≡◌, ◌≢◌, [], IfErr, IfOk, map};
 ghost use Rattle.std.specs.IoError.{error_kind};
 ghost use Rattle.std.specs.String.{string_bytes};
 ghost use Rattle.std.specs.Vec.Iter.{into_iter_items};
@@ -9,7 +9,7 @@ ghost use Rattle.bep_answer.specs.Firm.{SaysFirm};
 ghost use Rattle.bep_answer.specs.UnderWinners.{SaysFirmUnderWinners, SaysSettledUnderWinners};
 ghost use Rattle.bep_play.specs.Played.{EndsSettled};
 ghost use Rattle.bep_words.specs.Mode.{Asks, program};
-ghost use Rattle.syncaudit.specs.Status.{IsCertifying, IsChecking, IsEnd, IsEnding, IsExplaining, IsExplainingGiven, IsExplainingUnderWinners, IsFirming, IsFollowed, IsLiveEnding, IsProgramRun, IsRunning, IsWithoutWords, status_without};
+ghost use Rattle.syncaudit.specs.Status.{IsCertifying, IsChecking, IsEnd, IsEnding, IsExplaining, IsExplainingGiven, IsExplainingUnderWinners, IsFirming, IsFollowed, IsLiveEnding, IsProgramRun, IsRunning, IsUnfollowed, IsWithoutWords, status_without};
 ghost use Rattle.bep_words.specs.declared.mode.Ending.TheVariants.{Report};
 ghost use Rattle.bep_words.specs.declared.mode.Mode.TheVariants.{Check, Firm, Run};
 ghost use Rattle.bep_words.specs.declared.mode.Under.TheVariants.{Given, Winners};
@@ -68,7 +68,7 @@ fn run_all<P: AllocGlobal + Eprint + Threads + Wait + Sync, R: Read, W: Write>(
 }
 
 /// Does what these words ask for, the program's name first, and answers the exit status. Words in which nothing is at
-/// fault are followed; before others nothing is read.
+/// fault are followed. For others, and for those that ask for help or for the version, nothing is read or written.
 ///
 /// A document is read and its answer written; why there is none is told on standard error. Only where turns are asked for are
 /// threads made, and may it wait.
@@ -80,6 +80,8 @@ pub fn run<P: AllocGlobal + Eprint + Threads + Wait + Sync, R: Read, W: Write, S
 ) -> u8
     ensures followed { fault_of program (map S.text words.entry.now) ≡ []
         → IsFollowed (map S.text words.entry.now) (R.remaining reader.old) (R.remaining reader.new) (W.contents writer.old) (W.contents writer.new) result }
+    ensures unfollowed { fault_of program (map S.text words.entry.now) ≢ []
+        → IsUnfollowed (R.remaining reader.old) (R.remaining reader.new) (W.contents writer.old) (W.contents writer.new) result }
     ensures end { IsEnd (map S.text words.entry.now) (R.remaining reader.old) (R.remaining reader.new) (W.contents writer.old) (W.contents writer.new) result }
     ensures settled { Asks (map S.text words.entry.now) (Check Given)
         → result ≡ 0 → SaysSettled (R.remaining reader.old) (R.remaining reader.new) }

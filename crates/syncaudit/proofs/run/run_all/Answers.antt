@@ -10,6 +10,7 @@ returns-in-Ok g c =
     (c.as_slice.ensures.value ∙ c.in-Ok.ensures)
     (record {
       followed = c.run.ensures.followed;
+      unfollowed = c.run.ensures.unfollowed;
       end = c.run.ensures.end;
       settled = c.run.ensures.settled;
       settled_under_winners = c.run.ensures.settled_under_winners;
