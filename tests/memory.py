@@ -97,6 +97,11 @@ def imported(text):
     return set(re.findall(r"\w+", " ".join(re.findall(r"\buse (?:bep_\w+)::([^;]*);", text))))
 
 
+def called_as(texts):
+    """The names of types by which others go, as `pub type Shared<S> = Locked<S, Anywhere>;` has it."""
+    return {found[1]: found[2] for text in texts for found in re.finditer(r"^pub type (\w+)<[^=]*= ([A-Z]\w+)<", text, re.M)}
+
+
 def called(crate):
     """The full names of what the crate's tests call."""
     texts = [without_comments(text) for text in sources(crate)]
@@ -125,6 +130,8 @@ def main():
     aliases, types = names_of(texts, errors), given(texts)
     tests = [crate for crate in crates if crate.endswith("_tests")]
     known = BY_THE_PROGRAM.union(*map(called, tests))
+    others = called_as(texts)
+    known |= {f"{others[of]}::{method}" for of, _, method in (name.partition("::") for name in known) if of in others}
     for crate in crates:
         for name in calls(crate, errors, aliases):
             owner, _, method = name.rpartition("::")

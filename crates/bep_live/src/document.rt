@@ -1,9 +1,8 @@
 //! The check document of a cluster that threads ran.
 ghost use Rattle.std.specs.Prelude.{IfErr, IfOk};
-ghost use Rattle.bep_answer.specs.Beside.{IsTelling};
 ghost use Rattle.bep_answer.specs.Exchange.{IsEndedEarly, IsWhole};
 ghost use Rattle.bep_scenario.specs.Scenario.{said_lazily};
-ghost use Rattle.bep_live.specs.inner.Beside.{TellsOfLiveEnd, TellsRun};
+ghost use Rattle.bep_live.specs.inner.Beside.{IsLiveEndWith, IsLivedBeside};
 ghost use Rattle.bep_answer.specs.Certified.{IsCertificate};
 ghost use Rattle.bep_live.specs.Lived.{IsLiveEndOfBytes, IsLivedTo, cut_in};
 
@@ -23,8 +22,8 @@ use std::sync::Wait;
 use std::thread::Threads;
 
 /// Reads a scenario, and writes the check document of a cut of its cluster, once threads have run it for so many turns each.
-/// What is told beside it is for the caller to write: the lines of refused steps and of the verdict on the threads' logs, and
-/// where the scenario is refused, a hint on where it is at fault. May wait.
+/// What is told beside it is for the caller to write: the lines of refused steps and of the verdict on the logs of that very
+/// cut, and where the scenario is refused, a hint on where it is at fault. May wait.
 pub(crate) fn exchange_document<P: AllocGlobal + Threads + Wait + Sync, R: Read, W: Write>(
     rt: &P,
     reader: &mut R,
@@ -33,7 +32,7 @@ pub(crate) fn exchange_document<P: AllocGlobal + Threads + Wait + Sync, R: Read,
 ) -> Result<Hinted<Certified>, ReportError>
     ensures ok { IfOk result (λ told. IsWhole IsLiveEndOfBytes (R.remaining reader.old) (R.remaining reader.new) (W.contents writer.old) (W.contents writer.new) told.0) }
     ensures err { IfErr result (IsEndedEarly IsLiveEndOfBytes (R.remaining reader.old) (R.remaining reader.new) (W.contents writer.old) (W.contents writer.new)) }
-    ensures beside { IfOk result (λ told. IsTelling TellsOfLiveEnd (R.remaining reader.old) (R.remaining reader.new) told.1) }
+    ensures beside { IfOk result (λ told. IsWhole (IsLiveEndWith told.1) (R.remaining reader.old) (R.remaining reader.new) (W.contents writer.old) (W.contents writer.new) told.0) }
 {
     let alloc = rt.alloc();
     let bytes = read_document(alloc, reader)?;
@@ -50,7 +49,7 @@ fn answer<R: Threads + Wait + Sync>(
     turns: u32,
 ) -> Result<Answer<Certified>, AllocError>
     ensures says { IfOk result (λ told. IsLiveEndOfBytes bytes.now told.0.0 told.0.1.items) }
-    ensures tells { IfOk result (λ told. TellsOfLiveEnd bytes.now told.1) }
+    ensures beside { IfOk result (λ told. IsLiveEndWith told.1 bytes.now told.0.0 told.0.1.items) }
 {
     match read_lazy_scenario(alloc, bytes) {
         Ok(scenario) => live_document(rt, alloc, scenario, turns),
@@ -70,7 +69,7 @@ fn live_document<R: Threads + Wait + Sync>(
     turns: u32,
 ) -> Result<Answer<Certified>, AllocError>
     ensures lived { IfOk result (λ told. IsLivedTo (said_lazily scenario) told.0.0 told.0.1.items) }
-    ensures tells { IfOk result (λ told. TellsRun (said_lazily scenario) told.1) }
+    ensures beside { IfOk result (λ told. IsLivedBeside (said_lazily scenario) told.0.0 told.0.1.items told.1) }
 {
     let version = scenario.version;
     let (run, mut told) = lived(rt, alloc, scenario, turns)?;

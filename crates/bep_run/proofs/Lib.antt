@@ -1,0 +1,3 @@
+mod Bases
+mod Begins
+mod Places

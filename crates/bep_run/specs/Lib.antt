@@ -1,1 +1,3 @@
+pub mod Based
+pub mod Origin
 pub mod inner

@@ -3,15 +3,16 @@
 //! Each call may wait. It refuses `NotShared` where the device, or the link, isn't there, and then what the call of `bep_log`
 //! refuses that it makes.
 
-use crate::Shared;
+use crate::kept_link::KeptLink;
+use crate::{Locked, Origin};
 use bep_index::IndexId;
-use bep_log::{LogError, LoggedLink};
+use bep_log::LogError;
 use bep_machine::Moved;
 use bep_record::{DeviceId, FolderName, Name, Node};
 use bep_store::Store;
 use std::sync::{MutexGuard, Wait};
 
-impl<S: Store> Shared<S> {
+impl<S: Store, O: Origin> Locked<S, O> {
     /// Gives the name this node in the device's folder, as `LoggedPeer::edit` does.
     pub fn edit<R: Wait>(
         &self,
@@ -22,7 +23,7 @@ impl<S: Store> Shared<S> {
         node: &Node,
     ) -> Result<Moved, LogError> {
         let mut peer = self.device(device)?.peer.lock(rt);
-        peer.edit(self.draw(), folder, name, node)
+        peer.logged.edit(self.draw(), folder, name, node)
     }
 
     /// Takes the name's node away in the device's folder, as `LoggedPeer::remove` does.
@@ -34,7 +35,7 @@ impl<S: Store> Shared<S> {
         name: &Name,
     ) -> Result<Moved, LogError> {
         let mut peer = self.device(device)?.peer.lock(rt);
-        peer.remove(self.draw(), folder, name)
+        peer.logged.remove(self.draw(), folder, name)
     }
 
     /// Lets the device's own record win, as `LoggedPeer::override_one` does.
@@ -46,7 +47,7 @@ impl<S: Store> Shared<S> {
         name: &Name,
     ) -> Result<Moved, LogError> {
         let mut peer = self.device(device)?.peer.lock(rt);
-        peer.override_one(self.draw(), folder, name)
+        peer.logged.override_one(self.draw(), folder, name)
     }
 
     /// Gives up the device's own change, as `LoggedPeer::revert_one` does.
@@ -58,7 +59,7 @@ impl<S: Store> Shared<S> {
         name: &Name,
     ) -> Result<Moved, LogError> {
         let mut peer = self.device(device)?.peer.lock(rt);
-        peer.revert_one(self.draw(), folder, name)
+        peer.logged.revert_one(self.draw(), folder, name)
     }
 
     /// The link between the two devices, the smaller first, comes up.
@@ -69,13 +70,13 @@ impl<S: Store> Shared<S> {
         upper: DeviceId,
     ) -> Result<(), LogError> {
         let mut link = self.link(lower, upper)?.link.lock(rt);
-        link.connect(self.draw())
+        link.logged.connect(self.draw())
     }
 
     /// The link between the two devices, the smaller first, goes down.
     pub fn lose<R: Wait>(&self, rt: &R, lower: DeviceId, upper: DeviceId) -> Result<(), LogError> {
         let mut link = self.link(lower, upper)?.link.lock(rt);
-        link.lose(self.draw())
+        link.logged.lose(self.draw())
     }
 
     /// The device starts again, and each of its links is lost, under one ticket and all of their guards. Where a part is
@@ -84,9 +85,9 @@ impl<S: Store> Shared<S> {
         let mut peer = self.device(device)?.peer.lock(rt);
         let mut links = self.guards_of(rt, device)?;
         let ticket = self.draw();
-        peer.restart(ticket)?;
+        peer.logged.restart(ticket)?;
         for link in links.iter_mut() {
-            link.restart(ticket, device)?;
+            link.logged.restart(ticket, device)?;
         }
         Ok(())
     }
@@ -99,9 +100,9 @@ impl<S: Store> Shared<S> {
         let mut peer = self.device(device)?.peer.lock(rt);
         let mut links = self.guards_of(rt, device)?;
         let ticket = self.draw();
-        peer.reset(ticket, id)?;
+        peer.logged.reset(ticket, id)?;
         for link in links.iter_mut() {
-            link.reset(ticket, device, id)?;
+            link.logged.reset(ticket, device, id)?;
         }
         Ok(())
     }
@@ -111,7 +112,7 @@ impl<S: Store> Shared<S> {
         &self,
         rt: &R,
         device: DeviceId,
-    ) -> Result<Vec<MutexGuard<'_, LoggedLink>>, LogError> {
+    ) -> Result<Vec<MutexGuard<'_, KeptLink<O>>>, LogError> {
         let mut guards = Vec::with_capacity(self.alloc, self.links.len())?;
         for joint in self.links.iter().filter(|joint| joint.is_of(device)) {
             guards.push(joint.link.lock(rt))?;

@@ -1,24 +1,34 @@
 //! Cuts of the running cluster, and logs that begin anew: under all guards, by rising device and then by rising link.
-ghost use Rattle.std.specs.Prelude.{◌≡◌, min};
+ghost use Rattle.std.specs.Prelude.{◌≡◌, ◌+◌, IfOk, OnOk, length, map, min};
 ghost use Rattle.bep_blocks.specs.declared.gate.Place.TheVariants.{Guarded};
+ghost use Rattle.bep_run.specs.Origin.{AreFirst, BeginsAs, IsAll, devices_in, links_in};
+ghost use Rattle.bep_run.specs.Based.{base_seen};
+ghost use Rattle.bep_run_cut.specs.RunCut.{links_base};
 
-use crate::Shared;
+use crate::kept_link::KeptLink;
+use crate::kept_peer::KeptPeer;
+use crate::{Anywhere, Locked, Origin};
 use bep_blocks::{Gate, OpenGate, Place};
-use bep_log::{LinkCopy, LogError, LoggedLink, LoggedPeer, PeerCopy};
+use bep_log::{LinkCopy, LogError, PeerCopy};
 use bep_machine::Refusal;
 use bep_run_cut::RunCut;
 use bep_store::Store;
+use std::alloc::Global;
 use std::sync::{MutexGuard, Wait};
 
 // Copies of all devices and of all links.
 type Copies = (Vec<PeerCopy>, Vec<LinkCopy>);
 
-impl<S: Store> Shared<S> {
+impl<S: Store, O: Origin> Locked<S, O> {
     /// Copies of all devices and links with their logs, made under all guards; the gate is passed at `Guarded` after each
     /// guard, with the number of those held. Refuses `StoreFault` where a store fails to list its names or to read one, and
     /// `NotShared` where these aren't one copy of each device and link that the devices know; else only for want of memory.
-    /// Nothing changes, and afterwards all guards are free. May wait.
-    pub fn take_cut<R: Wait, G: Gate>(&self, rt: &R, gate: &G) -> Result<RunCut, LogError> {
+    /// Nothing changes, and afterwards all guards are free. What devices and links were when their logs began is the cluster
+    /// with which all began, where that is known. May wait.
+    #[tactic(auto, using(crate::proofs::Begins::begins_so))]
+    pub fn take_cut<R: Wait, G: Gate>(&self, rt: &R, gate: &G) -> Result<RunCut, LogError>
+        ensures { IfOk result (λ run. BeginsAs O.start run.bases) }
+    {
         let (peers, links) = self.copies(rt, gate)?;
         match RunCut::of(self.alloc, peers, links)? {
             Some(run) => Ok(run),
@@ -26,33 +36,16 @@ impl<S: Store> Shared<S> {
         }
     }
 
-    /// Each device and each link as it is becomes its base, and its log is empty, in this round, under all guards. Refuses
-    /// `StoreFault` where a store fails to list its names or to read one; else only for want of memory. Those before it are
-    /// in the new round then, and the others in the one before. May wait.
-    pub fn rebase_all<R: Wait>(&self, rt: &R, round: u64) -> Result<(), LogError> {
-        let mut peers = self.peer_guards(rt, &OpenGate)?;
-        let mut links = self.link_guards(rt, &OpenGate, peers.len())?;
-        for peer in peers.iter_mut() {
-            peer.rebase(round)?;
-        }
-        for link in links.iter_mut() {
-            link.rebase(round)?;
-        }
-        Ok(())
-    }
-
     // Copies of all, made while all guards are held.
-    fn copies<R: Wait, G: Gate>(&self, rt: &R, gate: &G) -> Result<Copies, LogError> {
+    #[tactic(auto, using(crate::proofs::Begins::copies_are_all))]
+    fn copies<R: Wait, G: Gate>(&self, rt: &R, gate: &G) -> Result<Copies, LogError>
+        ensures devices { IfOk result (λ copies. IsAll (devices_in O.start) (map base_seen copies.0.items)) }
+        ensures links { IfOk result (λ copies. IsAll (links_in O.start) (links_base copies.1.items)) }
+    {
         let mut peers = self.peer_guards(rt, gate)?;
         let links = self.link_guards(rt, gate, peers.len())?;
-        let mut peer_copies = Vec::with_capacity(self.alloc, peers.len())?;
-        for peer in peers.iter_mut() {
-            peer_copies.push(peer.copy()?)?;
-        }
-        let mut link_copies = Vec::with_capacity(self.alloc, links.len())?;
-        for link in links.iter() {
-            link_copies.push(link.copy()?)?;
-        }
+        let peer_copies = copy_peers(self.alloc, peers.as_mut_slice())?;
+        let link_copies = copy_links(self.alloc, links.as_slice())?;
         Ok((peer_copies, link_copies))
     }
 
@@ -61,7 +54,9 @@ impl<S: Store> Shared<S> {
         &self,
         rt: &R,
         gate: &G,
-    ) -> Result<Vec<MutexGuard<'_, LoggedPeer<S>>>, LogError> {
+    ) -> Result<Vec<MutexGuard<'_, KeptPeer<S, O>>>, LogError>
+        ensures { IfOk result (λ guards. length guards.items ≡ length self.now.devices.items) }
+    {
         let mut guards = Vec::with_capacity(self.alloc, self.devices.len())?;
         for held in self.devices.iter() {
             guards.push(held.peer.lock(rt))?;
@@ -76,7 +71,9 @@ impl<S: Store> Shared<S> {
         rt: &R,
         gate: &G,
         others: usize,
-    ) -> Result<Vec<MutexGuard<'_, LoggedLink>>, LogError> {
+    ) -> Result<Vec<MutexGuard<'_, KeptLink<O>>>, LogError>
+        ensures { IfOk result (λ guards. length guards.items ≡ length self.now.links.items) }
+    {
         let mut guards = Vec::with_capacity(self.alloc, self.links.len())?;
         for joint in self.links.iter() {
             guards.push(joint.link.lock(rt))?;
@@ -84,6 +81,82 @@ impl<S: Store> Shared<S> {
         }
         Ok(guards)
     }
+}
+
+impl<S: Store> Locked<S, Anywhere> {
+    /// Each device and each link as it is becomes its base, and its log is empty, in this round, under all guards. Refuses
+    /// `StoreFault` where a store fails to list its names or to read one; else only for want of memory. Those before it are
+    /// in the new round then, and the others in the one before. May wait.
+    pub fn rebase_all<R: Wait>(&self, rt: &R, round: u64) -> Result<(), LogError> {
+        let mut peers = self.peer_guards(rt, &OpenGate)?;
+        let mut links = self.link_guards(rt, &OpenGate, peers.len())?;
+        for peer in peers.iter_mut() {
+            peer.logged.rebase(round)?;
+        }
+        for link in links.iter_mut() {
+            link.logged.rebase(round)?;
+        }
+        Ok(())
+    }
+}
+
+// Copies of the devices, each of which stands at its place.
+#[tactic(auto, using(crate::proofs::Places::none_first))]
+fn copy_peers<S: Store, O: Origin>(
+    alloc: Global,
+    peers: &mut [MutexGuard<'_, KeptPeer<S, O>>],
+) -> Result<Vec<PeerCopy>, LogError>
+    ensures first { IfOk result (λ copies. AreFirst (devices_in O.start) (map base_seen copies.items)) }
+    ensures all { IfOk result (λ copies. length copies.items ≡ length peers.old) }
+{
+    let mut copies = Vec::with_capacity(alloc, peers.len())?;
+    for peer in peers.iter_mut() {
+        copy_peer(&mut copies, &mut **peer)?;
+    }
+    Ok(copies)
+}
+
+// Adds a copy of the device that stands behind those of which there are copies.
+#[tactic(auto, using(crate::proofs::Begins::copied_with))]
+fn copy_peer<S: Store, O: Origin>(
+    copies: &mut Vec<PeerCopy>,
+    peer: &mut KeptPeer<S, O>,
+) -> Result<(), LogError>
+    requires { AreFirst (devices_in O.start) (map base_seen copies.old.items) }
+    ensures first { OnOk result (AreFirst (devices_in O.start) (map base_seen copies.new.items)) }
+    ensures one_more { OnOk result (length copies.new.items ≡ length copies.old.items + 1) }
+{
+    let copy = peer.copy(copies.len())?;
+    copies.push(copy)?;
+    Ok(())
+}
+
+// Copies of the links, each of which stands at its place.
+#[tactic(auto, using(crate::proofs::Places::none_first))]
+fn copy_links<O: Origin>(
+    alloc: Global,
+    links: &[MutexGuard<'_, KeptLink<O>>],
+) -> Result<Vec<LinkCopy>, LogError>
+    ensures first { IfOk result (λ copies. AreFirst (links_in O.start) (links_base copies.items)) }
+    ensures all { IfOk result (λ copies. length copies.items ≡ length links.now) }
+{
+    let mut copies = Vec::with_capacity(alloc, links.len())?;
+    for link in links.iter() {
+        copy_link(&mut copies, &**link)?;
+    }
+    Ok(copies)
+}
+
+// Adds a copy of the link that stands behind those of which there are copies.
+#[tactic(auto, using(crate::proofs::Begins::copied_with))]
+fn copy_link<O: Origin>(copies: &mut Vec<LinkCopy>, link: &KeptLink<O>) -> Result<(), LogError>
+    requires { AreFirst (links_in O.start) (links_base copies.old.items) }
+    ensures first { OnOk result (AreFirst (links_in O.start) (links_base copies.new.items)) }
+    ensures one_more { OnOk result (length copies.new.items ≡ length copies.old.items + 1) }
+{
+    let copy = link.copy(copies.len())?;
+    copies.push(copy)?;
+    Ok(())
 }
 
 // The place where so many guards are held.

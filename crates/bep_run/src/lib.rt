@@ -2,7 +2,8 @@
 //! turns.
 //!
 //! What a call does under a lock is a call of `bep_log`, and what it decides is decided by functions that take no lock. No
-//! contract here says what happened under a lock: the logs do, and tests show it.
+//! contract here says what happened under a lock: the logs do, and tests show it. What the logs begin at is known where a
+//! cluster is handed to `run_turns`.
 //!
 //! ```rust
 //! let shared = Shared::new(alloc, cluster)?;
@@ -13,6 +14,9 @@
 
 mod actions;
 mod cuts;
+mod kept_link;
+mod kept_peer;
+mod origin;
 mod over;
 mod pulling;
 mod scanning;
@@ -23,5 +27,6 @@ mod tally;
 mod unchanged;
 mod workers;
 
-pub use shared::Shared;
-pub use workers::run_workers;
+pub use origin::{Anywhere, Origin};
+pub use shared::{Locked, Shared};
+pub use workers::{run_turns, run_workers};

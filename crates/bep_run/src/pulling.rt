@@ -1,9 +1,9 @@
 //! A puller's turn.
 
-use crate::Shared;
 use crate::shared::Held;
 use crate::starting::has_no_pull;
 use crate::tally::tally;
+use crate::{Locked, Origin};
 use bep_log::LogError;
 use bep_machine::Moved;
 use bep_map::NameMap;
@@ -11,7 +11,7 @@ use bep_record::{DeviceId, FolderName, Name};
 use bep_store::Store;
 use std::sync::Wait;
 
-impl<S: Store> Shared<S> {
+impl<S: Store, O: Origin> Locked<S, O> {
     /// Takes each name that the device wants one step on, and answers how many actions answered Ok: a pull is begun where
     /// there is none, the next block is asked for over each link, and the pull is ended if it can be. What is refused is
     /// passed over. Refuses `NotShared` where the device isn't there; else only for want of memory, which ends the turn. May
@@ -32,7 +32,7 @@ impl<S: Store> Shared<S> {
     fn wanted<R: Wait>(
         &self,
         rt: &R,
-        held: &Held<S>,
+        held: &Held<S, O>,
         folder: &FolderName,
     ) -> Result<NameMap<()>, LogError> {
         let peer = held.peer.lock(rt);
@@ -46,7 +46,7 @@ impl<S: Store> Shared<S> {
     fn pull_on<R: Wait>(
         &self,
         rt: &R,
-        held: &Held<S>,
+        held: &Held<S, O>,
         folder: &FolderName,
         name: &Name,
         before: u64,
@@ -65,7 +65,7 @@ impl<S: Store> Shared<S> {
     fn begin_pull<R: Wait>(
         &self,
         rt: &R,
-        held: &Held<S>,
+        held: &Held<S, O>,
         folder: &FolderName,
         name: &Name,
     ) -> Option<Result<Moved, LogError>> {
@@ -73,18 +73,18 @@ impl<S: Store> Shared<S> {
         if !has_no_pull(peer.peer(), folder, name) {
             return None;
         }
-        Some(peer.pull(self.draw(), folder, name))
+        Some(peer.logged.pull(self.draw(), folder, name))
     }
 
     // Ends the name's pull, if it can be ended.
     fn finish<R: Wait>(
         &self,
         rt: &R,
-        held: &Held<S>,
+        held: &Held<S, O>,
         folder: &FolderName,
         name: &Name,
     ) -> Result<Moved, LogError> {
         let mut peer = held.peer.lock(rt);
-        peer.finish(self.draw(), folder, name)
+        peer.logged.finish(self.draw(), folder, name)
     }
 }

@@ -1,9 +1,9 @@
 //! A scanner's turn.
 
-use crate::Shared;
 use crate::shared::Held;
 use crate::tally::{read_or_pass, tally};
 use crate::unchanged::is_known_clean;
+use crate::{Locked, Origin};
 use bep_blocks::{BlocksError, Gate, Place};
 use bep_folder::ScanResult;
 use bep_log::LogError;
@@ -26,7 +26,7 @@ enum Found {
     Unknown(Option<Node>),
 }
 
-impl<S: Store> Shared<S> {
+impl<S: Store, O: Origin> Locked<S, O> {
     /// Scans each name of the device's stores and own records once, and answers how many scans were recorded, those among
     /// them that found no change. What is found at a name is hashed under no lock, by two workers, unless the store has it at
     /// hand and the own record is clean against it: such a scan records nothing, whatever the bytes are. In either case the
@@ -52,7 +52,7 @@ impl<S: Store> Shared<S> {
         &self,
         rt: &R,
         gate: &G,
-        held: &Held<S>,
+        held: &Held<S, O>,
         folder: &FolderName,
         before: u64,
     ) -> Result<u64, LogError> {
@@ -73,7 +73,7 @@ impl<S: Store> Shared<S> {
         &self,
         rt: &R,
         gate: &G,
-        held: &Held<S>,
+        held: &Held<S, O>,
         folder: &FolderName,
         name: &Name,
         found: Found,
@@ -93,18 +93,18 @@ impl<S: Store> Shared<S> {
     fn names<R: Wait>(
         &self,
         rt: &R,
-        held: &Held<S>,
+        held: &Held<S, O>,
         folder: &FolderName,
     ) -> Result<NameMap<()>, LogError> {
         let mut peer = held.peer.lock(rt);
-        Ok(peer.names(folder)?)
+        Ok(peer.logged.names(folder)?)
     }
 
     // What the folder has at the name.
     fn find<R: Wait>(
         &self,
         rt: &R,
-        held: &Held<S>,
+        held: &Held<S, O>,
         folder: &FolderName,
         name: &Name,
     ) -> Result<Found, LogError> {
@@ -112,7 +112,7 @@ impl<S: Store> Shared<S> {
         if is_known_clean(peer.peer(), folder, name) {
             return Ok(Found::Clean);
         }
-        Ok(Found::Unknown(peer.look(folder, name)?))
+        Ok(Found::Unknown(peer.logged.look(folder, name)?))
     }
 
     // What was found, hashed. No lock is held here.
@@ -136,7 +136,7 @@ impl<S: Store> Shared<S> {
     fn commit_clean<R: Wait>(
         &self,
         rt: &R,
-        held: &Held<S>,
+        held: &Held<S, O>,
         folder: &FolderName,
         name: &Name,
     ) -> Result<Moved, LogError> {
@@ -144,18 +144,18 @@ impl<S: Store> Shared<S> {
         if !is_known_clean(peer.peer(), folder, name) {
             return Err(LogError::Stale);
         }
-        peer.scan(self.draw(), folder, name)
+        peer.logged.scan(self.draw(), folder, name)
     }
 
     // Records what the scan found.
     fn commit<R: Wait>(
         &self,
         rt: &R,
-        held: &Held<S>,
+        held: &Held<S, O>,
         folder: &FolderName,
         scan: ScanResult,
     ) -> Result<Moved, LogError> {
         let mut peer = held.peer.lock(rt);
-        peer.scan_commit(self.draw(), folder, scan)
+        peer.logged.scan_commit(self.draw(), folder, scan)
     }
 }

@@ -1,14 +1,14 @@
 //! The turn of a session.
 
-use crate::Shared;
 use crate::tally::tally;
+use crate::{Locked, Origin};
 use bep_blocks::{Gate, Place};
 use bep_log::LogError;
 use bep_record::DeviceId;
 use bep_store::Store;
 use std::sync::Wait;
 
-impl<S: Store> Shared<S> {
+impl<S: Store, O: Origin> Locked<S, O> {
     /// What the device does over its link with the other one: it begins a session if it can, takes one message, announces
     /// each of its folders once, and answers how many of these answered Ok. Where the message was taken, the gate is passed at
     /// `Delivered` with no guard held. What is refused is passed over. Refuses `NotShared` where the device or the link isn't

@@ -1,11 +1,16 @@
 //! Threads that make turns.
+ghost use Rattle.std.specs.Prelude.{◌≡◌, IfOk, Some};
+ghost use Rattle.bep_run_cut.specs.RunCut.{AreTheSame};
 
-use crate::Shared;
+use crate::{Locked, Origin};
 use bep_blocks::Gate;
+use bep_core::Cluster;
 use bep_log::LogError;
 use bep_record::DeviceId;
+use bep_run_cut::RunCut;
 use bep_store::Store;
-use std::alloc::AllocError;
+use std::alloc::{AllocError, Global};
+use std::marker::Brand;
 use std::sync::Wait;
 use std::thread;
 use std::thread::Threads;
@@ -21,9 +26,9 @@ pub(crate) enum Job {
 /// Runs the cluster: for each device a scanner and a puller, and for each end of a link a session, each in a thread of its
 /// own where one can be made and else in the caller's. Each makes this many turns. All have ended when the call answers how
 /// many actions answered Ok. Fails only for want of memory, which ends the worker that met it alone. May wait.
-pub fn run_workers<R: Threads + Wait + Sync, S: Store + Send, G: Gate + Sync>(
+pub fn run_workers<R: Threads + Wait + Sync, S: Store + Send, O: Origin, G: Gate + Sync>(
     rt: &R,
-    shared: &Shared<S>,
+    shared: &Locked<S, O>,
     gate: &G,
     turns: u32,
 ) -> Result<u64, LogError> {
@@ -36,7 +41,38 @@ pub fn run_workers<R: Threads + Wait + Sync, S: Store + Send, G: Gate + Sync>(
     Ok(done)
 }
 
-impl<S: Store> Shared<S> {
+/// Runs the cluster by threads, each for so many turns, as `run_workers` does, and answers a cut of it then, as `take_cut`
+/// does: what its devices and links were when their logs began is the cluster that was handed over. The cluster is used up,
+/// after a refusal too. May wait.
+pub fn run_turns<R: Threads + Wait + Sync, S: Store + Send, G: Gate + Sync>(
+    rt: &R,
+    alloc: Global,
+    cluster: Cluster<S>,
+    gate: &G,
+    turns: u32,
+) -> Result<RunCut, LogError>
+    ensures { IfOk result (λ run. AreTheSame run.bases cluster.members cluster.links) }
+{
+    run_from::<R, S, Brand, G>(rt, alloc, cluster, gate, turns)
+}
+
+// The same, where it is known that this is the cluster that is handed over.
+fn run_from<R: Threads + Wait + Sync, S: Store + Send, O: Origin, G: Gate + Sync>(
+    rt: &R,
+    alloc: Global,
+    cluster: Cluster<S>,
+    gate: &G,
+    turns: u32,
+) -> Result<RunCut, LogError>
+    requires { O.start ≡ Some cluster }
+    ensures { IfOk result (λ run. AreTheSame run.bases cluster.members cluster.links) }
+{
+    let shared = Locked::<S, O>::new(alloc, cluster)?;
+    run_workers(rt, &shared, gate, turns)?;
+    shared.take_cut(rt, gate)
+}
+
+impl<S: Store, O: Origin> Locked<S, O> {
     // A job for each device's scanner and puller, and for each end of each link.
     fn jobs(&self) -> Result<Vec<Job>, AllocError> {
         let mut jobs = Vec::new(self.alloc);

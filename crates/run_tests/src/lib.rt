@@ -8,6 +8,8 @@ mod cuts;
 #[cfg(test)]
 mod effects;
 #[cfg(test)]
+mod handed;
+#[cfg(test)]
 mod made;
 #[cfg(test)]
 mod meeting;

@@ -5,6 +5,7 @@ use bep_record::{FolderName, Name};
 use bep_run::Shared;
 use bep_run_cut::{RunCut, check_run};
 use bep_store::Store;
+use bep_tables::Cut;
 use std::sync::Wait;
 
 /// What a device has at a name: of how many bytes its file is, and whether its own record is a deletion.
@@ -19,9 +20,14 @@ pub(crate) fn next_cut<R: Wait, S: Store>(rt: &R, shared: &Shared<S>) -> Option<
     }
 }
 
-/// What the device of this number has at the name in the cut.
+/// What the device of this number has at the name in the run's cut.
 pub(crate) fn held(run: &RunCut, number: u64, folder: &FolderName, name: &Name) -> Held {
-    for share in run.cut().shares(folder) {
+    held_in(run.cut(), number, folder, name)
+}
+
+/// What it has there in a cut.
+pub(crate) fn held_in(cut: &Cut, number: u64, folder: &FolderName, name: &Name) -> Held {
+    for share in cut.shares(folder) {
         if share.device.number() == number {
             let len = share
                 .store

@@ -1,6 +1,5 @@
 -- What a turn counts, and what it passes over (this project's profile).
 use Rattle.std.specs.Prelude.{ℕ, ◌+◌, ◌-◌, ◌^◌, min, Option, Some, None, Result, Ok, Err}
-use Rattle.bep_machine.specs.declared.refusal.Refusal.{Refusal}
 use Rattle.bep_log.specs.declared.error.LogError.{LogError}
 use Rattle.bep_log.specs.declared.error.LogError.TheVariants.{TicketOld, LogFull, Refused, Stale, Memory}
 

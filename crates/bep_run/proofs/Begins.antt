@@ -1,0 +1,104 @@
+-- What is known of how a cluster began, of its devices and links behind their locks.
+use Rattle.std.proofs.Common.{◌≡◌, ◌++◌, ◌+◌, ℕ, suc, List, [], ◌∷◌, map, length, Option, Some, None, refl, sym, ap, subst, ◌∙◌}
+use Rattle.std.proofs.Common.{option_map}
+use Rattle.std.specs.Cmp.Lexicographic.{nat_list_cmp_total}
+use Rattle.std.specs.FinMap.{get, same_map}
+use Rattle.std.proofs.lemmas.Map.Lookups.{exact_bytes}
+use Rattle.bep_map.specs.NameMap.{ByName}
+use Rattle.bep_machine.specs.Replica.{Replica}
+use Rattle.bep_folder.specs.Contents.{copied_out}
+use Rattle.bep_folder.specs.Held.{Held}
+use Rattle.bep_peer.specs.Copied.{folders_copied, member_copied}
+use Rattle.bep_peer.specs.Member.{Member, tables_in, tables_of}
+use Rattle.bep_peer.specs.network.Network.{Network}
+use Rattle.bep_peer.proofs.Mapped.{get-changed}
+use Rattle.bep_log.specs.LoggedLink.{LoggedBetween}
+use Rattle.bep_log.specs.Copies.{IsCopied}
+use Rattle.bep_log.specs.LoggedPeer.{IsBegun, LoggedMember}
+use Rattle.bep_cut.specs.Cut.{Seen, seen}
+use Rattle.bep_run_cut.specs.RunCut.{AreTheSame, links_base, members_base}
+use Rattle.bep_run.specs.Origin.{AreFirst, BeginsAs, IsAll, at_place, count_of, devices_in, links_in}
+use Rattle.bep_run.specs.Based.{base_seen, began_as}
+use Rattle.bep_run.proofs.Places.{AreLeft, fewer_left, first_are_all, first_with, next_stands, none_left}
+
+-- ---- one device
+
+abbrev tables : Held → Replica
+tables held = held.tables
+
+-- copies have the tables
+tables_copied : (held : Option Held) → option_map tables (option_map copied_out held) ≡ option_map tables held
+tables_copied None = refl
+tables_copied (Some held) = refl
+
+folders_same : (folders : ByName Held) → tables_in (folders_copied folders) ≡ tables_in folders
+folders_same folders = same_map nat_list_cmp_total exact_bytes _ _ (λ folder.
+    get-changed nat_list_cmp_total exact_bytes tables (folders_copied folders) folder
+    ∙ ap (option_map tables) (get-changed nat_list_cmp_total exact_bytes copied_out folders folder)
+    ∙ tables_copied (get folders folder)
+    ∙ sym (get-changed nat_list_cmp_total exact_bytes tables folders folder))
+
+copied_tables : (member : Member) → tables_of (member_copied member) ≡ tables_of member
+copied_tables member = ap (λ (replicas : ByName Replica). record { replicas = replicas; sessions = member.sessions }) (folders_same member.folders)
+
+-- what stands at a place stands there, however it is named
+pub stands_as : {A : Type 0} (known : Option (List A)) (place : ℕ) (one other : A) → one ≡ other → at_place known place other ≡ Some other → at_place known place one ≡ Some one
+stands_as known place one other same stands = subst (λ x. at_place known place x ≡ Some x) (sym same) stands
+
+-- a device that was taken stands where it stood
+pub new_stands : (known : Option (List Seen)) (place : ℕ) (was : Member) (made : LoggedMember) → IsBegun was made → at_place known place (seen was) ≡ Some (seen was) → at_place known place (began_as made) ≡ Some (began_as made)
+new_stands known place was made begun = stands_as known place (began_as made) (seen was) (λ i. (begun.rest.number i, (ap tables_of begun.base ∙ copied_tables was) i))
+
+-- a copy of it stands there too
+pub copy_stands : (known : Option (List Seen)) (place : ℕ) (logged copy : LoggedMember) → logged.base.number ≡ logged.now.number → IsCopied logged copy → at_place known place (began_as logged) ≡ Some (began_as logged) → at_place known place (seen copy.base) ≡ Some (seen copy.base)
+copy_stands known place logged copy number copied = stands_as known place (seen copy.base) (began_as logged) (λ i. ((ap (λ (m : Member). m.number) copied.base ∙ number) i, (ap tables_of copied.base ∙ copied_tables logged.base) i))
+
+-- it still stands there once its stores were read
+pub still_stands : (known : Option (List Seen)) (place : ℕ) (old new : LoggedMember) → new.now.number ≡ old.now.number → tables_of new.base ≡ tables_of old.base → at_place known place (began_as old) ≡ Some (began_as old) → at_place known place (began_as new) ≡ Some (began_as new)
+still_stands known place old new number tables_same = stands_as known place (began_as new) (began_as old) (λ i. (number i, tables_same i))
+
+-- those that aren't behind locks yet, one after the other
+pub next_seen : (known : Option (List Seen)) (place : ℕ) (one : Member) (rest all : List Member) → all ≡ one ∷ rest → AreLeft known place (map seen all) → at_place known place (seen one) ≡ Some (seen one)
+next_seen known place one rest all is left = next_stands known place (seen one) (map seen rest) (subst (λ these. AreLeft known place (map seen these)) is left)
+
+pub fewer_seen : (known : Option (List Seen)) (place : ℕ) (one : Member) (rest all : List Member) → all ≡ one ∷ rest → AreLeft known place (map seen all) → AreLeft known (place + 1) (map seen rest)
+fewer_seen known place one rest all is left = fewer_left known place (seen one) (map seen rest) (subst (λ these. AreLeft known place (map seen these)) is left)
+
+pub none_seen : (known : Option (List Seen)) (place : ℕ) (all : List Member) → all ≡ [] → AreLeft known place (map seen all) → count_of known place ≡ place
+none_seen known place all is left = none_left known place (subst (λ these. AreLeft known place (map seen these)) is left)
+
+-- ---- all of them
+
+pub parts_known : (start : Option Network) (cluster : Network) → BeginsAs start cluster → IsAll (devices_in start) (map seen cluster.members) × IsAll (links_in start) cluster.links
+parts_known None cluster begins = (tt, tt)
+parts_known (Some origin) cluster begins = (begins.devices_same, begins.links_same)
+
+all_seen : (copies : List LoggedMember) → map seen (members_base copies) ≡ map base_seen copies
+all_seen [] = refl
+all_seen (copy ∷ more) = ap (λ all. base_seen copy ∷ all) (all_seen more)
+
+pub begins_so : (start : Option Network) (bases : Network) (copies : List LoggedMember) (links : List LoggedBetween) → AreTheSame bases (members_base copies) (links_base links) →
+    IsAll (devices_in start) (map base_seen copies) → IsAll (links_in start) (links_base links) → BeginsAs start bases
+begins_so None bases copies links same devices joined = tt
+begins_so (Some origin) bases copies links same devices joined = record {
+  devices_same = same.devices_same ∙ all_seen copies ∙ devices;
+  links_same = same.links_same ∙ joined;
+}
+
+mapped_push : {A B : Type 0} (f : A → B) (these : List A) (one : A) → map f (these ++ one ∷ []) ≡ map f these ++ f one ∷ []
+mapped_push f [] one = refl
+mapped_push f (x ∷ these) one = ap (λ all. f x ∷ all) (mapped_push f these one)
+
+mapped_length : {A B : Type 0} (f : A → B) (these : List A) → length (map f these) ≡ length these
+mapped_length f [] = refl
+mapped_length f (x ∷ these) = ap suc (mapped_length f these)
+
+-- the copies of the first ones, with that of the next one
+pub copied_with : {A B : Type 0} (f : A → B) (known : Option (List B)) (these : List A) (one : A) (place : ℕ) → place ≡ length these → AreFirst known (map f these) → at_place known place (f one) ≡ Some (f one) → AreFirst known (map f (these ++ one ∷ []))
+copied_with f known these one place at first stands =
+    subst (AreFirst known) (sym (mapped_push f these one))
+    (first_with known (map f these) (f one) first (subst (λ p. at_place known p (f one) ≡ Some (f one)) (at ∙ sym (mapped_length f these)) stands))
+
+-- the copies of the first ones are those of all, if they are as many
+pub copies_are_all : {A B : Type 0} (f : A → B) (known : Option (List B)) (these : List A) (count : ℕ) → AreFirst known (map f these) → count_of known count ≡ count → length these ≡ count → IsAll known (map f these)
+copies_are_all f known these count first counted same = first_are_all known (map f these) count first counted (mapped_length f these ∙ same)

@@ -1,0 +1,25 @@
+//! What a cluster was when it came behind its locks, as a name in clauses.
+ghost use Rattle.std.specs.Prelude.{None, Option};
+ghost use Rattle.bep_peer.specs.network.Network.{Network};
+
+use std::marker::Brand;
+
+/// What the devices and links of a cluster were when they came behind their locks, where that is known. It is said of a
+/// type, so that each lock keeps it. No value of it is needed.
+pub trait Origin: Send + Sync {
+    /// The devices and links; None where nothing is known of them.
+    ghost start: { Option Network };
+}
+
+/// Nothing is known of what they were. So their logs may begin anew.
+#[derive(Clone, Copy, Debug)]
+pub struct Anywhere;
+
+impl Origin for Anywhere {
+    ghost start = { None };
+}
+
+// A call with it picks what is known (`run_turns`).
+impl Origin for Brand {
+    ghost start = { None };
+}
