@@ -59,7 +59,7 @@ class ConflictOfSymlinks(Exporting):
             device.stop()
         told = " ".join(self.on_homes("check", [device.home for device in self.devices], "--syncaudit", self.auditor).stdout.split())
         self.assertIn("in conflict: has one change of it, and lacks another", told)
-        self.assertIn("of two symlinks it keeps either), and the other one as a conflict copy only if it is a file", told)
+        self.assertIn("so their versions decide; a symlink counts as of 1970), and the other one as a conflict copy only if it is a file", told)
         self.start()
         wait_until("both have one target", lambda: os.readlink(self.one.files / "link") == os.readlink(self.two.files / "link"))
         wait_until_in_step(self.one, self.two)

@@ -15,7 +15,7 @@ from syncthing import wait_until
 CHANGED, ROTTEN = "changed on two", "dlo"
 IN_CONFLICT = "what they have there is then in conflict. Syncthing keeps the one that was modified later"
 AS_A_COPY = ", and the other one as a conflict copy."
-ONLY_FILES = " (a symlink counts as of 1970; of two symlinks it keeps either), and the other one as a conflict copy only if it is a file"
+ONLY_FILES = " (a symlink counts as of 1970), and the other one as a conflict copy only if it is a file"
 
 
 class Rivals(Behind):

@@ -1,5 +1,7 @@
 package part
 
+import "math"
+
 // IsAtMost says whether a version is at most another one everywhere.
 func IsAtMost(version, other [][2]uint64) bool {
 	for _, one := range version {
@@ -31,4 +33,19 @@ func valueAt(version [][2]uint64, id uint64) uint64 {
 		}
 	}
 	return 0
+}
+
+// GoesFirst says whether Syncthing keeps this one of two concurrent versions of what was modified at the same time (its WinsConflict): of the ids
+// whose values differ, it has the greater value for the least one.
+func GoesFirst(version, other [][2]uint64) bool {
+	goes, least := false, uint64(math.MaxUint64)
+	for _, list := range [][][2]uint64{version, other} {
+		for _, one := range list {
+			here, there := valueAt(version, one[0]), valueAt(other, one[0])
+			if here != there && one[0] <= least {
+				goes, least = here > there, one[0]
+			}
+		}
+	}
+	return goes
 }

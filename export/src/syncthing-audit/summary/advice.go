@@ -211,13 +211,13 @@ func behindAdvice(one *Fault, file *File, at string, named labels) string {
 	switch {
 	case one.Kind == sendOnly:
 		return at + " only sends: it doesn't take what others change. 'Override Changes' there undoes their changes " + file.onAll(one.Device, named) + ", and deletes " +
-			"what they added; to take the changes, make the folder 'Send & Receive' there"
+			"what they added; to take the changes, make the folder 'Send & Receive' there" + file.firstWhereOnlySent(one, at)
 	case one.Cause == Conflicting && file.isMissingSomewhere():
 		return "then start Syncthing on all of these devices"
 	case one.Cause == Conflicting && one.Deletion:
 		return "start Syncthing on all of these devices: it keeps " + file.say("the file", "the files") + ", since a change goes before a deletion"
 	case one.Cause == Conflicting:
-		return "start Syncthing on all of these devices: it " + file.conflicting(one.hasNoCopy) + file.keepOwn(file.isAloneWith, named)
+		return "start Syncthing on all of these devices: it " + file.conflicting(one.hasNoCopy, file.firsts, named) + file.keepOwn(file.isAloneWith, named)
 	case one.isTied:
 		return tiedAdvice(one, file, at, named)
 	case one.isUntold:

@@ -32,6 +32,7 @@ type File struct {
 	rivals      []string          // the devices whose next scans record changes that are in conflict
 	receivers   []string          // the devices that only receive
 	sharers     *sharers          // who takes changes from whom
+	firsts      []string          // the devices whose change goes first of those in conflict that were modified at the same time; nothing where times decide
 }
 
 // say gives what is said of one name, or of many where the file stands for these.
@@ -83,6 +84,7 @@ func fileOf(folder *finding.Folder, told *finding.Told) *File {
 	if told.Permissions != nil {
 		made.Permissions = modesOf(folder, told.Permissions)
 	}
+	made.noteFirsts(folder, row)
 	if row != nil {
 		made.hasDetails = true
 		made.Size = row.Size()

@@ -103,14 +103,25 @@ func isSame(disk *part.Node, due *part.Record) bool {
 }
 
 // conflicting says what Syncthing does with two changes of which neither is on top of the other. It keeps copies of files alone. In its record a
-// symlink has no time, so it goes behind whatever has one. Of two symlinks the version decides.
-func (f *File) conflicting(hasNoCopy bool) string {
-	if hasNoCopy {
-		return "keeps the one " + f.say("that was modified later (a symlink counts as of 1970; of two symlinks it keeps either), and the other one as a conflict copy only if it is a file",
-			"of each that was modified later (a symlink counts as of 1970; of two symlinks it keeps either), and the others as conflict copies only if they are files") +
-			" and the folder's 'Max Conflicts' isn't 0: save first what is to stay. It puts nothing in place of a directory that isn't empty"
+// symlink has no time, so it goes behind whatever has one. At equal times it keeps what the first devices have: their version goes before the other.
+func (f *File) conflicting(hasNoCopy bool, firsts []string, named labels) string {
+	told, why := "keeps the one "+f.say("", "of each ")+"that was modified later", []string{}
+	if len(firsts) > 0 {
+		told = "keeps " + f.say("that of ", "those of ") + named.all(firsts)
+		why = append(why, f.say("both", "both of each")+" were modified at the same time, so their versions decide")
 	}
-	return "keeps the one " + f.say("that was modified later, and the other one as a conflict copy", "of each that was modified later, and the others as conflict copies") + noCopies
+	if hasNoCopy {
+		why = append(why, "a symlink counts as of 1970")
+	}
+	if len(why) > 0 {
+		told += " (" + strings.Join(why, "; ") + ")"
+	}
+	told += f.say(", and the other one as a conflict copy", ", and the others as conflict copies")
+	if hasNoCopy {
+		return told + " only if " + f.say("it is a file", "they are files") + " and the folder's 'Max Conflicts' isn't 0: save first what is to stay. " +
+			"It puts nothing in place of a directory that isn't empty"
+	}
+	return told + noCopies
 }
 
 // noCopies says where Syncthing keeps no conflict copies.
@@ -138,7 +149,7 @@ func lateAdvice(one *Fault, file *File, at string, named labels) string {
 		return told + takes + " what the others have, and keeps what stands there as " +
 			file.say("a conflict copy, a local addition", "conflict copies, local additions") + noCopies
 	}
-	told += "what stands there is then in conflict with what the others have. Syncthing " + file.conflicting(one.hasNoCopy)
+	told += "what stands there is then in conflict with what the others have. Syncthing " + file.conflicting(one.hasNoCopy, file.firsts, named)
 	if one.Kind != sendOnly {
 		told += ". To have only what the others have, first delete what stands there while Syncthing is stopped"
 	}

@@ -13,6 +13,8 @@ import (
 func changedAt(number, version uint64) *part.Name {
 	made := file(1, byte(number))
 	made.Own.Version = append(made.Own.Version, [2]uint64{number + 10, version})
+	made.Own.ModifiedS += int64(number)
+	made.Disk.ModifiedS = made.Own.ModifiedS
 	return made
 }
 

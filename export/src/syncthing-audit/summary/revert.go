@@ -29,7 +29,7 @@ func localChangeAdvice(one *Fault, file *File, at string, named labels) string {
 	case one.isLast: // so a scan records the change on top of what they have
 		return told + ": " + file.say("it then goes", "they then go") + " to all, since no other device ever changed " + it
 	}
-	return told + ": " + file.say("it is", "they are") + " then in conflict with what the others have. Syncthing " + file.conflicting(one.hasNoCopy)
+	return told + ": " + file.say("it is", "they are") + " then in conflict with what the others have. Syncthing " + file.conflicting(one.hasNoCopy, one.firsts, named)
 }
 
 // isPassed says whether others changed a name after a local change of it, or beside that. Of an older part that isn't known.

@@ -93,7 +93,7 @@ func TestTypesWithoutCopies(t *testing.T) {
 		one.Own.Version = [][2]uint64{{3, 1}}
 	})}} {
 		text := printed(answerOf(2, func(folder *finding.Folder) { fails(folder, "a", row, "RecordDiffers 2", "StoreDiffers 2") }))
-		if !strings.Contains(text, "it keeps the one that was modified later (a symlink counts as of 1970; of two symlinks it keeps either), and the other one as a conflict copy only if it is a file") {
+		if !strings.Contains(text, "it keeps the one that was modified later (a symlink counts as of 1970), and the other one as a conflict copy only if it is a file") {
 			t.Errorf("%s: %s", why, text)
 		}
 	}

@@ -135,5 +135,5 @@ func rivalsAdvice(file *File, named labels) string {
 	if !isKnown {
 		told += " where it differs"
 	}
-	return told + ". Syncthing " + file.conflicting(hasNoCopy) + file.keepOwn(func(device string) bool { return slices.Contains(file.rivals, device) }, named)
+	return told + ". Syncthing " + file.conflicting(hasNoCopy, file.firsts, named) + file.keepOwn(func(device string) bool { return slices.Contains(file.rivals, device) }, named)
 }

@@ -106,7 +106,7 @@ var scannedByBoth = []struct {
 	{"changed, and changed where it is only sent", sendOnly, []*part.Name{changedTo(8), changedTo(7)}, "StoreDiffers 1,StoreDiffers 2", 0,
 		"server only sends: it keeps what stands there in any case", "goes to all"},
 	{"recorded as a file, and as a symlink", "", []*part.Name{changedAt(1, 1), linkRecorded()}, "RecordDiffers 2", 0,
-		"keeps the one that was modified later (a symlink counts as of 1970; of two symlinks it keeps either), and the other one as a conflict copy only if it is a file", "goes to all"},
+		"keeps the one that was modified later (a symlink counts as of 1970), and the other one as a conflict copy only if it is a file", "goes to all"},
 	{"missing, and missing where it is behind", "", []*part.Name{with(file(2, 2), absent), with(file(1, 1), absent)}, "StoreDiffers 1,RecordDiffers 2,StoreDiffers 2", 0,
 		"mounted on server, before Syncthing starts there: a scan takes it for deleted, and then all devices delete it", "the other devices keep it"},
 	{"other bytes of a local change", receiveOnly, []*part.Name{file(1, 1), local(with(file(2, 2), rotten))}, "LocalOnly 2,StoreDiffers 2", 0,

@@ -185,8 +185,11 @@ func (f *File) keepOwn(isAlone func(device string) bool, named labels) string {
 	told := ""
 	for _, one := range f.sharers.keepers("") {
 		told += ". " + named.of(one) + " only sends: it keeps what stands there in any case"
-		if isAlone(one) {
+		switch isFirst := slices.Contains(f.firsts, one); {
+		case isAlone(one) && len(f.firsts) == 0:
 			told += ". Where that was modified earlier, the others keep theirs, without a copy"
+		case isAlone(one) && !isFirst:
+			told += ". The others keep theirs, without a copy"
 		}
 	}
 	return told

@@ -129,7 +129,9 @@ func TestManyDeletions(t *testing.T) {
 // these Syncthing makes no conflict copies.
 func TestManyConflicts(t *testing.T) {
 	answer := answerOf(3, func(folder *finding.Folder) {
-		other := func(one *part.Name) { one.Own.Version = [][2]uint64{{2, 1}} }
+		other := func(one *part.Name) {
+			one.Own.Version, one.Own.ModifiedS, one.Disk.ModifiedS = [][2]uint64{{2, 1}}, started-1, started-1
+		}
 		deleted := func(one *part.Name) { other(one); one.Own.Deleted, one.Own.Content, one.Disk = true, nil, nil }
 		for next := 0; next < 40; next++ {
 			fails(folder, fmt.Sprintf("c/%02d", next), []*part.Name{file(2, 1), with(file(1, 2), other), file(1, 3)}, "RecordDiffers 2", "RecordDiffers 3")

@@ -1,0 +1,125 @@
+package summary
+
+import (
+	"math"
+	"time"
+
+	"golang.org/x/exp/slices"
+	"syncthing-audit/finding"
+	"syncthing-audit/join"
+	"syncthing-audit/part"
+)
+
+// contender is a change of a name that a device recorded, or that its next scan records.
+type contender struct {
+	device   string
+	version  [][2]uint64
+	is       *State // its time is nothing for a symlink: Syncthing stores none
+	contents []part.Content
+}
+
+// contendersOf gives the changes of a name that devices have or come to have in their records. A device that only receives tells none of its own.
+func contendersOf(folder *finding.Folder, row *join.Row, modes []Mode) []contender {
+	made := []contender{}
+	for place, member := range folder.Members {
+		if at := row.At[place]; at != nil {
+			if one := contenderAt(at, member, modes); one != nil {
+				made = append(made, *one)
+			}
+		}
+	}
+	return made
+}
+
+// contenderAt gives the change of a device; nothing where it has none, or a deletion, which goes behind each change.
+func contenderAt(at *part.Name, member join.Member, modes []Mode) *contender {
+	id := member.Head.Device
+	isScanned := slices.IndexFunc(modes, func(one Mode) bool { return one.Device == id && one.isStray() }) >= 0
+	switch onDisk(at) {
+	case Missing, Damaged:
+		return nil
+	case Changed, NotScanned, Back, OtherTime:
+		isScanned = true
+	}
+	switch {
+	case isScanned && (isReceiver(member) || at.Disk == nil):
+		return nil
+	case isScanned:
+		return &contender{id, afterScan(at.Own, member.Number), undated(found(at.Disk)), at.Disk.Contents}
+	case at.Own == nil || at.Own.Deleted || at.Own.Invalid:
+		return nil
+	}
+	return recordedBy(at.Own, at.Own.Version, id)
+}
+
+// recordedBy gives what a device recorded, under this version.
+func recordedBy(own *part.Record, version [][2]uint64, device string) *contender {
+	made := &contender{device: device, version: version, is: recorded(own)}
+	if own.Content != nil {
+		made.contents = []part.Content{*own.Content}
+	}
+	return made
+}
+
+// undated gives the state of a symlink without the time that the disk has of it.
+func undated(one *State) *State {
+	if one.Type == "symlink" {
+		one.Modified = nil
+	}
+	return one
+}
+
+// afterScan gives the version of what the next scan of a device records on top of its own record: the device's own count is then greater than any
+// other one of it. Of a local change other devices' counts are dropped.
+func afterScan(own *part.Record, number uint64) [][2]uint64 {
+	made := [][2]uint64{{number, math.MaxUint64}}
+	if own == nil || own.Invalid {
+		return made
+	}
+	for _, one := range own.Version {
+		if one[0] != number {
+			made = append(made, one)
+		}
+	}
+	return made
+}
+
+// isOlder says whether a change is below another one: then the two aren't in conflict.
+func (c *contender) isOlder(other *contender) bool {
+	return part.IsAtMost(c.version, other.version) && !part.IsAtMost(other.version, c.version)
+}
+
+// modified gives when it was modified, as Syncthing compares that: a symlink counts as of 1970.
+func (c *contender) modified() time.Time {
+	if c.is.Modified == nil {
+		return time.Unix(0, 0)
+	}
+	return *c.is.Modified
+}
+
+// isLater says whether Syncthing keeps this one of two changes in conflict: the later one, and at equal times the one whose version goes first.
+func (c *contender) isLater(other *contender) bool {
+	if c.modified().Equal(other.modified()) {
+		return part.GoesFirst(c.version, other.version)
+	}
+	return c.modified().After(other.modified())
+}
+
+// isSame says whether two changes have the same contents.
+func (c *contender) isSame(other *contender) bool {
+	if c.is.Type != other.is.Type || c.is.Target != other.is.Target {
+		return false
+	}
+	return c.is.Type != "file" || haveSame(c.contents, other.contents)
+}
+
+// newestOf gives the changes that are below no other one.
+func newestOf(all []contender) []contender {
+	made := []contender{}
+	for _, one := range all {
+		if slices.IndexFunc(all, func(other contender) bool { return one.isOlder(&other) }) < 0 {
+			made = append(made, one)
+		}
+	}
+	return made
+}
