@@ -10,7 +10,7 @@ import os
 from behind import NEW, OLD, Behind
 from exporting import main
 from rot import text_of
-from syncthing import wait_until
+from syncthing import wait_until, wait_until_in_step
 
 CHANGED, ROTTEN = "changed on two", "dlo"
 IN_CONFLICT = "what they have there is then in conflict. Syncthing keeps the one that was modified later"
@@ -135,6 +135,57 @@ class BehindWithAnotherMode(Behind):
         self.stop()
         for device in self.devices:
             self.assert_texts(device, changed=[OLD, NEW], gone=[OLD])
+
+
+class MissingOnTwoThatChangedIt(Behind):
+    """Two devices recorded a change of two files each, which are missing on both of them since. A third device took the first one's change of one file, which is the
+    newest."""
+
+    names = ("one", "two", "three")
+    missing = ("taken", "not-taken")
+
+    @classmethod
+    def synchronise(cls):
+        cls.now, cls.three = 1700000000, cls.devices[2]
+        for name in cls.missing:
+            cls.put(cls.one, name, OLD, -1000)
+        cls.scan_and_wait()
+
+    @classmethod
+    def change_one(cls):
+        cls.put(cls.one, "taken", NEW, -500)
+        for device in (cls.one, cls.three):
+            device.start()
+        cls.one.scan()
+        wait_until("the third device has it", lambda: text_of(cls.three.files / "taken") == NEW and cls.three.is_in_step_with(cls.one))
+        for device in (cls.one, cls.three):
+            device.stop()
+        cls.put(cls.one, "not-taken", NEW, -500)
+        cls.record(cls.one)
+
+    @classmethod
+    def change_two(cls):
+        for name, seconds in (("taken", -600), ("not-taken", -100)):
+            cls.put(cls.two, name, f"{CHANGED}, {name}", seconds)
+        cls.record(cls.two)
+        for device in (cls.one, cls.two):
+            for name in cls.missing:
+                (device.files / name).unlink()
+
+    def test_what_is_told_comes_so(self):
+        for name, device in (("taken", self.two), ("not-taken", self.one)):
+            self.assertEqual(self.told[name].count("a scan takes it for deleted, and then all devices delete it"), 2, self.told[name])
+            self.assertEqual(self.told[name].count(f"Or they keep what {self.three.id[:7]} has"), 2 if name == "taken" else 0)
+            self.assertNotIn("the other devices keep it", self.told[name])
+            self.assertIn(f"What {device.id[:7]} recorded last of it no other device has", self.told[name])
+        self.assertIn(f"To keep it, first copy it from {self.three.id[:7]} to {self.one.id[:7]}", self.told["taken"])
+        self.run_both(lambda: not any((device.files / "not-taken").exists() for device in self.devices))
+        wait_until_in_step(*self.devices)
+        self.stop()
+        kept = self.texts_of(self.three)
+        self.assertIn(kept, ({}, {("taken", False): NEW}))
+        for device in self.devices:
+            self.assertEqual(self.texts_of(device), kept)
 
 
 if __name__ == "__main__":

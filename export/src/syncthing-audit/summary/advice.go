@@ -203,8 +203,12 @@ func missingAdvice(one *Fault, file *File, at string, named labels) string {
 		return "see that the folder's disk is mounted on " + at + ". After a 'Rescan', 'Revert Local Changes' there brings " + it +
 			" back" + from + "; it also deletes files that were added there"
 	}
-	return "see that the folder's disk is mounted on " + at + ", before Syncthing starts there: a scan takes " + it + " for deleted" +
+	told := "see that the folder's disk is mounted on " + at + ", before Syncthing starts there: a scan takes " + it + " for deleted" +
 		file.spread(file.allDelete(one.Device, it, named), "") + ". To keep " + it + ", first " + copying(one, file, named, toNothing)
+	if file.lackOn(one.Device) != nil {
+		told += one.lostAlone(it, at)
+	}
+	return told
 }
 
 func behindAdvice(one *Fault, file *File, at string, named labels) string {

@@ -32,6 +32,8 @@ type File struct {
 	rivals      []string          // the devices whose next scans record changes that are in conflict
 	receivers   []string          // the devices that only receive
 	sharers     *sharers          // who takes changes from whom
+	isKept      bool              // whether Syncthing keeps a change of it, since no deletion is on top of that
+	mayStay     []string          // the devices whose change it may keep, since not each deletion is on top of that
 	firsts      []string          // the devices whose change goes first of those in conflict that were modified at the same time; nothing where times decide
 }
 
@@ -84,7 +86,7 @@ func fileOf(folder *finding.Folder, told *finding.Told) *File {
 	if told.Permissions != nil {
 		made.Permissions = modesOf(folder, told.Permissions)
 	}
-	made.noteFirsts(folder, row)
+	made.noteChanges(folder, row)
 	if row != nil {
 		made.hasDetails = true
 		made.Size = row.Size()

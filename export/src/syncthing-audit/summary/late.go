@@ -179,11 +179,16 @@ func lateMissing(one *Fault, file *File, at string, named labels) string {
 		return told + ". 'Override Changes' there would then delete " + it + " " + file.onAll(one.Device, named)
 	}
 	told += ", and Syncthing brings what they have to " + at
-	if one.isAlone {
-		told += ". What " + at + " recorded last of " + it + " no other device has: to keep that, too, look for it among old versions and backups, " +
-			"and put it back there (cp -a, or rsync -a) before Syncthing starts"
+	return told + one.lostAlone(it, at)
+}
+
+// lostAlone says what is lost where the device recorded a change that no other one has, and that is missing there.
+func (f *Fault) lostAlone(it, at string) string {
+	if !f.isAlone {
+		return ""
 	}
-	return told
+	return ". What " + at + " recorded last of " + it + " no other device has: to keep that, too, look for it among old versions and backups, " +
+		"and put it back there (cp -a, or rsync -a) before Syncthing starts"
 }
 
 // isMissingSomewhere says whether the name is missing on a disk: what becomes of it in a conflict is told there.

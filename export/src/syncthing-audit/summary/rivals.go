@@ -19,24 +19,11 @@ func (f *File) noteRivals() {
 		switch {
 		case f.isOutdone(one, scanned):
 			one.late, one.mayStay, one.isDue = lateChange, false, false
-		case one.Cause == Missing && one.late == lateChange && f.isMissingOnAll():
+		case one.Cause == Missing && one.Kind != receiveOnly && one.late == lateChange && !f.isKept:
 			one.late = notLate
 		}
 		one.isDue = one.isDue && !f.hasConflictBut(one.Device)
 	}
-}
-
-// isMissingOnAll says whether what is due is missing on the disk of a device that recorded it, and stands on no other one as recorded. Scans take
-// it for deleted then, on top of what all devices have, unless another one has a change of its own.
-func (f *File) isMissingOnAll() bool {
-	isMissing := false
-	for _, one := range f.Faults {
-		if one.Cause == Conflicting && !one.Deletion && !f.hasAt(one.Device, Missing) {
-			return false
-		}
-		isMissing = isMissing || one.Cause == Missing && one.Kind != receiveOnly && f.lackOn(one.Device) == nil
-	}
-	return isMissing && len(f.Have) == 0
 }
 
 // hasAt says whether a device has a fault of this cause.

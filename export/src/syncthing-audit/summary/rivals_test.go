@@ -109,6 +109,8 @@ var scannedByBoth = []struct {
 		"keeps the one that was modified later (a symlink counts as of 1970), and the other one as a conflict copy only if it is a file", "goes to all"},
 	{"missing, and missing where it is behind", "", []*part.Name{with(file(2, 2), absent), with(file(1, 1), absent)}, "StoreDiffers 1,RecordDiffers 2,StoreDiffers 2", 0,
 		"mounted on server, before Syncthing starts there: a scan takes it for deleted, and then all devices delete it", "the other devices keep it"},
+	{"recorded on two, and missing on both", "", []*part.Name{with(changedAt(1, 1), absent), with(changedAt(2, 1), absent)}, "StoreDiffers 1,RecordDiffers 2,StoreDiffers 2", 0,
+		"mounted on server, before Syncthing starts there: a scan takes it for deleted, and then all devices delete it", "the other devices keep it"},
 	{"other bytes of a local change", receiveOnly, []*part.Name{file(1, 1), local(with(file(2, 2), rotten))}, "LocalOnly 2,StoreDiffers 2", 0,
 		"Syncthing won't repair it: put the bytes back that server recorded, from old versions or backups", "copy it from laptop"},
 	{"another mode where it is behind", "", []*part.Name{file(2, 2), file(1, 1)}, "RecordDiffers 2", 2,
@@ -132,6 +134,40 @@ func TestWhatScansOfTwoDevicesRecord(t *testing.T) {
 		}))
 		if !strings.Contains(text, one.has) || strings.Contains(text, one.not) {
 			t.Errorf("%s: %s", one.why, text)
+		}
+	}
+}
+
+// Where two devices recorded a change that is missing on each of them, a third one that took the one change deletes it, or keeps it: nobody is told that
+// it is kept, unless that one has a change of its own.
+func TestMissingOnTwoThatChangedIt(t *testing.T) {
+	const either = "for deleted, and then all devices delete it. Or they keep what phone has: the deletion of another device doesn't know of that, and it " +
+		"isn't known before which deletion goes first. To keep it, first "
+	const deleted, kept = "for deleted, and then all devices delete it. To keep it, first ", "and a change goes before a deletion: the other devices keep it, and Syncthing brings"
+	for _, one := range []struct {
+		why, reasons string
+		third        *part.Name
+		has          []string
+		not          string
+	}{
+		{"took the one", "StoreDiffers 1,RecordDiffers 2,StoreDiffers 2", changedAt(1, 1), []string{either + "copy it from phone to laptop", either + "copy it from phone to server",
+			"What server recorded last of it no other device has: to keep that, too"}, kept},
+		{"has neither", "StoreDiffers 1,RecordDiffers 2,StoreDiffers 2,RecordDiffers 3,StoreDiffers 3", file(1, 3), []string{deleted + "look among old versions and backups"}, kept},
+		{"only receives, and changed it", "StoreDiffers 1,RecordDiffers 2,StoreDiffers 2,LocalOnly 3", local(file(2, 3)),
+			[]string{"and then all devices but phone delete it: phone keeps its local change. To keep it, first look"}, kept},
+		{"has a change of its own", "StoreDiffers 1,RecordDiffers 2,StoreDiffers 2,RecordDiffers 3", changedAt(3, 1), []string{kept}, deleted},
+		{"finds a change", "StoreDiffers 1,RecordDiffers 2,StoreDiffers 2,StoreDiffers 3", with(changedAt(1, 1), written), []string{kept}, deleted},
+	} {
+		row := []*part.Name{with(changedAt(1, 1), absent), with(changedAt(2, 1), absent), one.third}
+		text := toldOf(row, one.reasons, 0, 1, func(folder *finding.Folder) {
+			if one.third.Own.Invalid {
+				folder.Members[2].About.Kind = receiveOnly
+			}
+		})
+		for _, has := range one.has {
+			if !strings.Contains(text, has) || strings.Contains(text, one.not) {
+				t.Errorf("%s: %q isn't in\n%s", one.why, has, text)
+			}
 		}
 	}
 }

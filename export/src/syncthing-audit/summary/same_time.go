@@ -7,13 +7,15 @@ import (
 	"syncthing-audit/part"
 )
 
-// noteFirsts notes which devices go first of those whose changes are in conflict and of one time, and which do once a local change is sent.
-func (f *File) noteFirsts(folder *finding.Folder, row *join.Row) {
-	if row == nil || f.isOdd {
+// noteChanges notes which devices go first of those whose changes are in conflict and of one time, and which do once a local change is sent; and
+// what Syncthing keeps beside deletions.
+func (f *File) noteChanges(folder *finding.Folder, row *join.Row) {
+	if row == nil {
 		return
 	}
 	all := contendersOf(folder, row, f.Permissions)
 	f.firsts = firstsOf(all)
+	f.noteKept(deletionsOf(folder, row), all)
 	for place := range f.Faults {
 		one := &f.Faults[place]
 		if one.Cause != LocalChange {
