@@ -31,7 +31,7 @@ CLASSES = [("rot", "BlockSizes"), ("large_folders", "LargeFiles"), ("large_folde
            ("rot", "RotInManyBlocks"), ("rot", "RotWithAnotherMode"), ("late_rot", "RotThatIsFetched"), ("late_rot", "RotThatAnOldChangeMeets"), ("late_rot", "RotThatIsOverridden"), ("late_rot", "RotInAConflict"),
            ("attributes", "RotWithAttributesThatAnOldChangeMeets"), ("attributes", "AttributesOfAMendedFile"), ("attributes", "AttributesOfATouchedFile"), ("attributes", "AttributesThatNoScanHasSeen"), ("attributes", "RotWhereAttributesAreScanned"), ("attributes", "RotThatAScanDrops"),
            ("behind", "BehindAndSends"), ("behind", "BehindAndReceives"),
-           ("rivals", "BothChanged"), ("rivals", "BothChangedAndOneReceives"), ("rivals", "BehindWithAnotherMode"), ("rivals", "MissingOnTwoThatChangedIt"), ("same_time", "ChangesOfOneTime"), ("takers", "ADeviceThatOnlySends"), ("behind", "BehindAndOnlySends"), ("behind", "BehindWithoutCopies"), ("behind", "AskedForRot"), ("untold", "ChangesThatNobodyTells"), ("behind", "NamesThatNoScanTakes"), ("manners", "Manners"), ("nightly", "Nightly"), ("nightly", "NightlySlices"), ("spread", "Spread")]
+           ("rivals", "BothChanged"), ("rivals", "BothChangedAndOneReceives"), ("rivals", "BehindWithAnotherMode"), ("rivals", "MissingOnTwoThatChangedIt"), ("stuck", "BelowWhatIsReplaced"), ("same_time", "ChangesOfOneTime"), ("takers", "ADeviceThatOnlySends"), ("behind", "BehindAndOnlySends"), ("behind", "BehindWithoutCopies"), ("behind", "AskedForRot"), ("untold", "ChangesThatNobodyTells"), ("behind", "NamesThatNoScanTakes"), ("manners", "Manners"), ("nightly", "Nightly"), ("nightly", "NightlySlices"), ("spread", "Spread")]
 # The classes and Go's tests.
 ALL = len(CLASSES) + 1
 SIDE_BY_SIDE = 4

@@ -40,6 +40,9 @@ func adviceOf(file *File, named labels) []string {
 			}
 		}
 	}
+	if file.stuck != nil {
+		made = addOnce(made, file.stuck.advice(named))
+	}
 	if senders := file.sendersOfOtherBytes(); len(senders) > 1 {
 		made = append(made, touchAdvice(file, senders, named))
 	}
@@ -62,6 +65,9 @@ func adviceOfFault(one *Fault, file *File, named labels) string {
 	at := named.of(one.Device)
 	if one.isRival && one.Cause != OtherBytes && !file.isOdd {
 		return rivalsAdvice(file, named)
+	}
+	if file.isStopped(one) {
+		return file.stuck.advice(named)
 	}
 	switch one.Cause {
 	case OtherBytes:
@@ -202,6 +208,10 @@ func missingAdvice(one *Fault, file *File, at string, named labels) string {
 		}
 		return "see that the folder's disk is mounted on " + at + ". After a 'Rescan', 'Revert Local Changes' there brings " + it +
 			" back" + from + "; it also deletes files that were added there"
+	}
+	if file.isNeeded {
+		return "see that the folder's disk is mounted on " + at + ", before Syncthing starts there: a scan takes " + it + " for deleted. Below " + it +
+			" there is what other devices keep, so Syncthing makes " + file.say("the directory", "the directories") + " again"
 	}
 	told := "see that the folder's disk is mounted on " + at + ", before Syncthing starts there: a scan takes " + it + " for deleted" +
 		file.spread(file.allDelete(one.Device, it, named), "") + ". To keep " + it + ", first " + copying(one, file, named, toNothing)

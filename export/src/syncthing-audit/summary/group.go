@@ -59,7 +59,7 @@ func keyOf(file *File) string {
 			key += " untold"
 		}
 	}
-	return key + " of " + strings.Join(file.Have, " ") + fmt.Sprint(" before ", file.firsts, file.mayStay)
+	return key + " of " + strings.Join(file.Have, " ") + fmt.Sprint(" before ", file.firsts, file.mayStay, file.isNeeded, file.stuck)
 }
 
 // shorten keeps of each fault only its device, kind and reasons. It is for a name whose details weren't kept: so it can be
@@ -151,7 +151,7 @@ func (f *folding) end() ([]*File, []*Group) {
 func (a *alike) groupOf(named labels) *Group {
 	first := a.first[0]
 	same := &File{Faults: withoutDetails(first.Faults), Have: first.Have, Permissions: first.Permissions, isMany: true, areWide: first.areWide, isOwn: first.isOwn, isOdd: first.isOdd, rivals: first.rivals, receivers: first.receivers, sharers: first.sharers,
-		firsts: first.firsts, mayStay: first.mayStay}
+		firsts: first.firsts, mayStay: first.mayStay, stuck: first.stuck, isNeeded: first.isNeeded}
 	made := a.group
 	made.Cause, made.Devices, made.First, made.Have, made.Modes = Permissions, []string{}, []Text{}, first.Have, first.Permissions
 	made.Advice = adviceOf(same, named)

@@ -223,7 +223,12 @@ func folderOf(answer *finding.Answer, from *finding.Folder, named labels) *Folde
 		made.Devices = append(made.Devices, memberOf(one))
 	}
 	all := &folding{named: named, alike: map[string]*alike{}}
-	from.EachName(func(told *finding.Told) { all.take(fileOf(from, told)) })
+	below := keptBelow(from)
+	from.EachName(func(told *finding.Told) {
+		one := fileOf(from, told)
+		one.noteStuck(from, below)
+		all.take(one)
+	})
 	made.Files, made.Groups = all.end()
 	made.Wrong = all.wrong
 	for _, one := range from.Conflicts {

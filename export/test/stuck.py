@@ -1,0 +1,92 @@
+#!/usr/bin/env python3
+"""The audit of two real Syncthing devices on loopback, of which one put a file or a symlink in place of a directory, below which the other one changed
+something. What the answer says that Syncthing does with that is what Syncthing does.
+
+    export/test/stuck.py
+"""
+
+import shutil
+
+from behind import NEW, OLD, Behind
+from exporting import main
+from rot import text_of
+from syncthing import wait_until
+
+
+class BelowWhatIsReplaced(Behind):
+    """The first device changed what is below the directories: it recorded the one, and no scan has seen the others. The second one replaced them, and
+    recorded that. One more directory is missing there, and what is below it was changed."""
+
+    directories = ("recorded", "found", "linked", "missing")
+
+    @classmethod
+    def synchronise(cls):
+        cls.now = 1700000000
+        for name in cls.directories:
+            (cls.one.files / name).mkdir()
+            cls.put(cls.one, f"{name}/in", OLD, -1000)
+        cls.scan_and_wait()
+
+    @classmethod
+    def change_one(cls):
+        for name in ("recorded", "missing"):
+            cls.put(cls.one, f"{name}/in", NEW, 0)
+        cls.record(cls.one)
+        cls.put(cls.one, "found/in", NEW, 0)
+        cls.put(cls.one, "linked/new", NEW, 0)
+
+    @classmethod
+    def change_two(cls):
+        for name in cls.directories:
+            shutil.rmtree(cls.two.files / name)
+        for name in ("recorded", "found"):
+            cls.put(cls.two, name, "a file", 500)
+        (cls.two.files / "linked").symlink_to("recorded")
+        (cls.two.files / "missing").mkdir()
+        cls.put(cls.two, "missing/in", OLD, -1000)
+        cls.record(cls.two)
+        shutil.rmtree(cls.two.files / "missing")
+
+    def failed(self, device):
+        """Why names failed on a device."""
+        return {one["path"]: one["error"] for one in self.api_errors(device)}
+
+    def api_errors(self, device):
+        return device.api("GET", "folder/errors?folder=docs")["errors"] or []
+
+    def test_what_is_told_comes_so(self):
+        two = self.two.id[:7]
+        for name, told, what in (("recorded", "recorded/in", "a file"), ("found", "found/in", "a file"), ("linked", "linked/new", "a symlink")):
+            for entry in (name, told):
+                self.assertIn(f"Syncthing gets stuck here, and lists 'Failed Items': on {two} {what} stands in place of the directory {name}", self.told[entry])
+                self.assertNotIn("since a change goes before a deletion", self.told[entry])
+                self.assertNotIn("goes to all", self.told[entry])
+        self.assertIn("a scan takes it for deleted. Below it there is what other devices keep, so Syncthing makes the directory again", self.told["missing"])
+        self.assertNotIn("all devices delete", self.told["missing"])
+        self.start()
+        wait_until("both are stuck", lambda: {"recorded", "found", "linked"} <= self.failed(self.one).keys()
+                   and {"recorded/in", "found/in", "linked/new"} <= self.failed(self.two).keys())
+        self.assertIn("not empty", self.failed(self.one)["recorded"])
+        self.assertIn("not a directory", self.failed(self.two)["recorded/in"])
+        for device in self.devices:
+            wait_until("what is kept is there, and its directory", lambda: text_of(device.files / "missing/in") == NEW)
+        self.mend()
+        wait_until("all is as it was decided", lambda: all(self.is_mended(device) for device in self.devices))
+        self.stop()
+
+    def is_mended(self, device):
+        """Whether a device has what was to stay, and nothing that it still lacks."""
+        return (text_of(device.files / "recorded/in") == NEW and text_of(device.files / "found") == "a file"
+                and (device.files / "linked").is_symlink() and device.shows_up_to_date())
+
+    def mend(self):
+        """Does what the answer says: the one directory is to stay, and the others aren't."""
+        shutil.move(self.two.files / "recorded", self.room / "away")
+        self.two.scan()
+        for name in ("found", "linked"):
+            shutil.move(self.one.files / name, self.room / f"{name} away")
+        self.one.scan()
+
+
+if __name__ == "__main__":
+    main()
