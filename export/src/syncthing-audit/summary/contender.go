@@ -123,3 +123,13 @@ func newestOf(all []contender) []contender {
 	}
 	return made
 }
+
+// goesBefore says whether Syncthing takes this change before all others, as long as no deletion is on top of it.
+func (c *contender) goesBefore(others []contender) bool {
+	for _, one := range others {
+		if c.isOlder(&one) || !one.isOlder(c) && !c.isLater(&one) {
+			return false
+		}
+	}
+	return true
+}

@@ -50,7 +50,7 @@ func keyOf(file *File) string {
 			key += " odd"
 		}
 		if one.Cause != Behind {
-			key += fmt.Sprint(" ", one.late, one.isAlone, one.hasNoCopy)
+			key += fmt.Sprint(" ", one.late, one.isAlone, one.hasNoCopy, one.goesBefore)
 		}
 		if one.isRival {
 			key += " in conflict"
@@ -174,7 +174,7 @@ func withoutDetails(faults []Fault) []Fault {
 	made := []Fault{}
 	for _, one := range faults {
 		made = append(made, Fault{Device: one.Device, Cause: one.Cause, Kind: one.Kind, Deletion: one.Deletion, isWide: one.isWide, late: one.late,
-			isAlone: one.isAlone, isRival: one.isRival, hasNoCopy: one.hasNoCopy, isUntold: one.isUntold})
+			isAlone: one.isAlone, goesBefore: one.goesBefore, isRival: one.isRival, hasNoCopy: one.hasNoCopy, isUntold: one.isUntold})
 	}
 	return made
 }

@@ -175,11 +175,29 @@ func (f *Fault) mine() *State {
 func lateMissing(one *Fault, file *File, at string, named labels) string {
 	it := file.say("it", "them")
 	told := ". A scan there takes " + it + " for deleted, and a change goes before a deletion: the other devices keep " + it
+	if one.Kind != sendOnly {
+		told += ", and Syncthing brings what they have to " + at
+	}
+	told += file.takenBefore(one, at)
 	if one.Kind == sendOnly {
 		return told + ". 'Override Changes' there would then delete " + it + " " + file.onAll(one.Device, named)
 	}
-	told += ", and Syncthing brings what they have to " + at
 	return told + one.lostAlone(it, at)
+}
+
+// takenBefore says what comes where other devices take what one recorded, and what is missing there, before a scan has found that. Of a directory or a
+// symlink they need no bytes.
+func (f *File) takenBefore(one *Fault, at string) string {
+	if one.goesBefore == "" {
+		return ""
+	}
+	how := "they need no bytes for that"
+	if one.goesBefore == "file" {
+		how = "they can where another file has the same bytes"
+	}
+	return ". But what " + at + " recorded goes before what they have. Where they take it before that scan is over (" + how + "), they then delete " +
+		f.say("it, and keep what they had as a conflict copy alone, if it is a file", "them, and keep what they had as conflict copies alone, if these are files") +
+		" and the folder's 'Max Conflicts' isn't 0: copy elsewhere first what is to stay"
 }
 
 // lostAlone says what is lost where the device recorded a change that no other one has, and that is missing there.

@@ -7,8 +7,8 @@ import (
 	"syncthing-audit/part"
 )
 
-// noteChanges notes which devices go first of those whose changes are in conflict and of one time, and which do once a local change is sent; and
-// what Syncthing keeps beside deletions.
+// noteChanges notes which devices go first of those whose changes are in conflict and of one time, what Syncthing keeps beside deletions, and what
+// depends on a device's own record.
 func (f *File) noteChanges(folder *finding.Folder, row *join.Row) {
 	if row == nil {
 		return
@@ -17,15 +17,22 @@ func (f *File) noteChanges(folder *finding.Folder, row *join.Row) {
 	f.firsts = firstsOf(all)
 	f.noteKept(deletionsOf(folder, row), all)
 	for place := range f.Faults {
-		one := &f.Faults[place]
-		if one.Cause != LocalChange {
-			continue
-		}
-		for member := range folder.Members {
-			if at := row.At[member]; folder.Members[member].Head.Device == one.Device && at != nil && at.Own != nil && !at.Own.Deleted {
-				one.firsts = firstsOf(append(all, *recordedBy(at.Own, afterScan(at.Own, folder.Members[member].Number), one.Device)))
+		for member, at := range row.At {
+			if one := &f.Faults[place]; at != nil && at.Own != nil && !at.Own.Deleted && folder.Members[member].Head.Device == one.Device {
+				one.noteOwn(at.Own, folder.Members[member].Number, all, f.isKept)
 			}
 		}
+	}
+}
+
+// noteOwn notes which devices go first of those of one time once a local change is sent, too; and whether what a device recorded, and lacks, goes before
+// what the others have.
+func (f *Fault) noteOwn(own *part.Record, number uint64, others []contender, areKept bool) {
+	switch {
+	case f.Cause == LocalChange:
+		f.firsts = firstsOf(append(others, *recordedBy(own, afterScan(own, number), f.Device)))
+	case f.Cause == Missing && f.Kind != receiveOnly && areKept && recordedBy(own, own.Version, f.Device).goesBefore(others):
+		f.goesBefore = typeOf(own.Type)
 	}
 }
 
