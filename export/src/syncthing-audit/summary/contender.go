@@ -124,6 +124,17 @@ func newestOf(all []contender) []contender {
 	return made
 }
 
+// firstOf gives the change that Syncthing keeps of those in conflict; nothing where there is none.
+func firstOf(newest []contender) *contender {
+	var first *contender
+	for place := range newest {
+		if first == nil || newest[place].isLater(first) {
+			first = &newest[place]
+		}
+	}
+	return first
+}
+
 // goesBefore says whether Syncthing takes this change before all others, as long as no deletion is on top of it.
 func (c *contender) goesBefore(others []contender) bool {
 	for _, one := range others {

@@ -49,20 +49,12 @@ func (f *File) firstWhereOnlySent(one *Fault, at string) string {
 // modified at the same time. It gives nothing where times decide, or nothing is in conflict.
 func firstsOf(all []contender) []string {
 	newest := newestOf(all)
-	if len(newest) == 0 {
-		return nil
-	}
-	first := newest[0]
-	for _, one := range newest {
-		if one.isLater(&first) {
-			first = one
-		}
-	}
+	first := firstOf(newest)
 	var made []string
 	isDecided := true
 	for _, one := range newest {
 		switch {
-		case one.isSame(&first):
+		case one.isSame(first):
 			made = append(made, one.device)
 		case one.modified().Equal(first.modified()) && !part.IsAtMost(one.version, first.version):
 			isDecided = false

@@ -14,7 +14,7 @@ type stuck struct {
 	directory string
 	devices   []string // that have something else there
 	types     []string // of that
-	isSure    bool     // whether no device has a directory there that may go before
+	isSure    bool     // whether no directory there may still go before
 }
 
 // directoriesAbove gives the directories above a name, the uppermost first.
@@ -54,22 +54,24 @@ func (f *File) noteStuck(folder *finding.Folder, keptBelow map[string]bool) {
 	}
 }
 
-// replacedAt says which devices have something else in place of a directory; nothing where none has.
+// replacedAt says which devices have something else in place of a directory, which goes before that; nothing where none has. Until a directory is scanned
+// its time may change: what is put into it does that.
 func replacedAt(folder *finding.Folder, directory string) *stuck {
 	row := folder.Rows[directory]
 	if row == nil {
 		return nil
 	}
+	newest := newestOf(contendersOf(folder, row, nil))
+	if first := firstOf(newest); first == nil || first.is.Type == "directory" {
+		return nil
+	}
 	made := &stuck{directory: directory, isSure: true}
-	for _, one := range newestOf(contendersOf(folder, row, nil)) {
+	for _, one := range newest {
 		if one.is.Type == "directory" {
 			made.isSure = false
 			continue
 		}
 		made.devices, made.types = append(made.devices, one.device), addOnce(made.types, "a "+one.is.Type)
-	}
-	if len(made.devices) == 0 {
-		return nil
 	}
 	sort.Strings(made.types)
 	return made

@@ -56,6 +56,8 @@ var besideADirectory = []struct {
 		"StoreDiffers 2", "StoreDiffers 1,StoreDiffers 2", stuckHere + "a file" + inPlace, "brings what they have"},
 	{"another mode on the directory", []*part.Name{with(directory(1), func(one *part.Name) { one.Own.Version = [][2]uint64{{1, 1}, {11, 1}} }), file(2, 2)},
 		[]*part.Name{changedAt(1, 1), deletedBy(2)}, "RecordDiffers 1,StoreDiffers 1", "RecordDiffers 2,StoreDiffers 2", "Syncthing may get stuck here", "since a change goes before a deletion"},
+	{"the directory is in conflict, and later", []*part.Name{with(directory(1), func(one *part.Name) { one.Own.Version, one.Own.ModifiedS = [][2]uint64{{1, 1}, {11, 1}}, later }), file(2, 2)},
+		[]*part.Name{changedAt(1, 1), deletedBy(2)}, "RecordDiffers 2,StoreDiffers 2", "RecordDiffers 2,StoreDiffers 2", "since a change goes before a deletion", "stuck"},
 	{"the directory is newer", []*part.Name{directory(2), file(1, 2)}, []*part.Name{file(1, 1), nil}, "RecordDiffers 2,StoreDiffers 2", "RecordMissing 2", "let them finish", "stuck"},
 	{"unchanged below", []*part.Name{directory(1), file(2, 2)}, []*part.Name{file(1, 1), deletedAfter()}, "RecordDiffers 1,StoreDiffers 1", "RecordDiffers 1,StoreDiffers 1", "let them finish", "stuck"},
 	{"missing, and kept below", []*part.Name{directory(1), with(directory(1), absent)}, []*part.Name{file(2, 2), with(file(1, 1), absent)}, "StoreDiffers 2", "RecordDiffers 2,StoreDiffers 2",
