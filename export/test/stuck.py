@@ -10,7 +10,7 @@ import shutil
 from behind import NEW, OLD, Behind
 from exporting import main
 from rot import text_of
-from syncthing import wait_until
+from syncthing import wait_until, wait_until_in_step
 
 
 class BelowWhatIsReplaced(Behind):
@@ -86,6 +86,49 @@ class BelowWhatIsReplaced(Behind):
         for name in ("found", "linked"):
             shutil.move(self.one.files / name, self.room / f"{name} away")
         self.one.scan()
+
+
+class ADirectoryInPlaceOfADeletedFile(Behind):
+    """The second device put files in place of two directories, and recorded that. It deleted the one; the other one is missing there. The first device
+    still has the directories."""
+
+    @classmethod
+    def synchronise(cls):
+        cls.now = 1700000000
+        for name in ("deleted", "missing"):
+            (cls.one.files / name).mkdir()
+        cls.scan_and_wait()
+
+    @classmethod
+    def change_one(cls):
+        """Nothing."""
+
+    @classmethod
+    def change_two(cls):
+        for name in ("deleted", "missing"):
+            (cls.two.files / name).rmdir()
+            cls.put(cls.two, name, NEW, 0)
+        cls.record(cls.two)
+        (cls.two.files / "deleted").unlink()
+        cls.record(cls.two)
+        (cls.two.files / "missing").unlink()
+
+    def test_what_is_told_comes_so(self):
+        one = self.one.id[:7]
+        self.assertIn(f"{one} has a directory in its place, which Syncthing doesn't delete for a deleted file or symlink", self.told["deleted"])
+        self.assertIn(f"But {one} has a directory in its place, which Syncthing may not delete", self.told["missing"])
+        self.start()
+        wait_until("both fail", lambda: "".join(one["error"] for one in self.failed()).count("encountered directory") == 2)
+        for name in ("deleted", "missing"):
+            (self.one.files / name).rmdir()
+        self.one.scan()
+        wait_until("nothing fails any more", lambda: not self.failed())
+        wait_until_in_step(*self.devices)
+        self.stop()
+        self.assertEqual([path.name for path in self.one.files.iterdir()], [".stfolder"])
+
+    def failed(self):
+        return self.one.api("GET", "folder/errors?folder=docs")["errors"] or []
 
 
 if __name__ == "__main__":

@@ -236,6 +236,9 @@ func behindAdvice(one *Fault, file *File, at string, named labels) string {
 		return tiedAdvice(one, file, at, named)
 	case one.isUntold:
 		return untoldAdvice(file, at, named)
+	case one.Deletion && one.hasDirectory:
+		return at + " has" + file.say(" a directory in its place", " directories in their places") + ", which Syncthing doesn't delete for a deleted file or symlink: it " +
+			"lists 'Failed Items'. Delete" + file.say(" that", " those") + " there, and let Syncthing scan"
 	}
 	told := "let Syncthing run on " + at + " and on " + holders(file, named) + ", and let them finish. If it stays so, see whether a device " +
 		"or the folder is paused, whether they are connected, whether a disk is full, and whether Syncthing's page lists 'Failed Items'"

@@ -49,15 +49,17 @@ type Fault struct {
 	isDue    bool // what stands on the disk is what is due, whatever the device recorded
 	// Of Missing: the type of what the device recorded, where that goes before what the others have.
 	goesBefore string
-	isAlone    bool     // of Missing: the device recorded a change that no other one has
-	isSeen     bool     // by the next scan, since the mode isn't as recorded
-	isWide     bool     // the device's scans look at owners or extended attributes, too
-	isTied     bool     // of Behind: it has something else under the version of what is due, so Syncthing takes nothing
-	isUntold   bool     // of Behind: its view goes beyond what it lacks, so nobody tells it of that again
-	isBefore   bool     // of a device that only receives: the version of what is due counts a change of it from before
-	isLast     bool     // and no change of another device
-	isPassed   bool     // of LocalChange: others changed the name after that, so Syncthing takes theirs by itself
-	firsts     []string // of LocalChange: the devices whose change goes first of those of one time, once that one is sent, too
+	isAlone    bool // of Missing: the device recorded a change that no other one has
+	isSeen     bool // by the next scan, since the mode isn't as recorded
+	isWide     bool // the device's scans look at owners or extended attributes, too
+	// Of Behind: it has a directory in place of something else, which Syncthing doesn't delete together with that.
+	hasDirectory bool
+	isTied       bool     // of Behind: it has something else under the version of what is due, so Syncthing takes nothing
+	isUntold     bool     // of Behind: its view goes beyond what it lacks, so nobody tells it of that again
+	isBefore     bool     // of a device that only receives: the version of what is due counts a change of it from before
+	isLast       bool     // and no change of another device
+	isPassed     bool     // of LocalChange: others changed the name after that, so Syncthing takes theirs by itself
+	firsts       []string // of LocalChange: the devices whose change goes first of those of one time, once that one is sent, too
 	// Another device has to take the file, and may fetch it from there.
 	isFetched bool
 	// A scan of another device records another change there, of which neither's record knows.

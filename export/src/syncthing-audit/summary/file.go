@@ -311,6 +311,7 @@ func (r *reader) add(member int, cause Cause) {
 		made.isTied = cause == Behind && r.isTied(at)
 		made.isPassed = cause == LocalChange && made.Kind == receiveOnly && r.isPassed(at.Own)
 	}
+	made.hasDirectory = cause == Behind && made.Recorded.isDirectory() && made.Due != nil && made.Due.Type != "directory"
 	made.isUntold = cause == Behind && !made.isTied && r.isUntold(member)
 	made.isBefore = made.Kind == receiveOnly && r.winner != nil && part.Counts(r.winner.Version, one.Number)
 	made.isLast = made.isBefore && !part.CountsOthers(r.winner.Version, one.Number)

@@ -58,6 +58,9 @@ func keyOf(file *File) string {
 		if one.isUntold {
 			key += " untold"
 		}
+		if one.hasDirectory {
+			key += " directory"
+		}
 	}
 	return key + " of " + strings.Join(file.Have, " ") + fmt.Sprint(" before ", file.firsts, file.mayStay, file.isNeeded, file.stuck)
 }
@@ -174,7 +177,7 @@ func withoutDetails(faults []Fault) []Fault {
 	made := []Fault{}
 	for _, one := range faults {
 		made = append(made, Fault{Device: one.Device, Cause: one.Cause, Kind: one.Kind, Deletion: one.Deletion, isWide: one.isWide, late: one.late,
-			isAlone: one.isAlone, goesBefore: one.goesBefore, isRival: one.isRival, hasNoCopy: one.hasNoCopy, isUntold: one.isUntold})
+			isAlone: one.isAlone, goesBefore: one.goesBefore, isRival: one.isRival, hasNoCopy: one.hasNoCopy, isUntold: one.isUntold, hasDirectory: one.hasDirectory})
 	}
 	return made
 }

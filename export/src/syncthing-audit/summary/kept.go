@@ -51,3 +51,21 @@ func deletionsOf(folder *finding.Folder, row *join.Row) [][][2]uint64 {
 	}
 	return made
 }
+
+// orDirectories says which devices may keep a directory that they have in place of what others delete. Syncthing deletes a directory for a deleted one alone.
+func (f *File) orDirectories(named labels) string {
+	has := []string{}
+	for place := range f.Faults {
+		if one := &f.Faults[place]; one.hasDirectory && one.Kind != sendOnly {
+			has = addOnce(has, one.Device)
+		}
+	}
+	if len(has) == 0 {
+		return ""
+	}
+	return ". But " + named.all(has) + say(has, " has", " have") + f.say(" a directory in its place", " directories in their places") + ", which Syncthing may not delete: " +
+		"delete" + f.say(" it", " them") + " there then"
+}
+
+// isDirectory says whether a state is of a directory that is there.
+func (s *State) isDirectory() bool { return s != nil && !s.Deleted && s.Type == "directory" }

@@ -147,7 +147,7 @@ func (f *File) allDelete(from, it string, named labels) string {
 	if isNone {
 		return ", and then no other device deletes " + it + why
 	}
-	return ", and then all devices" + but + " delete " + it + why + f.orStays(named)
+	return ", and then all devices" + but + " delete " + it + why + f.orStays(named) + f.orDirectories(named)
 }
 
 // localChanges gives the devices that only receive and have a change of the name, recorded or found by the next scan. It goes before another

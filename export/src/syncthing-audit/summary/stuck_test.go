@@ -89,6 +89,31 @@ func TestWhatIsBelowADirectoryThatAnotherDeviceReplaced(t *testing.T) {
 	}
 }
 
+// A deleted file deletes no directory that a device has in its place.
+func TestADirectoryInPlaceOfADeletedFile(t *testing.T) {
+	gone := with(with(file(2, 1), again), absent)
+	for why, one := range map[string]struct {
+		row     []*part.Name
+		reasons string
+		has     string
+		not     string
+	}{
+		"deleted":                  {[]*part.Name{gone, directory(1)}, "RecordDiffers 2,StoreDiffers 2", "server has a directory in its place, which Syncthing doesn't delete for a deleted file or symlink", "let them finish"},
+		"a deleted directory":      {[]*part.Name{with(with(directory(2), again), absent), directory(1)}, "RecordDiffers 2,StoreDiffers 2", "let them finish", "in its place"},
+		"missing":                  {[]*part.Name{with(file(2, 1), absent), directory(1)}, "StoreDiffers 1,RecordDiffers 2", "delete it. But server has a directory in its place, which Syncthing may not delete", "again"},
+		"missing, and an old file": {[]*part.Name{with(file(2, 1), absent), file(1, 2)}, "StoreDiffers 1,RecordDiffers 2", "and then all devices delete it. To keep it", "in its place"},
+	} {
+		text := toldOf(one.row, one.reasons, 0, 1, func(*finding.Folder) {})
+		if !strings.Contains(text, one.has) || strings.Contains(text, one.not) {
+			t.Errorf("%s: %s", why, text)
+		}
+		many := toldOf(one.row, one.reasons, 0, mostAlone+1, func(*finding.Folder) {})
+		if strings.Contains(many, "in their places") != strings.Contains(text, "in its place") {
+			t.Errorf("%s: %s", why, many)
+		}
+	}
+}
+
 // What isn't below it isn't stuck, whatever its name begins with.
 func TestWhatIsNotBelowADirectory(t *testing.T) {
 	text := printed(answerOf(2, func(folder *finding.Folder) {
