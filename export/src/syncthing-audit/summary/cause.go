@@ -47,7 +47,7 @@ type Fault struct {
 	late     late // what others have and the device's own version lacks
 	mayStay  bool // whether it may lack nothing, by the version of Syncthing there
 	isDue    bool // what stands on the disk is what is due, whatever the device recorded
-	// Of Missing: the type of what the device recorded, where that goes before what the others have.
+	// Of Missing: the type of what the device recorded, or that another device has it, where that goes before what others have.
 	goesBefore string
 	isAlone    bool // of Missing: the device recorded a change that no other one has
 	isSeen     bool // by the next scan, since the mode isn't as recorded

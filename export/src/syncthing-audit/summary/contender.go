@@ -89,6 +89,11 @@ func (c *contender) isOlder(other *contender) bool {
 	return part.IsAtMost(c.version, other.version) && !part.IsAtMost(other.version, c.version)
 }
 
+// isOfOneVersion says whether two changes are of the same version.
+func (c *contender) isOfOneVersion(other contender) bool {
+	return part.IsAtMost(c.version, other.version) && part.IsAtMost(other.version, c.version)
+}
+
 // modified gives when it was modified, as Syncthing compares that: a symlink counts as of 1970.
 func (c *contender) modified() time.Time {
 	if c.is.Modified == nil {
@@ -143,4 +148,23 @@ func (c *contender) goesBefore(others []contender) bool {
 		}
 	}
 	return true
+}
+
+// isUndecided says whether it isn't known which of the newest changes Syncthing keeps: an older one is below the one and in conflict with another. Syncthing
+// takes a change with its version, so what that was on top of may win then.
+func isUndecided(all, newest []contender) bool {
+	for _, one := range all {
+		isBelow, isBeside := false, false
+		for _, other := range newest {
+			if one.isOlder(&other) {
+				isBelow = true
+			} else {
+				isBeside = isBeside || !one.isOfOneVersion(other)
+			}
+		}
+		if isBelow && isBeside {
+			return true
+		}
+	}
+	return false
 }

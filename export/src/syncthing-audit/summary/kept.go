@@ -8,8 +8,9 @@ import (
 
 // noteKept notes whether Syncthing keeps a change of the name, and which devices have one that it may keep. A change goes before a deletion that doesn't
 // know of it. Where one deletion is on top of a change, and another one isn't, it depends on which of the two a device takes: the other one leaves it
-// the change, as if that were a new one.
-func (f *File) noteKept(deletions [][][2]uint64, changes []contender) {
+// the change, as if that were a new one. It gives the changes that it keeps.
+func (f *File) noteKept(deletions [][][2]uint64, changes []contender) []contender {
+	kept := []contender{}
 	for _, one := range changes {
 		known := 0
 		for _, version := range deletions {
@@ -19,11 +20,13 @@ func (f *File) noteKept(deletions [][][2]uint64, changes []contender) {
 		}
 		switch {
 		case known == 0:
-			f.isKept = true
+			kept = append(kept, one)
 		case known < len(deletions):
 			f.mayStay = append(f.mayStay, one.device)
 		}
 	}
+	f.isKept = len(kept) > 0
+	return kept
 }
 
 // orStays says which devices may keep what they have of a name, in place of deleting it.

@@ -185,6 +185,9 @@ func lateMissing(one *Fault, file *File, at string, named labels) string {
 	return told + one.lostAlone(it, at)
 }
 
+// had says that another device has what a device recorded, and lacks.
+const had = "had elsewhere"
+
 // takenBefore says what comes where other devices take what one recorded, and what is missing there, before a scan has found that. Of a directory or a
 // symlink they need no bytes.
 func (f *File) takenBefore(one *Fault, at string) string {
@@ -192,8 +195,11 @@ func (f *File) takenBefore(one *Fault, at string) string {
 		return ""
 	}
 	how := "they need no bytes for that"
-	if one.goesBefore == "file" {
+	switch one.goesBefore {
+	case "file":
 		how = "they can where another file has the same bytes"
+	case had:
+		how = "another device has it"
 	}
 	return ". But what " + at + " recorded goes before what they have. Where they take it before that scan is over (" + how + "), they then delete " +
 		f.say("it, and keep what they had as a conflict copy alone, if it is a file", "them, and keep what they had as conflict copies alone, if these are files") +

@@ -168,6 +168,8 @@ func TestWhatIsTakenBeforeItIsFoundMissing(t *testing.T) {
 		kind    string
 		has     string
 	}{
+		{"a later file that a third device has", []*part.Name{changedAt(1, 1), with(changedAt(2, 1), absent), changedAt(2, 1)}, "RecordDiffers 1,StoreDiffers 2", "", taken + "another device has it)"},
+		{"an older file that a third device has", []*part.Name{changedAt(3, 1), with(changedAt(2, 1), absent), changedAt(2, 1)}, "RecordDiffers 2,StoreDiffers 2,RecordDiffers 3", "", ""},
 		{"a later directory", []*part.Name{changedAt(1, 1), dir(later)}, "RecordDiffers 1,StoreDiffers 2", "", taken + noBytes},
 		{"an older directory", []*part.Name{changedAt(1, 1), dir(started)}, "RecordDiffers 2,StoreDiffers 2", "", ""},
 		{"a symlink, which counts as of 1970", []*part.Name{changedAt(1, 1), linked(0)}, "RecordDiffers 2,StoreDiffers 2", "", ""},

@@ -15,11 +15,11 @@ func (f *File) noteChanges(folder *finding.Folder, row *join.Row) {
 	}
 	all := contendersOf(folder, row, f.Permissions)
 	f.firsts = firstsOf(all)
-	f.noteKept(deletionsOf(folder, row), all)
+	kept := f.noteKept(deletionsOf(folder, row), all)
 	for place := range f.Faults {
 		for member, at := range row.At {
 			if one := &f.Faults[place]; at != nil && at.Own != nil && !at.Own.Deleted && folder.Members[member].Head.Device == one.Device {
-				one.noteOwn(at.Own, folder.Members[member].Number, all, f.isKept)
+				one.noteOwn(at.Own, folder.Members[member].Number, all, kept)
 			}
 		}
 	}
@@ -27,12 +27,15 @@ func (f *File) noteChanges(folder *finding.Folder, row *join.Row) {
 
 // noteOwn notes which devices go first of those of one time once a local change is sent, too; and whether what a device recorded, and lacks, goes before
 // what the others have.
-func (f *Fault) noteOwn(own *part.Record, number uint64, others []contender, areKept bool) {
+func (f *Fault) noteOwn(own *part.Record, number uint64, others, kept []contender) {
 	switch {
 	case f.Cause == LocalChange:
 		f.firsts = firstsOf(append(others, *recordedBy(own, afterScan(own, number), f.Device)))
-	case f.Cause == Missing && f.Kind != receiveOnly && areKept && recordedBy(own, own.Version, f.Device).goesBefore(others):
+	case f.Cause == Missing && f.Kind != receiveOnly && len(kept) > 0 && recordedBy(own, own.Version, f.Device).goesBefore(kept):
 		f.goesBefore = typeOf(own.Type)
+		if slices.IndexFunc(others, recordedBy(own, own.Version, f.Device).isOfOneVersion) >= 0 {
+			f.goesBefore = had
+		}
 	}
 }
 

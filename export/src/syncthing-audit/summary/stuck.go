@@ -61,17 +61,22 @@ func replacedAt(folder *finding.Folder, directory string) *stuck {
 	if row == nil {
 		return nil
 	}
-	newest := newestOf(contendersOf(folder, row, nil))
-	if first := firstOf(newest); first == nil || first.is.Type == "directory" {
+	all := contendersOf(folder, row, nil)
+	newest := newestOf(all)
+	isOpen := isUndecided(all, newest)
+	if first := firstOf(newest); first == nil || first.is.Type == "directory" && !isOpen {
 		return nil
 	}
-	made := &stuck{directory: directory, isSure: true}
+	made := &stuck{directory: directory, isSure: !isOpen}
 	for _, one := range newest {
 		if one.is.Type == "directory" {
 			made.isSure = false
 			continue
 		}
 		made.devices, made.types = append(made.devices, one.device), addOnce(made.types, "a "+one.is.Type)
+	}
+	if len(made.devices) == 0 {
+		return nil
 	}
 	sort.Strings(made.types)
 	return made

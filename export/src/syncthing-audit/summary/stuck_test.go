@@ -114,6 +114,23 @@ func TestADirectoryInPlaceOfADeletedFile(t *testing.T) {
 	}
 }
 
+// Of three devices, of which one put something in place of another one's directory while the third did so, too, it isn't known what comes.
+func TestWhereItIsNotKnownWhatComesOfADirectory(t *testing.T) {
+	found := with(changedAt(3, 1), func(one *part.Name) {
+		one.Own.Type, one.Own.Content, one.Disk = 1, nil, file(1, 2).Disk
+	})
+	dir := with(changedAt(3, 1), func(one *part.Name) {
+		one.Own.Type, one.Own.Content, one.Disk = 1, nil, &part.Node{Type: 1, ModifiedS: one.Own.ModifiedS}
+	})
+	text := printed(answerOf(3, func(folder *finding.Folder) {
+		fails(folder, "d", []*part.Name{changedAt(1, 1), found, dir}, "RecordDiffers 1", "StoreDiffers 1", "StoreDiffers 2")
+		fails(folder, "d/in", []*part.Name{nil, with(file(1, 1), absent), changedTo(7)}, "RecordMissing 1", "StoreDiffers 2", "StoreDiffers 3")
+	}))
+	if !strings.Contains(text, "may get stuck here, and lists 'Failed Items': on laptop, server a file"+inPlace) || strings.Contains(text, "gets stuck") {
+		t.Error(text)
+	}
+}
+
 // What isn't below it isn't stuck, whatever its name begins with.
 func TestWhatIsNotBelowADirectory(t *testing.T) {
 	text := printed(answerOf(2, func(folder *finding.Folder) {
