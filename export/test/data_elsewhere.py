@@ -55,7 +55,7 @@ class DataElsewhere(Exporting):
         documents = self.room / "documents"
         ran = run([self.program, "export", *homes, "--into", documents])
         self.assertEqual((ran.returncode, (documents / "cut-0001.json").exists()), (0, True), ran.stderr)
-        ran = run([self.program, "check", "--home", self.one.home, "--data", self.two.data, "--home", self.two.home])
+        ran = run([self.program, "check", "--home", self.one.home, "--data", self.two.data, "--home", self.two.home, "--syncaudit", self.auditor])
         self.assertEqual(ran.returncode, 2)
         self.assertIn(f"{self.two.home}: no index {INDEX}", ran.stderr)
 
