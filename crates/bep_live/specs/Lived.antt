@@ -20,12 +20,13 @@ use Rattle.bep_scenario.specs.Scenario.{Said, scenario_of}
 use Rattle.bep_tables.specs.declared.cut.CutParts.{CutParts}
 use Rattle.bep_live.specs.Lines.{run_line}
 
--- The scenario's steps were made, and this is told of them. The devices and links of the cluster to which they lead are those
--- with which the run's logs begin, but for what their last actions told.
+-- The scenario's steps were made, and this is told of them. The run's logs begin at the cluster to which they lead: at its
+-- devices, by their tables and sessions, and at its links.
 pub record LeadsOn (scenario : Said) (run : RunState) (told : List ℕ) : Type 0 where
   pub last : Network
   pub leads : EndsAt scenario last told
   pub begins : AreTheSame run.bases last.members last.links
+  pub from : cluster_of run.bases ≡ cluster_of last
 
 -- the cut of the devices and links of a run cut as they are
 abbrev pub cut_in : RunState → CutParts
@@ -41,8 +42,8 @@ pub record IsJudged (run : RunState) (verdict : RunVerdict) : Type 0 where
   pub one_run : (count : ℕ) → verdict ≡ Fits count → IsRunOf run count
   pub stays : (count : ℕ) → verdict ≡ Fits count → StaysPut run
 
--- The steps are made, and the cluster to which they lead goes on. Then a run cut is taken of it, and its cut is reported as the
--- cut of a scenario's end is. The last line is the verdict on its logs.
+-- The steps are made. There is a run cut whose logs begin at the cluster to which they lead, and its cut is reported as the cut
+-- of a scenario's end is. The last line is the verdict on its logs.
 pub record IsLived (scenario : Said) (outcome : Outcome) (text : List ℕ) : Type 0 where
   pub told : List ℕ
   pub run : RunState
@@ -62,8 +63,8 @@ IsLiveOf (Refused fault) outcome text = (outcome ≡ outcomes.Refused) × (text 
 abbrev pub IsLiveOfBytes : List ℕ → Outcome → List ℕ → Type 0
 IsLiveOfBytes bytes outcome text = IsLiveOf (scenario_of bytes) outcome text
 
--- The steps are made, and the cluster to which they lead goes on. Then a run cut is taken of it, and its cut is written as where
--- its certificate is asked for: as the document of that cut, of the scenario's version, with the list under which it is audited.
+-- The steps are made. There is a run cut whose logs begin at the cluster to which they lead, and its cut is written as where its
+-- certificate is asked for: as the document of that cut, of the scenario's version, with the list under which it is audited.
 pub record IsLivedTo (scenario : Said) (outcome : Certified) (text : List ℕ) : Type 0 where
   pub told : List ℕ
   pub run : RunState

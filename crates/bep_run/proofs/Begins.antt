@@ -1,8 +1,9 @@
 -- What is known of how a cluster began, of its devices and links behind their locks.
-use Rattle.std.proofs.Common.{◌≡◌, ◌++◌, ◌+◌, ℕ, suc, List, [], ◌∷◌, map, length, Option, Some, None, refl, sym, ap, subst, ◌∙◌}
+use Rattle.std.proofs.Common.{◌≡◌, ◌++◌, ◌+◌, ℕ, List, [], ◌∷◌, map, length, Option, Some, None, refl, sym, ap, subst, ◌∙◌}
 use Rattle.std.proofs.Common.{option_map}
 use Rattle.std.specs.Cmp.Lexicographic.{nat_list_cmp_total}
 use Rattle.std.specs.FinMap.{get, same_map}
+use Rattle.std.proofs.lemmas.List.{length-map, map-append}
 use Rattle.std.proofs.lemmas.Map.Lookups.{exact_bytes}
 use Rattle.bep_map.specs.NameMap.{ByName}
 use Rattle.bep_machine.specs.Replica.{Replica}
@@ -10,12 +11,14 @@ use Rattle.bep_folder.specs.Contents.{copied_out}
 use Rattle.bep_folder.specs.Held.{Held}
 use Rattle.bep_peer.specs.Copied.{folders_copied, member_copied}
 use Rattle.bep_peer.specs.Member.{Member, tables_in, tables_of}
-use Rattle.bep_peer.specs.network.Network.{Network}
+use Rattle.bep_peer.specs.network.Network.{Network, cluster_of}
 use Rattle.bep_peer.proofs.Mapped.{get-changed}
 use Rattle.bep_log.specs.LoggedLink.{LoggedBetween}
 use Rattle.bep_log.specs.Copies.{IsCopied}
 use Rattle.bep_log.specs.LoggedPeer.{IsBegun, LoggedMember}
 use Rattle.bep_cut.specs.Cut.{Seen, seen}
+use Rattle.bep_cut.specs.Says.{cluster_at}
+use Rattle.bep_run_cut.proofs.SameCluster.{same_cluster}
 use Rattle.bep_run_cut.specs.RunCut.{AreTheSame, links_base, members_base}
 use Rattle.bep_run.specs.Origin.{AreFirst, BeginsAs, IsAll, at_place, count_of, devices_in, links_in}
 use Rattle.bep_run.specs.Based.{base_seen, began_as}
@@ -67,6 +70,10 @@ fewer_seen known place one rest all is left = fewer_left known place (seen one) 
 pub none_seen : (known : Option (List Seen)) (place : ℕ) (all : List Member) → all ≡ [] → AreLeft known place (map seen all) → count_of known place ≡ place
 none_seen known place all is left = none_left known place (subst (λ these. AreLeft known place (map seen these)) is left)
 
+-- the same devices and links are the same cluster
+pub same_cluster_of : (one other : Network) → AreTheSame one other.members other.links → cluster_of one ≡ cluster_of other
+same_cluster_of one other same = same_cluster one.members other.members one.links same.devices_same ∙ ap (cluster_at other.members) same.links_same
+
 -- ---- all of them
 
 pub parts_known : (start : Option Network) (cluster : Network) → BeginsAs start cluster → IsAll (devices_in start) (map seen cluster.members) × IsAll (links_in start) cluster.links
@@ -85,20 +92,12 @@ begins_so (Some origin) bases copies links same devices joined = record {
   links_same = same.links_same ∙ joined;
 }
 
-mapped_push : {A B : Type 0} (f : A → B) (these : List A) (one : A) → map f (these ++ one ∷ []) ≡ map f these ++ f one ∷ []
-mapped_push f [] one = refl
-mapped_push f (x ∷ these) one = ap (λ all. f x ∷ all) (mapped_push f these one)
-
-mapped_length : {A B : Type 0} (f : A → B) (these : List A) → length (map f these) ≡ length these
-mapped_length f [] = refl
-mapped_length f (x ∷ these) = ap suc (mapped_length f these)
-
 -- the copies of the first ones, with that of the next one
 pub copied_with : {A B : Type 0} (f : A → B) (known : Option (List B)) (these : List A) (one : A) (place : ℕ) → place ≡ length these → AreFirst known (map f these) → at_place known place (f one) ≡ Some (f one) → AreFirst known (map f (these ++ one ∷ []))
 copied_with f known these one place at first stands =
-    subst (AreFirst known) (sym (mapped_push f these one))
-    (first_with known (map f these) (f one) first (subst (λ p. at_place known p (f one) ≡ Some (f one)) (at ∙ sym (mapped_length f these)) stands))
+    subst (AreFirst known) (sym (map-append f these (one ∷ [])))
+    (first_with known (map f these) (f one) first (subst (λ p. at_place known p (f one) ≡ Some (f one)) (at ∙ sym (length-map these f)) stands))
 
 -- the copies of the first ones are those of all, if they are as many
 pub copies_are_all : {A B : Type 0} (f : A → B) (known : Option (List B)) (these : List A) (count : ℕ) → AreFirst known (map f these) → count_of known count ≡ count → length these ≡ count → IsAll known (map f these)
-copies_are_all f known these count first counted same = first_are_all known (map f these) count first counted (mapped_length f these ∙ same)
+copies_are_all f known these count first counted same = first_are_all known (map f these) count first counted (length-map these f ∙ same)

@@ -1,3 +1,2 @@
-mod Bases
 mod Begins
 mod Places

@@ -9,11 +9,12 @@ use Rattle.bep_peer.specs.Member.{tables_of}
 use Rattle.bep_cut.specs.Cut.{Seen, seen}
 use Rattle.bep_log.specs.LoggedPeer.{LoggedMember}
 
--- the device as it was, by its number and tables
+-- of a copy: the device as it was, by its number and tables
 abbrev pub base_seen : LoggedMember → Seen
 base_seen copy = seen copy.base
 
--- the same of a device behind its lock: reading the stores of its base leaves that base's number unsaid, and the device has it
+-- The same of a device behind its lock. Its base has the device's number, and no clause says so of a base whose stores were read.
+-- So the number is the device's own.
 abbrev pub began_as : LoggedMember → Seen
 began_as logged = (logged.now.number, tables_of logged.base)
 

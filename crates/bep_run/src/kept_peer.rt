@@ -69,7 +69,7 @@ impl<S: Store, O: Origin> KeptPeer<S, O> {
         if self.place != place {
             return Err(LogError::Refused(Refusal::NotShared));
         }
-        // it is called for what its clause says of the base's number
+        // called for its clause: the base has the device's number
         self.logged.log_replays();
         self.logged.copy()
     }
