@@ -11,6 +11,7 @@ import (
 	"syscall"
 	"time"
 
+	"github.com/syncthing/syncthing/lib/config"
 	"syncthing-audit/device"
 	"syncthing-audit/gather"
 	"syncthing-audit/leftover"
@@ -77,42 +78,68 @@ func beginPart(asked options, write writing, output, log io.Writer) error {
 	return err
 }
 
-// openLive opens the home of a device that may run. Where its database isn't there and nobody says where it is, Syncthing is asked. Where it is
-// there, Syncthing is asked when it was started: its own index was written since then.
+// openLive opens the home of a device that may run, by the index that its Syncthing writes to.
 func openLive(asked options, log io.Writer) (*source, error) {
-	if asked.data[0] != "" {
-		return openSource(device.OpenLive, asked, log)
-	}
-	home := asked.homes[0]
-	about, err := device.ReadConfig(home)
+	isOwn, err := findIndex(asked, log)
 	if err != nil {
 		return nil, err
 	}
-	isOwn, has := false, device.HasIndex(home)
-	if has {
-		started, err := rest.Started(home, about.GUI)
-		if isOwn = err == nil && device.IsWrittenSince(home, started); err != nil || isOwn {
-			return openOwn(asked, isOwn, log)
-		}
-	}
-	asked.data[0], err = rest.DataDirectory(home, about.GUI)
-	if err != nil && has {
-		return nil, fmt.Errorf("refused: %s: Syncthing runs, and it hasn't written to the index there since it was started: it has its database elsewhere. "+
-			"Name that behind the home as --data DIR. It can't be asked where it is: %w", home, err)
-	}
-	if err != nil {
-		fmt.Fprintf(log, "syncthing-audit: Syncthing can't be asked where its database is: %v\n", err)
-	}
-	return openSource(device.OpenLive, asked, log)
-}
-
-// openOwn opens a home with the index that is beside its configuration. Where Syncthing has written to that since it was started, it is its own.
-func openOwn(asked options, isOwn bool, log io.Writer) (*source, error) {
 	made, err := openSource(device.OpenLive, asked, log)
 	if err == nil && isOwn {
 		made.home.State, made.read.Index = nil, nil
 	}
 	return made, err
+}
+
+// findIndex finds where the index of a device is that may run, and whether Syncthing is known to write to it. What is named is taken. Where
+// that isn't said, an index beside the configuration is taken but for one that is known to be another's.
+func findIndex(asked options, log io.Writer) (bool, error) {
+	if asked.data[0] != "" {
+		return false, nil
+	}
+	home := asked.homes[0]
+	about, err := device.ReadConfig(home)
+	if err != nil {
+		return false, err
+	}
+	if !device.HasIndex(home) {
+		asked.data[0] = askedWhere(home, about.GUI, log)
+		return false, nil
+	}
+	isOwn, isKnown := isWrittenTo(home, about.GUI)
+	if isKnown && !isOwn {
+		asked.data[0], err = whereElse(home, about.GUI)
+	}
+	return isOwn, err
+}
+
+// isWrittenTo says whether Syncthing has written to the index beside a home's configuration since it was started, as it does to its own, and
+// whether that is known: it isn't where Syncthing doesn't say when that was.
+func isWrittenTo(home string, about config.GUIConfiguration) (isOwn, isKnown bool) {
+	started, err := rest.Started(home, about)
+	if err != nil {
+		return false, false
+	}
+	return device.IsWrittenSince(home, started), true
+}
+
+// askedWhere asks Syncthing where its database is, and tells why it can't be asked.
+func askedWhere(home string, about config.GUIConfiguration, log io.Writer) string {
+	data, err := rest.DataDirectory(home, about)
+	if err != nil {
+		fmt.Fprintf(log, "syncthing-audit: Syncthing can't be asked where its database is: %v\n", err)
+	}
+	return data
+}
+
+// whereElse asks Syncthing where its database is, since the index beside a home's configuration isn't its own.
+func whereElse(home string, about config.GUIConfiguration) (string, error) {
+	data, err := rest.DataDirectory(home, about)
+	if err != nil {
+		return "", fmt.Errorf("refused: %s: Syncthing runs, and it hasn't written to the index there since it was started: it has its database elsewhere. "+
+			"Name that behind the home as --data DIR. It can't be asked where it is: %w", home, err)
+	}
+	return data, nil
 }
 
 // heedInput has the end of standard input end the program, as a hangup does. Nobody may read standard error by then.
