@@ -40,7 +40,7 @@ class DataElsewhere(Exporting):
         for ran in (self.part_of_two()[1], self.check(), self.part_of_two("--begin")[1]):
             self.assertEqual(ran.returncode, 2, ran.stderr)
             self.assertIn(f"{self.two.home}: no index {INDEX}", ran.stderr)
-            self.assertIn("name that behind the home as --data DIR ('run' has no such flag): 'syncthing --paths' says where it is", ran.stderr)
+            self.assertIn("name that behind the home as --data DIR: 'syncthing --paths' says where it is, with the same --home, --config and --data", ran.stderr)
 
     def test_a_part_with_the_database_named(self):
         path, ran = self.part_of_two("--data", self.two.data)
@@ -59,34 +59,31 @@ class DataElsewhere(Exporting):
         self.assertEqual(ran.returncode, 2)
         self.assertIn(f"{self.two.home}: no index {INDEX}", ran.stderr)
 
-    def run_on(self, home):
+    def run_on(self, *home):
         """Audits the devices while they run, the second one by this home."""
-        return run([self.program, "run", self.one.home, home, "--still", "0", "--lines", "--syncaudit", self.auditor])
-
-    def home_of_links(self):
-        """A directory with symlinks to what a home has."""
-        made = self.room / "links"
-        made.mkdir()
-        for path in (self.two.home / "config.xml", self.two.home / "cert.pem", self.two.data / INDEX):
-            (made / path.name).symlink_to(path)
-        return made
+        return run([self.program, "run", self.one.home, *home, "--still", "0", "--lines", "--syncaudit", self.auditor])
 
     def test_a_device_that_runs(self):
-        """It says where its database is. One of 1.19 doesn't, and a directory with symlinks serves."""
+        """It says where its database is. One of 1.19 doesn't, and is refused before any file is hashed, unless that is named."""
         self.start()
         try:
             refused = self.part_of_two("--data", self.two.data)[1]
             look = self.part_of_two("--begin", "--data", self.two.data)[1]
+            named = self.run_on(self.two.home, "--data", self.two.data)
             ran = self.run_on(self.two.home)
-            if version_of(self.two.program).startswith("syncthing v1.19"):
-                self.assertIn("Syncthing can't be asked where its database is: this Syncthing doesn't say it, as 1.19 doesn't\n", ran.stderr)
-                self.assertEqual(ran.returncode, 2)
-                ran = self.run_on(self.home_of_links())
         finally:
             self.stop()
         self.assertEqual((refused.returncode, look.returncode), (2, 0), look.stderr)
         self.assertIn("Syncthing runs on ", refused.stderr)
-        self.assertEqual((ran.returncode, ran.stdout.splitlines()[:1]), (0, ["settled"]), ran.stderr)
+        self.assertEqual((named.returncode, named.stdout.splitlines()[:1]), (0, ["settled"]), named.stderr)
+        if version_of(self.two.program).startswith("syncthing v1.19"):
+            self.assertEqual((ran.returncode, ran.stdout), (2, ""))
+            self.assertIn(f"{self.two.home}: its command ended with exit status 2: syncthing-audit: Syncthing can't be asked where its database is: "
+                          "this Syncthing doesn't say it, as 1.19 doesn't\n", ran.stderr)
+            self.assertIn("name that behind the home as --data DIR", ran.stderr)
+            self.assertNotIn("look", ran.stderr)
+        else:
+            self.assertEqual((ran.returncode, ran.stdout.splitlines()[:1]), (0, ["settled"]), ran.stderr)
 
 
 class OldIndex(Exporting):
@@ -136,7 +133,8 @@ class OldIndex(Exporting):
         self.two.scan()
         wait_until_in_step(self.one, self.two)
         try:
-            ran = run([self.program, "run", self.one.home, self.two.home, "--still", "0", "--lines", "--syncaudit", self.auditor])
+            words = [self.program, "run", "--still", "0", "--lines", "--syncaudit", self.auditor, self.one.home, self.two.home]
+            ran, named = run(words), run([*words, "--data", self.two.data])
             look = run([self.program, "part", "--begin", "--home", self.one.home, "-o", self.room / "look.part"])
         finally:
             self.stop()
@@ -144,6 +142,8 @@ class OldIndex(Exporting):
         if version_of(self.two.program).startswith("syncthing v1.19"):
             self.assertEqual(ran.returncode, 2)
             self.assertIn("Syncthing runs, and it hasn't written to the index there since it was started: it has its database elsewhere", ran.stderr)
+            self.assertNotIn("look", ran.stderr)
+            self.assertEqual((named.returncode, named.stdout.splitlines()[:1]), (0, ["settled"]), named.stderr)
         else:
             self.assertEqual((ran.returncode, ran.stdout.splitlines()[:1], "maybe an old index" in ran.stdout), (0, ["settled"], False), ran.stderr)
         ran = run([self.program, "check", *self.homes, "--syncaudit", self.auditor])

@@ -14,15 +14,21 @@ import (
 )
 
 // tellAbout writes what a device is configured to share: no index and no file is read for that. 'run' asks it of all devices
-// before any of them hashes its files, so a folder whose disk isn't mounted is refused by then. A folder that is asked for needn't be
-// there: another device may have it.
-func tellAbout(asked options, write writing) error {
+// before any of them hashes its files, so a folder whose disk isn't mounted is refused by then, and so is an index that isn't found. A folder
+// that is asked for needn't be there: another device may have it.
+func tellAbout(asked options, write writing, log io.Writer) error {
 	id, about, err := device.About(asked.homes[0])
 	if err != nil {
 		return err
 	}
 	home := &device.Home{ID: id, Config: about}
 	if err := checkFolders(home, nil, io.Discard); err != nil {
+		return err
+	}
+	if _, err := findIndex(asked, log); err != nil {
+		return err
+	}
+	if err := device.CheckIndex(asked.homes[0], asked.data[0]); err != nil {
 		return err
 	}
 	if err := asked.checkOutput(about.Folders); err != nil {

@@ -84,7 +84,7 @@ func saying(t *testing.T, number byte, about config.Configuration) *join.Device 
 	return read
 }
 
-// homeWith writes a home whose one folder, docs, is at a path.
+// homeWith writes a home whose one folder, docs, is at a path. Its index is there, and empty.
 func homeWith(t *testing.T, folder string) string {
 	home := t.TempDir()
 	for name, text := range map[string]string{
@@ -95,7 +95,45 @@ func homeWith(t *testing.T, folder string) string {
 			t.Fatal(err)
 		}
 	}
+	if err := os.Mkdir(filepath.Join(home, "index-v0.14.0.db"), 0o700); err != nil {
+		t.Fatal(err)
+	}
 	return home
+}
+
+// Where a device's index isn't found, it is refused before any file is hashed: with what to do, and with why Syncthing can't be asked where it is.
+func TestWhatIsSharedOfAHomeWithoutAnIndex(t *testing.T) {
+	room := t.TempDir()
+	home := homeWith(t, room)
+	data := filepath.Join(home, "data")
+	for _, path := range []string{data, filepath.Join(room, ".stfolder")} {
+		if err := os.Mkdir(path, 0o700); err != nil {
+			t.Fatal(err)
+		}
+	}
+	index := filepath.Join(home, "index-v0.14.0.db")
+	for _, one := range []struct {
+		to     string
+		data   []string
+		status int
+		told   string
+	}{
+		{index, nil, statusDone, ""}, {index, []string{"--data", data}, statusRefused, data + ": no index index-v0.14.0.db"},
+		{filepath.Join(data, "index-v0.14.0.db"), []string{"--data", data}, statusDone, ""},
+		{filepath.Join(data, "index-v0.14.0.db"), nil, statusRefused, home + ": no index index-v0.14.0.db"},
+	} {
+		if index != one.to {
+			if err := os.Rename(index, one.to); err != nil {
+				t.Fatal(err)
+			}
+		}
+		index = one.to
+		var log strings.Builder
+		status := run(append([]string{"part", "--about", "-o", filepath.Join(t.TempDir(), "about"), "--home", home}, one.data...), io.Discard, &log)
+		if status != one.status || !strings.Contains(log.String(), one.told) || strings.Contains(log.String(), "can't be asked") != (status == statusRefused && one.data == nil) {
+			t.Errorf("%s, %s: %d, %s", one.to, one.data, status, log.String())
+		}
+	}
 }
 
 // What a device shares isn't written into a folder of Syncthing, as a part isn't: neither by '-o' nor by a shell.
@@ -130,31 +168,34 @@ func TestWhatIsSharedStaysOutsideTheFolders(t *testing.T) {
 	}
 }
 
-// A program elsewhere that knows no slice is refused before any file is hashed. One that doesn't know the question is refused, too, where
-// a slice is asked for; without one it makes its look all the same.
-func TestProgramsThatKnowNoSlice(t *testing.T) {
+// A program elsewhere that knows no slice, or no directory of the database, is refused before any file is hashed. One that doesn't know the
+// question is refused, too, where one of these is asked for; without one it makes its look all the same.
+func TestProgramsThatLackAFlag(t *testing.T) {
 	room := t.TempDir()
 	for at, one := range []struct {
 		says    string
 		slices  int
+		data    string
+		lacking string
 		refused bool
 		isOlder bool
 	}{
-		{"there is no flag --slice", 7, true, false}, {"flag provided but not defined: -about", 7, true, true},
-		{"flag provided but not defined: -about", 0, false, true}, {"no home is at ~", 7, true, false},
+		{"there is no flag --slice", 7, "", "--slice", true, false}, {"flag provided but not defined: -about", 7, "", "--slice", true, true},
+		{"flag provided but not defined: -about", 0, "", "", false, true}, {"no home is at ~", 7, "data", "", true, false},
+		{"there is no flag --data", 7, "data", "--data", true, false}, {"flag provided but not defined: -about", 0, "data", "--data", true, true},
 	} {
 		self := filepath.Join(room, fmt.Sprint("audit", at))
 		if err := os.WriteFile(self, []byte("#!/bin/sh\necho 'syncthing-audit: "+one.says+"' >&2\nexit 3\n"), 0o700); err != nil {
 			t.Fatal(err)
 		}
-		asked := &place{given: "laptop:", self: self}
+		asked := &place{given: "laptop:", self: self, data: one.data}
 		run := &running{asked: options{names: choice.Names{Slice: one.slices / 2, Slices: one.slices}}, places: []*place{asked}, room: t.TempDir(), log: io.Discard}
 		err := run.about(0)
-		const told = "refused: laptop: the syncthing-audit there is older, and has no --slice: bring it to the version here, "
+		told := "refused: laptop: the syncthing-audit there is older, and has no " + one.lacking + ": bring it to the version here, "
 		if (err != nil) != one.refused || asked.isOlder != one.isOlder {
 			t.Errorf("%s: %v, %v", one.says, err, asked.isOlder)
 		}
-		if err != nil && strings.HasPrefix(err.Error(), told) == (at == 3) {
+		if err != nil && strings.HasPrefix(err.Error(), told) != (one.lacking != "") {
 			t.Errorf("%s: %v", one.says, err)
 		}
 	}

@@ -85,15 +85,27 @@ func (r *running) checkChosen() error {
 	return nil
 }
 
-// about asks a device. A program of 0.8.0 or before doesn't know the question, and one of 0.10.0 or before no slice.
+// lacks gives the flag that is to be given to a program which doesn't have it, by what it said.
+func (p *place) lacks(asked options, said string) string {
+	switch {
+	case p.data != "" && (p.isOlder || strings.Contains(said, "no flag --data")):
+		return "--data"
+	case asked.names.IsOfSlice() && (p.isOlder || strings.Contains(said, "no flag --slice")):
+		return "--slice"
+	}
+	return ""
+}
+
+// about asks a device. A program of 0.8.0 or before doesn't know the question, one of 0.10.0 or before no slice, and one of 0.11.0 or before no
+// directory of the database.
 func (r *running) about(at int) error {
 	one := r.places[at]
 	told, err := one.run(one.about(r.asked), strings.NewReader(""), r.file(at, "about"))
 	var ended *exec.ExitError
 	if errors.As(err, &ended) && ended.ExitCode() == statusUsage {
 		one.isOlder = strings.Contains(err.Error(), "-about")
-		if r.asked.names.IsOfSlice() && (one.isOlder || strings.Contains(err.Error(), "no flag --slice")) {
-			return fmt.Errorf("refused: %s: the syncthing-audit there is older, and has no --slice: bring it to the version here, %s", one.called(), version)
+		if flag := one.lacks(r.asked, err.Error()); flag != "" {
+			return fmt.Errorf("refused: %s: the syncthing-audit there is older, and has no %s: bring it to the version here, %s", one.called(), flag, version)
 		}
 		if one.isOlder {
 			return nil

@@ -217,8 +217,8 @@ func (o *options) takeDefaultHome() error {
 	}
 	switch len(found) {
 	case 0:
-		return &wrongUsage{fmt.Sprintf("no Syncthing home is at %s: give it as --home DIR, to 'run' as MACHINE:DIR; 'syncthing --paths' says where it is",
-			strings.Join(usual, " or "))}
+		return &wrongUsage{fmt.Sprintf("no Syncthing home is at %s: give it as --home DIR, to 'run' as MACHINE:DIR; %s",
+			strings.Join(usual, " or "), device.SaysWhere)}
 	case 2:
 		return &wrongUsage{fmt.Sprintf("homes are at %s: give one of them as --home DIR, to 'run' as MACHINE:DIR", strings.Join(found, " and "))}
 	}

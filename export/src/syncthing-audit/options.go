@@ -17,7 +17,7 @@ import (
 // options are what the command line asks for.
 type options struct {
 	homes      []string
-	data       map[int]string // where the databases of homes are, by the homes' places; nothing of one where it is there, too
+	data       map[int]string // where the databases of homes, or of devices of 'run', are, by their places; nothing of one where it is in the home
 	parts      []string
 	folders    []string
 	names      choice.Names
@@ -44,9 +44,9 @@ type options struct {
 
 var usage = fmt.Sprintf(`usage: syncthing-audit part [--home DIR [--data DIR]] [--folder ID ..] [--names PREFIX] [--slice K/N] -o FILE
        syncthing-audit check [--home DIR [--data DIR] ..] [PART ..] [--folder ID ..]
-       syncthing-audit run [MACHINE:[DIR] | DIR ..] [--folder ID ..]
+       syncthing-audit run [MACHINE:[DIR] | DIR [--data DIR] ..] [--folder ID ..]
        syncthing-audit part (--begin [--rescan] | --end --tokens FILE ..) [--home DIR [--data DIR]] [--folder ID ..] -o FILE
-       syncthing-audit part --about [--rescan] [--home DIR] [--folder ID ..]
+       syncthing-audit part --about [--rescan] [--home DIR [--data DIR]] [--folder ID ..]
        syncthing-audit export [--home DIR [--data DIR] ..] [PART ..] --into DIR
        syncthing-audit sum DIR
        syncthing-audit --version
@@ -63,7 +63,8 @@ Says whether Syncthing devices are in step, and where they aren't, which device 
 
   --home DIR           a device's home on this machine: config.xml, cert.pem and index-v0.14.0.db. Without it part takes the one that
                        Syncthing takes by itself: ~/.config/syncthing or ~/.local/state/syncthing
-  --data DIR           behind a --home: where its database is, if not in the home itself, as of Syncthing's own --data
+  --data DIR           behind a --home, of run behind a device's DIR: where its database is, if not in the home itself, as of Syncthing's
+                       own --data
   --folder ID          only this folder (may be given more than once; all folders if it isn't). part takes those that its device has,
                        and tells which it hasn't
   --names PREFIX       only names that begin with these bytes
@@ -109,25 +110,32 @@ func (l *list) Set(value string) error {
 	return nil
 }
 
-// databaseOf is the flag that says where the database of the home before it is.
-type databaseOf struct{ read *options }
+// databaseOf is the flag that says where the database is of the home before it, of 'run' of the device before it.
+type databaseOf struct {
+	read   *options
+	before *[]string
+	called string // what stands before it
+}
 
 func (d databaseOf) String() string { return "" }
 
 // Set takes the directory.
 func (d databaseOf) Set(value string) error {
-	of := len(d.read.homes) - 1
+	of := len(*d.before) - 1
 	switch {
 	case of < 0:
-		return errors.New("it stands behind the --home whose database is there")
+		return fmt.Errorf("it stands behind the %s whose database is there", d.called)
 	case value == "":
 		return errors.New("empty")
 	case d.read.data[of] != "":
-		return fmt.Errorf("the database of %s is named already", d.read.homes[of])
+		return fmt.Errorf("the database of %s is named already", (*d.before)[of])
 	}
 	d.read.data[of] = value
 	return nil
 }
+
+// ofHome is this flag behind a --home.
+func ofHome(read *options) databaseOf { return databaseOf{read, &read.homes, "--home"} }
 
 // kinds is the flag of what may be left out.
 type kinds map[string]bool
@@ -210,7 +218,7 @@ func (o *options) checkInputs() error {
 
 // inputFlags are the flags of commands that join devices.
 func inputFlags(flags *flag.FlagSet, read *options) {
-	flags.Var(databaseOf{read}, "data", "")
+	flags.Var(ofHome(read), "data", "")
 	flags.Var(kinds(read.leaveOut), "leave-out", "")
 	flags.BoolVar(&read.bytes, "bytes", false, "")
 }

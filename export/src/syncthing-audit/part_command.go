@@ -31,7 +31,7 @@ func runPart(words []string, output, log io.Writer) (int, error) {
 	}
 	switch {
 	case asked.about:
-		return statusDone, tellAbout(asked, write)
+		return statusDone, tellAbout(asked, write, log)
 	case asked.begin:
 		return statusDone, beginPart(asked, write, output, log)
 	case asked.end:
@@ -44,7 +44,7 @@ func runPart(words []string, output, log io.Writer) (int, error) {
 func readPartOptions(words []string) (options, error) {
 	asked, err := readOptions("part", words, func(flags *flag.FlagSet, read *options) {
 		flags.StringVar(&read.output, "o", "", "")
-		flags.Var(databaseOf{read}, "data", "")
+		flags.Var(ofHome(read), "data", "")
 		flags.BoolVar(&read.about, "about", false, "")
 		flags.BoolVar(&read.begin, "begin", false, "")
 		flags.BoolVar(&read.end, "end", false, "")

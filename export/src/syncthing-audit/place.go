@@ -24,6 +24,7 @@ type place struct {
 	given  string // as the command line has it
 	host   string // nothing for this machine
 	home   string // nothing for the one that Syncthing takes by itself
+	data   string // where its database is; nothing where that isn't said
 	self   string // this program
 	ssh    []string
 	looked time.Time
@@ -40,14 +41,17 @@ func placesOf(asked options) ([]*place, error) {
 	}
 	made := []*place{}
 	seen := map[string]bool{}
-	for _, word := range asked.parts {
-		one := &place{given: word, home: word, self: self}
+	for at, word := range asked.parts {
+		one := &place{given: word, home: word, data: asked.data[at], self: self}
 		if host, home, is := strings.Cut(word, ":"); is && !strings.Contains(host, "/") {
-			one.host, one.home = host, strings.TrimPrefix(home, "~/")
+			one.host, one.home, one.data = host, strings.TrimPrefix(home, "~/"), strings.TrimPrefix(one.data, "~/")
 			if host == "" || strings.HasPrefix(host, "-") {
 				return nil, &wrongUsage{fmt.Sprintf("%q names no machine", word)}
 			}
 			one.ssh = append(append([]string{"ssh"}, optionsOfSSH(host)...), host)
+		}
+		if one.data != "" && one.home == "" {
+			return nil, &wrongUsage{fmt.Sprintf("--data behind %q says where the database of a home is: name that home, too, as %sDIR", word, word)}
 		}
 		if err := one.checkHere(); err != nil {
 			return nil, err
@@ -120,6 +124,9 @@ func (p *place) chosen(asked options) []string {
 	words := []string{}
 	if p.home != "" {
 		words = append(words, "--home", p.home)
+	}
+	if p.data != "" {
+		words = append(words, "--data", p.data)
 	}
 	folders := asked.folders
 	if len(folders) > 0 && len(p.folders) > 0 {

@@ -40,6 +40,27 @@ func TestPlaces(t *testing.T) {
 	}
 }
 
+// A device's database is named behind its home, to the question and to both looks. As of a home a tilde is the user's own directory there.
+func TestPlacesWithADatabaseElsewhere(t *testing.T) {
+	asked := options{parts: []string{"laptop:home", "nas:/srv/home", "./home"}, data: map[int]string{0: "~/a b", 2: "data"}, remote: "audit"}
+	places, err := placesOf(asked)
+	if err != nil {
+		t.Fatal(err)
+	}
+	for at, told := range []string{" --home home --data 'a b' -o -", " --home /srv/home -o -", " --home ./home --data data -o -"} {
+		one := places[at]
+		for _, words := range [][]string{one.about(asked), one.begin(asked), one.end(asked)} {
+			command := shell.Words(words)
+			if one.host != "" {
+				command = words[len(words)-1]
+			}
+			if !strings.HasSuffix(command, told) {
+				t.Error(command)
+			}
+		}
+	}
+}
+
 // The question and both looks are of the names that are asked for: a program that knows no slice refuses the question.
 func TestPlacesOfASlice(t *testing.T) {
 	one, asked := &place{host: "laptop", ssh: []string{"ssh"}}, options{names: choice.Names{Prefix: "a b", Slice: 3, Slices: 7}, remote: "audit"}

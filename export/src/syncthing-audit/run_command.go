@@ -29,6 +29,7 @@ const secondsOfPatience = 10
 // runRun looks twice at devices that run, here and by ssh elsewhere, and has syncaudit answer.
 func runRun(words []string, output, log io.Writer) (int, error) {
 	asked, err := readOptions("run", words, func(flags *flag.FlagSet, read *options) {
+		flags.Var(databaseOf{read, &read.parts, "device"}, "data", "")
 		flags.Var(kinds(read.leaveOut), "leave-out", "")
 		answerFlags(flags, read)
 		flags.StringVar(&read.program, "syncaudit", defaultProgram(), "")

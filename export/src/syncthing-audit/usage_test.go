@@ -29,7 +29,10 @@ func TestWrongFlags(t *testing.T) {
 		"check p --data d":          "invalid value \"d\" for flag --data: it stands behind the --home whose database is there",
 		"check --home a --data ":    "invalid value \"\" for flag --data: empty",
 		"export --home a --home b --data c --data d --into x": "invalid value \"d\" for flag --data: the database of b is named already",
-		"run --data d x:": "there is no flag --data",
+		"run --data d x:":                "invalid value \"d\" for flag --data: it stands behind the device whose database is there",
+		"run x:a --data b --data c":      "invalid value \"c\" for flag --data: the database of x:a is named already",
+		"run y:b x: --data d":            "--data behind \"x:\" says where the database of a home is: name that home, too, as x:DIR",
+		"part --about --data d --home x": "invalid value \"d\" for flag --data: it stands behind the --home whose database is there",
 	} {
 		var log strings.Builder
 		status := run(strings.Split(words, " "), io.Discard, &log)

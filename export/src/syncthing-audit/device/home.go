@@ -104,10 +104,21 @@ func (h *Home) database() string { return filepath.Join(h.dataDirectory(), datab
 // noIndex says that there is no index, and what can be done where Syncthing has it elsewhere.
 func (h *Home) noIndex() error {
 	return fmt.Errorf("%s: no index %s, as Syncthing 1 makes it on its first start (Syncthing 2's isn't read). Where Syncthing has its database "+
-		"in another directory, as by its own --data, name that behind the home as --data DIR ('run' has no such flag): 'syncthing --paths' says where it is", h.dataDirectory(), databaseName)
+		"in another directory, as by its own --data, name that behind the home as --data DIR: %s", h.dataDirectory(), databaseName, SaysWhere)
 }
 
-// HasIndex says whether a home has its index beside its configuration.
+// SaysWhere says how a person learns where a home and its database are. Without its own flags Syncthing says where they would be by default.
+const SaysWhere = "'syncthing --paths' says where it is, with the same --home, --config and --data as where Syncthing is started"
+
+// CheckIndex refuses a home whose index isn't where it is said to be.
+func CheckIndex(dir, data string) error {
+	if home := (&Home{Dir: dir, data: data}); !HasIndex(home.dataDirectory()) {
+		return home.noIndex()
+	}
+	return nil
+}
+
+// HasIndex says whether a directory has an index, as a home has it beside its configuration.
 func HasIndex(dir string) bool { return isThere(dir, databaseName) || isThere(dir, indexOfTwo) }
 
 // readAbout reads whose home a directory is, and how it is configured.
@@ -127,7 +138,7 @@ func readAbout(dir string) (protocol.DeviceID, config.Configuration, error) {
 func withHint(err error) error {
 	switch {
 	case errors.Is(err, os.ErrNotExist) || errors.Is(err, syscall.ENOTDIR):
-		return fmt.Errorf("%w: is this a Syncthing home? 'syncthing --paths' says where it is", err)
+		return fmt.Errorf("%w: is this a Syncthing home? %s", err, SaysWhere)
 	case errors.Is(err, os.ErrPermission):
 		return fmt.Errorf("%w: a home is for its own user alone: run this as the user whose Syncthing it is", err)
 	}
