@@ -37,28 +37,45 @@ func TestOptionsOfSSH(t *testing.T) {
 	}
 }
 
-// Whoever is awaited is told again and again, and nobody who has answered.
+// tellings keeps what is told and when, and closes a channel once that is twice.
+type tellings struct {
+	lines []string
+	times []time.Time
+	twice chan bool
+}
+
+func (t *tellings) Write(text []byte) (int, error) {
+	t.lines, t.times = append(t.lines, string(text)), append(t.times, time.Now())
+	if len(t.lines) == 2 {
+		close(t.twice)
+	}
+	return len(text), nil
+}
+
+// Whoever is awaited is told again, after a longer time, and nobody who has answered.
 func TestWhoIsAwaited(t *testing.T) {
-	var log strings.Builder
-	run := &running{places: []*place{{given: "quick:"}, {given: "slow:"}}, log: &log, patience: 20 * time.Millisecond}
+	log := &tellings{twice: make(chan bool)}
+	run := &running{places: []*place{{given: "quick:"}, {given: "slow:"}}, log: log, patience: 20 * time.Millisecond}
 	if err := run.all("first look", func(at int) error {
-		time.Sleep(time.Duration(at) * 100 * time.Millisecond)
+		if at == 1 {
+			<-log.twice
+		}
 		return nil
 	}); err != nil {
 		t.Fatal(err)
 	}
-	told := strings.Split(strings.TrimSpace(log.String()), "\n")
-	if len(told) < 2 || len(told) > 3 {
-		t.Errorf("told %d times: %q", len(told), told)
+	told := log.lines
+	if between := log.times[1].Sub(log.times[0]); between < 2*run.patience {
+		t.Errorf("told again after %v: %q", between, told)
 	}
 	for _, line := range told {
 		if !strings.HasPrefix(line, "syncthing-audit: first look: waiting for slow: for ") {
 			t.Errorf("%q", line)
 		}
 	}
-	log.Reset()
-	if err := run.all("first look", func(int) error { return nil }); err != nil || log.Len() > 0 {
-		t.Errorf("%v, %q", err, log.String())
+	log.lines, run.patience = nil, time.Hour
+	if err := run.all("first look", func(int) error { return nil }); err != nil || len(log.lines) > 0 {
+		t.Errorf("%v, %q", err, log.lines)
 	}
 }
 
