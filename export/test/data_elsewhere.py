@@ -122,6 +122,25 @@ class OldIndex(Exporting):
         self.assertNotIn("--data", ran[0].stderr)
         self.assertEqual(self.told(*parts), (status, told))
 
+    def test_the_present_index_in_a_usual_place_is_told(self):
+        """config.xml is older than the old index here. The user's directory has the new one where Syncthing has it by default."""
+        usual = self.room / ".local" / "share" / "syncthing"
+        usual.parent.mkdir(parents=True)
+        usual.symlink_to(self.two.data)
+        times = (self.two.home / "config.xml").stat()
+        try:
+            os.utime(self.two.home / "config.xml", (DAYS_AGO - 9, DAYS_AGO - 9))
+            ran = [run([self.program, "part", "--home", self.two.home, "-o", self.room / "two.part"], env={**os.environ, "HOME": str(user)})
+                   for user in (self.room / "two", self.room)]
+            told = self.told(self.part(self.one), self.room / "two.part")
+        finally:
+            os.utime(self.two.home / "config.xml", ns=(times.st_atime_ns, times.st_mtime_ns))
+            usual.unlink()
+        self.assertEqual([(one.returncode, "was written last" in one.stderr) for one in ran], [(0, False), (0, True)], ran)
+        self.assertIn(f"{usual / INDEX} after that, ", ran[1].stderr)
+        self.assertEqual((told[0], told[1].count("maybe an old index")), (1, 1), told)
+        self.assertIn(f"and {usual / INDEX} there after that, ", told[1])
+
     def test_the_database_that_is_named_is_not_doubted(self):
         status, told = self.told(*self.homes, "--data", self.two.data)
         self.assertEqual((status, told.count("maybe an old index"), told.count("changed on the disk")), (1, 0, 0), told)

@@ -174,8 +174,8 @@ func (i *inputs) openParts(paths []string) error {
 
 // deviceOf opens the indexes of a home's folders: those that are wanted, or all.
 func (i *inputs) deviceOf(home *device.Home, asked options) (*gather.Device, error) {
-	made := &gather.Device{ID: home.ID.String(), Name: home.Name(), Runs: home.Syncthing, Index: home.State, ToRepair: home.ToRepair, Names: asked.names,
-		Bytes: asked.bytes, Pool: i.pool, Others: othersOf(home, asked.folders)}
+	made := &gather.Device{ID: home.ID.String(), Name: home.Name(), Runs: home.Syncthing, Index: home.State, Newer: home.Newer, ToRepair: home.ToRepair,
+		Names: asked.names, Bytes: asked.bytes, Pool: i.pool, Others: othersOf(home, asked.folders)}
 	folders := chosenOf(home.Config, asked.folders)
 	sort.Slice(folders, func(a, b int) bool { return folders[a].ID < folders[b].ID })
 	for _, one := range folders {

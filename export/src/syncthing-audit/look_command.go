@@ -87,6 +87,7 @@ func openLive(asked options, log io.Writer) (*source, error) {
 	made, err := openSource(device.OpenLive, asked, log)
 	if err == nil && isOwn {
 		made.home.State, made.read.Index = nil, nil
+		made.home.Newer, made.read.Newer = nil, nil
 	}
 	return made, err
 }
@@ -104,13 +105,14 @@ func findIndex(asked options, log io.Writer) (bool, error) {
 	}
 	if !device.HasIndex(home) {
 		asked.data[0] = askedWhere(home, about.GUI, log)
-		return false, nil
+		return asked.data[0] != "", nil
 	}
 	isOwn, isKnown := isWrittenTo(home, about.GUI)
-	if isKnown && !isOwn {
-		asked.data[0], err = whereElse(home, about.GUI)
+	if isOwn || !isKnown {
+		return isOwn, nil
 	}
-	return isOwn, err
+	asked.data[0], err = whereElse(home, about.GUI)
+	return err == nil, err
 }
 
 // isWrittenTo says whether Syncthing has written to the index beside a home's configuration since it was started, as it does to its own, and

@@ -31,7 +31,7 @@ func Collect(plan *join.Plan, options Options, take func(*document.Document) err
 	made.refusePlan()
 	for _, one := range plan.Devices {
 		made.answer.Devices = append(made.answer.Devices, finding.Device{ID: one.Head.Device, Number: one.Number, Name: one.Head.Name,
-			Runs: one.Head.Runs, Made: one.Head.Made, From: one.From, Index: one.Head.Index, ToRepair: one.Head.ToRepair, Unasked: unaskedOf(plan, one), IsSilent: one.Head.Others == nil})
+			Runs: one.Head.Runs, Made: one.Head.Made, From: one.From, Index: one.Head.Index, Newer: one.Head.Newer, ToRepair: one.Head.ToRepair, Unasked: unaskedOf(plan, one), IsSilent: one.Head.Others == nil})
 	}
 	for _, one := range plan.Folders {
 		if err := made.folder(one); err != nil {

@@ -8,6 +8,7 @@ import (
 	"time"
 
 	"syncthing-audit/part"
+	"syncthing-audit/shell"
 )
 
 // mostCoarse is how coarse the times of files may be.
@@ -62,12 +63,13 @@ func (h *Home) Doubts() []string {
 		made = append(made, fmt.Sprintf("%s was written last %s, and config.xml after that, %s. If Syncthing was started since then, it has its database "+
 			"elsewhere: name that as --data DIR. If config.xml was only edited, all is well", h.database(), local(h.State.Written), local(h.State.Configured)))
 	}
+	if h.Newer != nil {
+		made = append(made, fmt.Sprintf("%s was written last %s, and %s after that, %s. %s", h.database(), local(h.Newer.Read), shell.Quoted(h.Newer.Path),
+			local(h.Newer.Written), h.Newer.WhatToDo()))
+	}
 	if h.ToRepair {
 		made = append(made, fmt.Sprintf("Syncthing found a fault in %s, and is to repair it at its next start (%s is there). Start it, let it finish, and "+
 			"audit again", h.database(), databaseName+endingOfMark))
 	}
 	return made
 }
-
-// local gives a time as a person reads it.
-func local(when time.Time) string { return when.Local().Format("2006-01-02 15:04:05 MST") }

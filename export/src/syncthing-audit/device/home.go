@@ -47,6 +47,7 @@ type Home struct {
 
 	Syncthing  string          // the version that was started on it last
 	State      *part.Index     // what may be amiss with its index
+	Newer      *part.Newer     // another index, which may be the present one
 	ToRepair   bool            // whether Syncthing is to repair the index at its next start
 	attributes map[string]bool // folders in which scans look at them
 	written    sync.Once       // whether it is known what else writes into folders
@@ -82,6 +83,9 @@ func openWith(dir, data string, open func(*Home) error) (*Home, error) {
 	if err == nil {
 		opened.noteMark()
 		err = opened.noteAge()
+	}
+	if err == nil {
+		err = opened.noteNewer()
 	}
 	if err != nil {
 		opened.Close()

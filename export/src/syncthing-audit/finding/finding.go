@@ -32,6 +32,7 @@ type Device struct {
 	Made   time.Time // when its part was made
 	From   string    // the home or file that it was read from
 	Index  *part.Index
+	Newer  *part.Newer
 
 	ToRepair bool // whether Syncthing is to repair its index at its next start
 

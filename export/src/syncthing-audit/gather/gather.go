@@ -30,6 +30,7 @@ type Device struct {
 	ID, Name string
 	Runs     string // the version of Syncthing that was started there last
 	Index    *part.Index
+	Newer    *part.Newer
 	ToRepair bool     // whether Syncthing is to repair its index
 	Folders  []Folder // rising by id
 	Names    choice.Names
@@ -42,7 +43,7 @@ type Device struct {
 // Head gives the head of the device's part.
 func (d *Device) Head() *part.Head {
 	made := &part.Head{Device: d.ID, Name: d.Name, Runs: d.Runs, Made: time.Now().UTC().Truncate(time.Second),
-		Names: d.Names, Folders: []part.Folder{}, Look: d.Look, Index: d.Index, ToRepair: d.ToRepair, Others: append([]part.Other{}, d.Others...)}
+		Names: d.Names, Folders: []part.Folder{}, Look: d.Look, Index: d.Index, Newer: d.Newer, ToRepair: d.ToRepair, Others: append([]part.Other{}, d.Others...)}
 	made.Version = made.DueVersion()
 	for _, one := range d.Folders {
 		made.Folders = append(made.Folders, one.Folder())

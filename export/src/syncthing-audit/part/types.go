@@ -46,6 +46,7 @@ type Head struct {
 	Folders      []Folder  `json:"folders"`        // rising by id
 	Look         *Look     `json:"look,omitempty"` // of a device that may run
 	Index        *Index    `json:"index,omitempty"`
+	Newer        *Newer    `json:"newer_index,omitempty"`
 	ToRepair     bool      `json:"index_to_repair,omitempty"` // Syncthing is to repair the index at its next start
 	Others       []Other   `json:"other_folders"`             // rising by id; nothing where an older program made the part, which doesn't say
 }
@@ -54,6 +55,24 @@ type Head struct {
 type Index struct {
 	Written    time.Time `json:"written"`    // when a file of it changed last
 	Configured time.Time `json:"configured"` // when config.xml changed last, which was after that
+}
+
+// Newer is another index, which may be the device's present one: it was written after the one of which a part was made.
+type Newer struct {
+	Path    string    `json:"path"`
+	Written time.Time `json:"written"`
+	Read    time.Time `json:"read"` // when the index that was read was written last
+	IsOfTwo bool      `json:"of_syncthing_2,omitempty"`
+}
+
+// WhatToDo says what another index may mean for an answer, and what to do then.
+func (n *Newer) WhatToDo() string {
+	if n.IsOfTwo {
+		return "If Syncthing 2 runs on that device now, an answer isn't about what it has, and its index isn't read. If a copy or a snapshot is " +
+			"audited, all is well"
+	}
+	return "If Syncthing has its database there now, an answer isn't about that: name its directory as --data DIR, or as the home where config.xml " +
+		"is there, too. If a copy or a snapshot is audited, all is well"
 }
 
 // Other is a folder that the device has by its configuration, and that its part hasn't, since it wasn't asked for or isn't there.

@@ -82,6 +82,9 @@ func Rest(to io.Writer, answer *finding.Answer) {
 		if one.Index != nil {
 			fmt.Fprintf(to, "maybe an old index: on %d, %s\n", one.Number, ageOf(one.Index))
 		}
+		if one.Newer != nil {
+			fmt.Fprintf(to, "maybe an old index: on %d, %s\n", one.Number, besides(one.Newer))
+		}
 		if one.ToRepair {
 			fmt.Fprintf(to, "to be repaired: the index on %d\n", one.Number)
 		}
@@ -91,6 +94,11 @@ func Rest(to io.Writer, answer *finding.Answer) {
 // ageOf says why an index may be an old one.
 func ageOf(index *part.Index) string {
 	return fmt.Sprintf("written %s, before config.xml was changed %s", index.Written.UTC().Format(time.RFC3339), index.Configured.UTC().Format(time.RFC3339))
+}
+
+// besides says which other index may be the present one.
+func besides(newer *part.Newer) string {
+	return fmt.Sprintf("written %s, before %s was written %s", newer.Read.UTC().Format(time.RFC3339), shell.Quoted(newer.Path), newer.Written.UTC().Format(time.RFC3339))
 }
 
 // own prints of a folder that its device shares with nobody that this is so, and whether other devices have theirs of the same id.
@@ -238,6 +246,9 @@ func Refusals(to io.Writer, answer *finding.Answer) {
 	for _, one := range answer.Devices {
 		if one.Index != nil {
 			fmt.Fprintf(to, "syncthing-audit: maybe an old index: device %s, %s. Where Syncthing has its database elsewhere, name it as --data DIR\n", one.ID, ageOf(one.Index))
+		}
+		if one.Newer != nil {
+			fmt.Fprintf(to, "syncthing-audit: maybe an old index: device %s, %s. %s\n", one.ID, besides(one.Newer), one.Newer.WhatToDo())
 		}
 		if one.ToRepair {
 			fmt.Fprintf(to, "syncthing-audit: to be repaired: the index of device %s. Start Syncthing there, and let it finish\n", one.ID)

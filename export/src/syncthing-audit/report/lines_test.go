@@ -249,6 +249,21 @@ func TestLineOfAnIndexThatMayBeOld(t *testing.T) {
 	}
 }
 
+// So has one beside which a newer one stands.
+func TestLineOfANewerIndex(t *testing.T) {
+	var written, refused strings.Builder
+	newer := &part.Newer{Path: "/srv/a b", Read: time.Unix(1600000000, 0), Written: time.Unix(1600000060, 0)}
+	Lines(&written, &finding.Answer{Folders: []*finding.Folder{folderOf("docs", 2)}, Devices: []finding.Device{{Number: 1}, {Number: 2, Newer: newer}}})
+	Refusals(&refused, &finding.Answer{Devices: []finding.Device{{ID: "A"}, {ID: "B", Newer: newer}}, Refusals: []finding.Refusal{{Folder: "docs", Why: "odd"}}})
+	const told = "written 2020-09-13T12:26:40Z, before '/srv/a b' was written 2020-09-13T12:27:40Z"
+	if strings.Count(written.String(), "maybe an old") != 1 || !strings.HasSuffix(written.String(), "\nmaybe an old index: on 2, "+told+"\n") {
+		t.Error(written.String())
+	}
+	if strings.Count(refused.String(), "maybe an old") != 1 || !strings.Contains(refused.String(), "maybe an old index: device B, "+told+". If Syncthing has its database there now") {
+		t.Error(refused.String())
+	}
+}
+
 // So has each device on which times are taken for the same.
 func TestLineOfNearTimes(t *testing.T) {
 	var written strings.Builder

@@ -70,6 +70,25 @@ func TestAnIndexThatMayBeOld(t *testing.T) {
 	}
 }
 
+// So it is where another index is newer. What is told of Syncthing 2 names no --data, since its index isn't read.
+func TestANewerIndex(t *testing.T) {
+	answer := answerOf(2, func(*finding.Folder) {})
+	const told = "maybe an old index: that of server was written last 2020-09-13 12:26:40 UTC, and '/srv/a b/index-v0.14.0.db' there after that, " +
+		"2020-09-13 12:27:40 UTC. If Syncthing has its database there now, an answer isn't about that: name its directory as --data DIR"
+	for _, isOfTwo := range []bool{false, true} {
+		answer.Devices[1].Newer = &part.Newer{Path: "/srv/a b/index-v0.14.0.db", Read: time.Unix(started, 0).UTC(), Written: time.Unix(later, 0).UTC(), IsOfTwo: isOfTwo}
+		text := printed(answer)
+		if strings.Contains(text, told) == isOfTwo || strings.Count(text, "maybe an old") != 1 || strings.Contains(text, "its index isn't read") != isOfTwo {
+			t.Error(text)
+		}
+	}
+	made, err := json.Marshal(Of(answer).Devices)
+	const member = `"newer_index":{"path":"/srv/a b/index-v0.14.0.db","written":"2020-09-13T12:27:40Z","read":"2020-09-13T12:26:40Z","of_syncthing_2":true}`
+	if err != nil || strings.Count(string(made), member) != 1 || strings.Count(string(made), "newer_index") != 1 {
+		t.Errorf("%s, %v", made, err)
+	}
+}
+
 // Of how many files the time differs and Syncthing takes it for the same is told, where there are such ones.
 func TestTimesThatAreNear(t *testing.T) {
 	answer := answerOf(2, func(folder *finding.Folder) {

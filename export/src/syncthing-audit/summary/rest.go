@@ -98,6 +98,10 @@ func (p *printer) doubts(s *Summary) {
 				"has its database elsewhere, and this answer isn't about that: name it as --data DIR. If config.xml was only edited, all is well",
 				p.named.of(one.ID), p.when(one.Index.Written), p.when(one.Index.Configured))
 		}
+		if one.Newer != nil {
+			p.line("maybe an old index: that of %s was written last %s, and %s there after that, %s. %s", p.named.of(one.ID), p.when(one.Newer.Read),
+				shell.Quoted(one.Newer.Path), p.when(one.Newer.Written), one.Newer.WhatToDo())
+		}
 		if one.Repair {
 			p.line("to be repaired: the index of %s. Syncthing found a fault in it, and repairs it at its next start. Till then it may not take or tell what it "+
 				"should there, whatever its page shows, and records may be missing here. Start it there, let it finish, and audit again", p.named.of(one.ID))

@@ -48,6 +48,7 @@ type Device struct {
 	Prefix Text        `json:"names_that_begin,omitempty"` // only these were read
 	Slice  *Slice      `json:"slice,omitempty"`            // only these were read
 	Index  *part.Index `json:"index,omitempty"`            // what may be amiss with it
+	Newer  *part.Newer `json:"newer_index,omitempty"`
 	Repair bool        `json:"index_to_repair,omitempty"`
 	asked  choice.Names
 }
@@ -161,7 +162,7 @@ func Of(answer *finding.Answer) *Summary {
 	asked := askedOf(answer)
 	for _, one := range answer.Devices {
 		names := asked[one.ID]
-		made.Devices = append(made.Devices, Device{one.ID, one.Name, one.Made, one.From, one.Runs, Text(names.Prefix), sliceOf(names), one.Index, one.ToRepair, names})
+		made.Devices = append(made.Devices, Device{one.ID, one.Name, one.Made, one.From, one.Runs, Text(names.Prefix), sliceOf(names), one.Index, one.Newer, one.ToRepair, names})
 	}
 	named := made.labels()
 	for _, one := range answer.Folders {
