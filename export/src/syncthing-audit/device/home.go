@@ -271,7 +271,7 @@ func (h *Home) openIndex() error {
 		return notCopied(err)
 	}
 	if err := copyFiles(database, h.copied); err != nil {
-		if errors.Is(err, syscall.ENOSPC) || errors.Is(err, syscall.EDQUOT) {
+		if isFull(err) {
 			return notCopied(err)
 		}
 		return err
@@ -293,7 +293,7 @@ const never = time.Duration(math.MaxInt64)
 func (h *Home) openCopy() error {
 	var err error
 	if h.backend, err = backend.Open(h.copied, backend.TuningAuto); err != nil {
-		return err
+		return notOpened(err)
 	}
 	if err := checkSchema(h.backend); err != nil {
 		return fmt.Errorf("refused: %s: %w", h.Dir, err)
@@ -301,13 +301,10 @@ func (h *Home) openCopy() error {
 	if h.Syncthing, _, err = db.NewMiscDataNamespace(h.backend).String(keyOfRan); err != nil {
 		return err
 	}
-	h.index, err = db.NewLowlevel(h.backend, events.NoopLogger, db.WithRecheckInterval(never))
-	return err
-}
-
-// notCopied says what can be done where the temporary directory has no room, or isn't there.
-func notCopied(err error) error {
-	return fmt.Errorf("refused: the index can't be copied to %s (TMPDIR may name another directory): %w", os.TempDir(), err)
+	if h.index, err = db.NewLowlevel(h.backend, events.NoopLogger, db.WithRecheckInterval(never)); err != nil {
+		return notOpened(err)
+	}
+	return nil
 }
 
 // Close removes the copy and gives the lock back.

@@ -6,7 +6,6 @@ import (
 	"fmt"
 	"os"
 	"path/filepath"
-	"syscall"
 
 	"github.com/syncthing/syncthing/lib/db"
 	"github.com/syndtr/goleveldb/leveldb"
@@ -38,7 +37,7 @@ func (h *Home) openLiveIndex() error {
 		return notCopied(err)
 	}
 	if h.Copied, err = copyLive(database, h.copied, checkLive); err != nil {
-		if errors.Is(err, syscall.ENOSPC) || errors.Is(err, syscall.EDQUOT) {
+		if isFull(err) {
 			return notCopied(err)
 		}
 		return fmt.Errorf("refused: %s: its index wasn't copied in %d rounds: %w", h.Dir, h.Copied.Rounds, err)
