@@ -12,31 +12,32 @@ type Text = part.Bytes
 
 // File is a name of which something is to be told.
 type File struct {
-	Name        Text       `json:"name"`
-	Size        int64      `json:"size"`
-	Faults      []Fault    `json:"faults"`
-	Have        []string   `json:"have_recorded"`              // devices whose index and disk have what is due
-	Same        [][]string `json:"same_other_bytes,omitempty"` // devices that have the same bytes in place of those recorded
-	Follows     []Follow   `json:"follows"`                    // what fails for want of the above
-	Permissions []Mode     `json:"permissions"`                // where they differ
-	Advice      []string   `json:"advice"`
-	RenamedFrom Text       `json:"renamed_from,omitempty"` // the name that goes where this one comes with the same bytes
-	RenamedTo   Text       `json:"renamed_to,omitempty"`   // and the other way round
-	hasDetails  bool
-	isOdd       bool              // whether the name isn't in Unicode's form NFC
-	isMany      bool              // whether it stands for many names, which are told as one
-	areWide     map[string]bool   // the devices whose scans look at owners or extended attributes, too
-	takers      []string          // those of them that take the file from others, with the owner and attributes that are recorded
-	runs        map[string]string // the version of Syncthing on each device, as far as that is known
-	isOwn       bool              // whether the folder's one device shares it with nobody
-	rivals      []string          // the devices whose next scans record changes that are in conflict
-	receivers   []string          // the devices that only receive
-	sharers     *sharers          // who takes changes from whom
-	isKept      bool              // whether Syncthing keeps a change of it, since no deletion is on top of that
-	mayStay     []string          // the devices whose change it may keep, since not each deletion is on top of that
-	stuck       *stuck            // where Syncthing gets no further with it
-	isNeeded    bool              // whether it is a directory below which there is what Syncthing keeps
-	firsts      []string          // the devices whose change goes first of those in conflict that were modified at the same time; nothing where times decide
+	Name            Text       `json:"name"`
+	Size            int64      `json:"size"`
+	Faults          []Fault    `json:"faults"`
+	Have            []string   `json:"have_recorded"`              // devices whose index and disk have what is due
+	Same            [][]string `json:"same_other_bytes,omitempty"` // devices that have the same bytes in place of those recorded
+	Follows         []Follow   `json:"follows"`                    // what fails for want of the above
+	Permissions     []Mode     `json:"permissions"`                // where they differ
+	Advice          []string   `json:"advice"`
+	RenamedFrom     Text       `json:"renamed_from,omitempty"` // the name that goes where this one comes with the same bytes
+	RenamedTo       Text       `json:"renamed_to,omitempty"`   // and the other way round
+	hasDetails      bool
+	isOfAnotherTime bool              // whether those that have what is due have it with another time
+	isOdd           bool              // whether the name isn't in Unicode's form NFC
+	isMany          bool              // whether it stands for many names, which are told as one
+	areWide         map[string]bool   // the devices whose scans look at owners or extended attributes, too
+	takers          []string          // those of them that take the file from others, with the owner and attributes that are recorded
+	runs            map[string]string // the version of Syncthing on each device, as far as that is known
+	isOwn           bool              // whether the folder's one device shares it with nobody
+	rivals          []string          // the devices whose next scans record changes that are in conflict
+	receivers       []string          // the devices that only receive
+	sharers         *sharers          // who takes changes from whom
+	isKept          bool              // whether Syncthing keeps a change of it, since no deletion is on top of that
+	mayStay         []string          // the devices whose change it may keep, since not each deletion is on top of that
+	stuck           *stuck            // where Syncthing gets no further with it
+	isNeeded        bool              // whether it is a directory below which there is what Syncthing keeps
+	firsts          []string          // the devices whose change goes first of those in conflict that were modified at the same time; nothing where times decide
 }
 
 // say gives what is said of one name, or of many where the file stands for these.
@@ -249,8 +250,9 @@ func (r *reader) at(member int) *part.Name {
 }
 
 // findWinner finds what is due. Each device that no reason speaks against has it in its record. If such a device has it on
-// its disk, too, it has the recorded bytes.
+// its disk, too, it has the recorded bytes. One that has them with another time counts where no other one has them.
 func (r *reader) findWinner() {
+	unclean := []string{}
 	for member, one := range r.folder.Members {
 		if r.has(member, "RecordMissing", "RecordDiffers", "LocalOnly") {
 			continue
@@ -258,9 +260,16 @@ func (r *reader) findWinner() {
 		if at := r.at(member); at != nil && at.Own != nil && r.winner == nil {
 			r.winner = at.Own
 		}
-		if !r.has(member, "StoreDiffers") {
+		switch {
+		case r.has(member, "StoreDiffers"):
+		case r.has(member, "StoreUnclean"):
+			unclean = append(unclean, one.Head.Device)
+		default:
 			r.file.Have = append(r.file.Have, one.Head.Device)
 		}
+	}
+	if len(r.file.Have) == 0 {
+		r.file.Have, r.file.isOfAnotherTime = unclean, len(unclean) > 0
 	}
 }
 

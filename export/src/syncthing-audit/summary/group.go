@@ -27,6 +27,8 @@ type Group struct {
 	Modes   []Mode   `json:"permissions,omitempty"`
 	Advice  []string `json:"advice"`
 	faults  []Fault  // of each name
+
+	isOfAnotherTime bool // as of a file
 }
 
 // canFold are the causes that ask for the same everywhere. What else is wrong is to be looked at file by file.
@@ -162,7 +164,7 @@ func (a *alike) groupOf(named labels) *Group {
 		made.Cause = first.Faults[0].Cause
 		made.Deleted = made.Cause == Behind && first.Faults[0].Deletion
 	}
-	made.faults = same.Faults
+	made.faults, made.isOfAnotherTime = same.Faults, first.isOfAnotherTime
 	for _, one := range first.Faults {
 		made.Devices = append(made.Devices, one.Device)
 	}

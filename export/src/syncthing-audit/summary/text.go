@@ -92,7 +92,7 @@ func (p *printer) group(folder *Folder, one *Group) {
 	}
 	p.line("  the first: %s, and %s more (--lines has all)", strings.Join(first, " "), thousands(one.Names-int64(len(first))))
 	if len(one.Have) > 0 && one.Cause != Permissions {
-		p.line("  as recorded on: %s", p.named.all(one.Have))
+		p.have(one.Have, one.isOfAnotherTime)
 	}
 	p.advice(one.Advice)
 }
@@ -121,7 +121,7 @@ func (p *printer) file(folder *Folder, one *File) {
 	}
 	p.modes(one.Permissions)
 	if len(one.Faults) > 0 && !isOfNobody(one) && !strings.HasSuffix(string(one.Name), "/") {
-		p.have(one)
+		p.have(one.Have, one.isOfAnotherTime)
 	}
 	if len(one.Follows) > 0 && !one.isTied() {
 		p.line("  so %s can still take another version of it, until that is mended", p.named.all(devicesOf(one.Follows)))
@@ -129,13 +129,16 @@ func (p *printer) file(folder *Folder, one *File) {
 	p.advice(one.Advice)
 }
 
-// have prints which devices have what is due.
-func (p *printer) have(one *File) {
-	have := "no audited device"
-	if len(one.Have) > 0 {
-		have = p.named.all(one.Have)
+// have prints which devices have what is due, be it with another time.
+func (p *printer) have(devices []string, isOfAnotherTime bool) {
+	switch {
+	case len(devices) == 0:
+		p.line("  as recorded on: no audited device")
+	case isOfAnotherTime:
+		p.line("  the recorded bytes on: %s", p.named.all(devices))
+	default:
+		p.line("  as recorded on: %s", p.named.all(devices))
 	}
-	p.line("  as recorded on: %s", have)
 }
 
 // isOfNobody says whether a name has no winner, so that there is nothing that devices should have.
