@@ -74,6 +74,82 @@ class RotThatIsFetched(LateRot):
         self.stop()
 
 
+class RotThatIsFetchedBesideAChange(LateRot):
+    """A third device lacks the files, and fetches them from the rotten one. The first one changed them meanwhile, and no scan has seen that."""
+
+    names = ("one", "two", "three")
+    files = ("earlier", "later", "touched", "missing")
+
+    @classmethod
+    def synchronise(cls):
+        super().synchronise()
+        cls.three, cls.now = cls.devices[2], 1700000000
+        cls.three.stop()
+        for name in cls.files:
+            cls.put(name, "binary ", 0)
+        cls.one.scan()
+        wait_until("the second device has the files", lambda: text_of(cls.two.files / "touched") and cls.one.is_in_step_with(cls.two))
+
+    @classmethod
+    def put(cls, name, text, seconds):
+        """Writes a file on the first device, modified so many seconds from now."""
+        (cls.one.files / name).write_text(text + name)
+        os.utime(cls.one.files / name, (cls.now + seconds, cls.now + seconds))
+
+    def change(self):
+        """What no scan of the first device has seen, and what rots on the second one."""
+        for name in self.files:
+            self.rot(name)
+        self.put("earlier", "changed ", -1000)
+        self.put("later", "changed ", 1000)
+        self.put("touched", "binary ", -1000)
+        (self.one.files / "missing").unlink()
+
+    def texts(self, device):
+        """What stands in a device's files, and in their conflict copies."""
+        return {name: (text_of(device.files / name), [text_of(path) for path in device.files.glob(f"{name}.sync-conflict-*")]) for name in self.files}
+
+    def assert_told(self):
+        """Nobody is told as sure that a change goes to all, or that all devices delete the file."""
+        one, two = self.label(self.one), self.label(self.two)
+        becoming = f". But the other bytes on {two} may become a change before that comes there"
+        for name in self.files:
+            entry, _ = self.entry(name)
+            if name == "missing":
+                self.assertIn(f"all devices delete it{becoming}: a change goes before a deletion, so these bytes then go to all", entry)
+                continue
+            self.assertIn(f"{becoming}, and both are in conflict then: Syncthing keeps the one that was modified later, and the other one as a conflict copy", entry)
+            self.assertIn(f"(another device may fetch it from {two}, and then these bytes are a change, in conflict with what a scan finds on {one})", entry)
+
+    def test_its_bytes_are_in_conflict_with_the_changes(self):
+        self.change()
+        self.assert_told()
+        for device in (self.two, self.three):
+            device.start()
+        wait_until("the third device has the rotten bytes", lambda: all(text_of(self.three.files / name) == "rotten " + name for name in self.files))
+        self.one.start()
+        come = {"earlier": ("rotten earlier", ["changed earlier"]), "later": ("changed later", ["rotten later"]),
+                "touched": ("rotten touched", ["binary touched"]), "missing": ("rotten missing", [])}
+        wait_until("all devices have what was modified later", lambda: all(self.texts(device) == come for device in self.devices))
+        self.stop()
+
+
+class RotThatAChangeReachesFirst(RotThatIsFetchedBesideAChange):
+    """The same, and the changes come to all before anyone fetches the rotten files."""
+
+    def test_its_bytes_are_in_conflict_with_the_changes(self):
+        self.change()
+        self.assert_told()
+        for device in (self.one, self.three):
+            device.start()
+        come = {"earlier": ("changed earlier", []), "later": ("changed later", []), "touched": ("binary touched", []), "missing": (None, [])}
+        wait_until("the third device has the changes", lambda: self.texts(self.three) == come and self.one.is_in_step_with(self.three))
+        self.two.start()
+        come["touched"] = ("rotten touched", [])
+        wait_until("the second device has them, but for the bytes that it needs not", lambda: self.texts(self.two) == come)
+        self.stop()
+
+
 class RotThatAnOldChangeMeets(LateRot):
     """Another mode shows the scan that the files changed, while the device is behind with them. Their change has an old time, so that the
     rotten bytes win."""

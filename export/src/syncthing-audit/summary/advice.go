@@ -122,7 +122,7 @@ func backAdvice(one *Fault, file *File, at string, named labels) string {
 		return changedAdvice(one, file, at, named)
 	}
 	return file.say("to have it gone, delete it", "to have them gone, delete them") + " on " + at + " before Syncthing scans there: a scan takes " +
-		file.say("it for a new file", "them for new files") + spreads(one, file, named)
+		file.say("it for a new file", "them for new files") + spreads(one, file, named) + file.orBytes(one, named)
 }
 
 // notScannedAdvice says what a scan does with what it hasn't seen yet.
@@ -156,9 +156,9 @@ func otherTimeAdvice(one *Fault, file *File, at string, named labels) string {
 	case one.Kind == receiveOnly:
 		return told + ": " + file.say("the time stays there as a local change", "the times stay there as local changes") + file.revert(one, at)
 	case len(file.sharers.keepers(one.Device)) > 0:
-		return told + ": " + file.say("the time then goes ", "the times then go ") + file.toAll(one.Device, named)
+		told += ": " + file.say("the time then goes ", "the times then go ") + file.toAll(one.Device, named)
 	}
-	return told
+	return told + file.orBytes(one, named)
 }
 
 func changedAdvice(one *Fault, file *File, at string, named labels) string {
@@ -175,7 +175,7 @@ func changedAdvice(one *Fault, file *File, at string, named labels) string {
 	}
 	told += file.spread(file.say("the change then goes ", "the changes then go ")+file.toAll(one.Device, named),
 		file.say("the change is then recorded", "the changes are then recorded"))
-	return told + file.say(". If the change isn't wanted", ". If they aren't wanted") + ", first " + copying(one, file, named, how)
+	return told + file.orBytes(one, named) + file.say(". If the change isn't wanted", ". If they aren't wanted") + ", first " + copying(one, file, named, how)
 }
 
 // isFileForFile says whether a file stands where a file is recorded.
@@ -214,7 +214,7 @@ func missingAdvice(one *Fault, file *File, at string, named labels) string {
 			" there is what other devices keep, so Syncthing makes " + file.say("the directory", "the directories") + " again"
 	}
 	told := "see that the folder's disk is mounted on " + at + ", before Syncthing starts there: a scan takes " + it + " for deleted" +
-		file.spread(file.allDelete(one.Device, it, named), "") + ". To keep " + it + ", first " + copying(one, file, named, toNothing)
+		file.spread(file.allDelete(one.Device, it, named), "") + file.orBytes(one, named) + ". To keep " + it + ", first " + copying(one, file, named, toNothing)
 	if file.lackOn(one.Device) != nil {
 		told += one.lostAlone(it, at)
 	}

@@ -102,37 +102,6 @@ func TestDisksOfDevicesThatAreBehind(t *testing.T) {
 	}
 }
 
-// A device from which another one fetches a file of other bytes sends these to all. Nobody is told to start it before they are mended.
-func TestOtherBytesThatAnAuditedDeviceFetches(t *testing.T) {
-	const told = "before Syncthing starts there (another device may fetch it from server, and then these bytes go to all), copy it from laptop"
-	for _, one := range []struct {
-		why  string
-		kind string
-		row  []*part.Name
-		has  bool
-	}{
-		{"another device lacks it", "send-receive", []*part.Name{file(2, 1), with(file(2, 1), rotten), nil}, true},
-		{"another device is behind", "send-receive", []*part.Name{file(2, 1), with(file(2, 1), rotten), file(1, 2)}, true},
-		{"it only receives", receiveOnly, []*part.Name{file(2, 1), with(file(2, 1), rotten), nil}, false},
-	} {
-		answer := answerOf(3, func(folder *finding.Folder) {
-			folder.Members[1].About.Kind = one.kind
-			fails(folder, "a", one.row, "StoreDiffers 2", "RecordDiffers 3", "StoreDiffers 3")
-		})
-		made := Of(answer)
-		if text := strings.Join(made.Folders[0].Files[0].Advice, ". "); strings.Contains(text, told) != one.has {
-			t.Errorf("%s: %s", one.why, text)
-		}
-		losing := false
-		for place := range made.Folders[0].Files[0].Faults {
-			losing = losing || made.Folders[0].Files[0].Faults[place].losesByScan()
-		}
-		if losing != one.has {
-			t.Errorf("%s: whether something comes first is wrong", one.why)
-		}
-	}
-}
-
 // Only the names that no scan takes, since they aren't in Unicode's form NFC, are to be renamed; many are told apart from others.
 func TestNamesThatNoScanTakes(t *testing.T) {
 	answer := answerOf(1, func(folder *finding.Folder) {

@@ -4,32 +4,6 @@ package summary
 // receives, Syncthing 1.29 then keeps the record that all others have, and tells no local change.
 func (f *Fault) mayShow() bool { return f.Cause == OtherBytes && f.isWide && f.Kind != receiveOnly }
 
-// noteFetched notes which other bytes another device may fetch, since it has still to take the file. Syncthing compares each block that it
-// sends with its record. Where a block differs, it hashes the file anew, and sends its bytes to all as a change. No device keeps the recorded
-// bytes then, not even as a conflict copy.
-func (f *File) noteFetched() {
-	for place := range f.Faults {
-		one := &f.Faults[place]
-		if one.Cause != OtherBytes || one.Kind == receiveOnly || f.lackOn(one.Device) != nil {
-			continue
-		}
-		for _, other := range f.Faults {
-			one.isFetched = one.isFetched || other.Device != one.Device && other.fetches()
-		}
-	}
-}
-
-// fetches says whether the device is to take the file from another one, be it only once its local changes are reverted.
-func (f *Fault) fetches() bool {
-	switch f.Cause {
-	case Behind:
-		return !f.Deletion && f.Kind != sendOnly && !f.isTied
-	case Conflicting:
-		return f.Kind != sendOnly
-	}
-	return f.Kind == receiveOnly && (f.Cause == LocalChange || f.Cause == Missing)
-}
-
 // lackOn gives the fault by which a device has still to take what others have of the name; nothing where it has none. No other device fetches
 // the file from such a device. Under an equal version it takes nothing.
 func (f *File) lackOn(device string) *Fault {
@@ -72,9 +46,11 @@ func whenToMend(one *Fault, file *File, at string, named labels) string {
 	case one.isSeen:
 		return "before Syncthing scans there (the scan " + file.spread("sends these bytes "+file.toAll(one.Device, named), "records these bytes") + "), "
 	case one.isFetched:
-		return "before Syncthing starts there (another device may fetch " + it + " from " + at + ", and then these bytes go " + file.toAll(one.Device, named) + "), "
+		return "before Syncthing starts there (another device may fetch " + it + " from " + at + ", and then these bytes " +
+			file.asChange(one, "go "+file.toAll(one.Device, named), "are a change", named) + "), "
 	case one.mayShow():
-		return "before Syncthing scans there (the scan may " + file.spread("send these bytes "+file.toAll(one.Device, named), "record these bytes") + "), "
+		return "before Syncthing scans there (the scan may " +
+			file.asChange(one, file.spread("send these bytes "+file.toAll(one.Device, named), "record these bytes"), "take these bytes for a change", named) + "), "
 	}
 	but, why, isNone := file.taking(one.Device, file.sharers.keepers(one.Device), nil, named)
 	if one.Kind == receiveOnly || file.isOwn || isNone {

@@ -72,42 +72,6 @@ func TestAdviceOnOtherBytesOfADeviceThatIsBehind(t *testing.T) {
 	}
 }
 
-// Syncthing hashes a file anew whose blocks it sends, and whose bytes it then sends to all. A folder that only receives tells no change,
-// and one that is shared with nobody sends nothing.
-func TestAdviceOnOtherBytesThatOthersFetch(t *testing.T) {
-	const general, urgent = "sends these bytes to all once another device fetches the file from server. Before that, copy it", "before Syncthing starts there (another device may fetch it from server, and then these bytes go to all), copy it"
-	for _, one := range []struct {
-		kind                string
-		isOwn, other        bool
-		deletion, isLateToo bool
-		onlySends           bool
-		has                 string
-	}{
-		{kind: "send-receive", has: general}, {kind: sendOnly, has: general},
-		{kind: "send-receive", other: true, has: urgent}, {kind: sendOnly, other: true, has: urgent},
-		{kind: "send-receive", other: true, onlySends: true, has: general},
-		{kind: "send-receive", other: true, deletion: true, has: general}, {kind: "send-receive", other: true, isLateToo: true, has: "once server takes what is newest"},
-		{kind: receiveOnly, has: "won't repair it: copy"}, {kind: receiveOnly, other: true, has: "won't repair it: copy"},
-		{kind: "send-receive", isOwn: true, has: "won't repair it: copy"},
-	} {
-		file := &File{Faults: faultsOf(one.kind, OtherBytes), Have: []string{laptop}, isOwn: one.isOwn}
-		if one.other {
-			file.Faults = append(file.Faults, Fault{Device: phone, Kind: "send-receive", Cause: Behind, Deletion: one.deletion})
-		}
-		if one.onlySends {
-			file.Faults[1].Kind = sendOnly
-		}
-		if one.isLateToo {
-			file.Faults = append(file.Faults, Fault{Device: server, Kind: "send-receive", Cause: Behind})
-		}
-		file.noteFetched()
-		told := adviceOf(file, labels{laptop: "laptop", server: "server", phone: "phone"})
-		if !strings.Contains(told[0], one.has) || file.Faults[0].losesByScan() != (one.has == urgent) {
-			t.Errorf("%+v: %q", one, told)
-		}
-	}
-}
-
 // A file that is touched where scans record no owners and attributes loses them on the devices whose scans do, and that take it. That is said
 // only where it can be so.
 func TestAdviceOnTouchingWithoutAttributes(t *testing.T) {

@@ -14,7 +14,7 @@ func (f *File) noteChanges(folder *finding.Folder, row *join.Row) {
 		return
 	}
 	all := contendersOf(folder, row, f.Permissions)
-	f.firsts = firstsOf(all)
+	f.firsts, f.firstsBesideBytes = firstsOf(all), firstsOf(append(f.changesOfBytes(folder, row), all...))
 	kept := f.noteKept(deletionsOf(folder, row), all)
 	for place := range f.Faults {
 		for member, at := range row.At {
