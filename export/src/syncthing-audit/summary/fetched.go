@@ -8,7 +8,7 @@ import (
 
 // noteFetched notes which other bytes another device may fetch, since it has still to take the file. Syncthing compares each block that it
 // sends with its record. Where a block differs, it hashes the file anew, and sends its bytes to all as a change. No device keeps the recorded
-// bytes then, not even as a conflict copy.
+// bytes then, not even as a conflict copy. A device on whose disk the file stands already fetches nothing.
 func (f *File) noteFetched() {
 	for place := range f.Faults {
 		one := &f.Faults[place]
@@ -16,7 +16,7 @@ func (f *File) noteFetched() {
 			continue
 		}
 		for _, other := range f.Faults {
-			one.isFetched = one.isFetched || other.Device != one.Device && other.fetches()
+			one.isFetched = one.isFetched || other.Device != one.Device && other.fetches() && !other.isDue
 		}
 	}
 }

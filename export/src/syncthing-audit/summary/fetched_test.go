@@ -122,3 +122,17 @@ func TestAChangeBesideOtherBytesThatAScanMaySee(t *testing.T) {
 		}
 	}
 }
+
+// A device that has the file on its disk already fetches nothing, and so nobody finds other bytes elsewhere.
+func TestWhoHasTheFileFetchesNothing(t *testing.T) {
+	for _, isThere := range []bool{false, true} {
+		back := with(file(1, 1), again)
+		if !isThere {
+			back.Disk.Contents = file(1, 9).Disk.Contents
+		}
+		text := toldOf([]*part.Name{with(file(2, 1), rotten), back}, "StoreDiffers 1,RecordDiffers 2,StoreDiffers 2", 0, 1, func(*finding.Folder) {})
+		if strings.Contains(text, "another device may fetch") == isThere || strings.Contains(text, "Syncthing won't repair it") != isThere {
+			t.Errorf("%t: %s", isThere, text)
+		}
+	}
+}
