@@ -189,38 +189,6 @@ func (f *Fault) types() string {
 	return f.Recorded.Type + " " + f.Found.Type
 }
 
-func missingAdvice(one *Fault, file *File, at string, named labels) string {
-	it := file.say("it", "them")
-	if one.Kind == receiveOnly && file.isOwn {
-		return "see that the folder's disk is mounted on " + at + ". 'Revert Local Changes' there doesn't bring " + it + " back: " +
-			copying(one, file, named, toNothing)
-	}
-	if one.late == lateChange {
-		return "see that the folder's disk is mounted on " + at + lateMissing(one, file, at, named)
-	}
-	if one.Kind == receiveOnly && one.late == lateDeletion {
-		return "start Syncthing on " + at + " and 'Rescan': the other devices have deleted " + it + ", too"
-	}
-	if one.Kind == receiveOnly {
-		from := ""
-		if len(file.Have) == 0 {
-			from = " only from a device that has the recorded bytes, and no audited one has"
-		}
-		return "see that the folder's disk is mounted on " + at + ". After a 'Rescan', 'Revert Local Changes' there brings " + it +
-			" back" + from + "; it also deletes files that were added there"
-	}
-	if file.isNeeded {
-		return "see that the folder's disk is mounted on " + at + ", before Syncthing starts there: a scan takes " + it + " for deleted. Below " + it +
-			" there is what other devices keep, so Syncthing makes " + file.say("the directory", "the directories") + " again"
-	}
-	told := "see that the folder's disk is mounted on " + at + ", before Syncthing starts there: a scan takes " + it + " for deleted" +
-		file.spread(file.allDelete(one.Device, it, named), "") + file.orBytes(one, named) + ". To keep " + it + ", first " + copying(one, file, named, toNothing)
-	if file.lackOn(one.Device) != nil {
-		told += one.lostAlone(it, at)
-	}
-	return told
-}
-
 func behindAdvice(one *Fault, file *File, at string, named labels) string {
 	switch {
 	case one.Kind == sendOnly:

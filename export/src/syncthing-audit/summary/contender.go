@@ -143,7 +143,7 @@ func firstOf(newest []contender) *contender {
 // goesBefore says whether Syncthing takes this change before all others, as long as no deletion is on top of it.
 func (c *contender) goesBefore(others []contender) bool {
 	for _, one := range others {
-		if c.isOlder(&one) || !one.isOlder(c) && !c.isLater(&one) {
+		if !c.isOfOneVersion(one) && (c.isOlder(&one) || !one.isOlder(c) && !c.isLater(&one)) {
 			return false
 		}
 	}

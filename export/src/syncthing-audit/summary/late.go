@@ -171,50 +171,6 @@ func (f *Fault) mine() *State {
 	return f.Found
 }
 
-// lateMissing says what becomes of a name that is missing on a disk, where others have what the device's version lacks.
-func lateMissing(one *Fault, file *File, at string, named labels) string {
-	it := file.say("it", "them")
-	told := ". A scan there takes " + it + " for deleted, and a change goes before a deletion: the other devices keep " + it
-	if one.Kind != sendOnly {
-		told += ", and Syncthing brings what they have to " + at
-	}
-	told += file.takenBefore(one, at)
-	if one.Kind == sendOnly {
-		return told + ". 'Override Changes' there would then delete " + it + " " + file.onAll(one.Device, named)
-	}
-	return told + one.lostAlone(it, at)
-}
-
-// had says that another device has what a device recorded, and lacks.
-const had = "had elsewhere"
-
-// takenBefore says what comes where other devices take what one recorded, and what is missing there, before a scan has found that. Of a directory or a
-// symlink they need no bytes.
-func (f *File) takenBefore(one *Fault, at string) string {
-	if one.goesBefore == "" {
-		return ""
-	}
-	how := "they need no bytes for that"
-	switch one.goesBefore {
-	case "file":
-		how = "they can where another file has the same bytes"
-	case had:
-		how = "another device has it"
-	}
-	return ". But what " + at + " recorded goes before what they have. Where they take it before that scan is over (" + how + "), they then delete " +
-		f.say("it, and keep what they had as a conflict copy alone, if it is a file", "them, and keep what they had as conflict copies alone, if these are files") +
-		" and the folder's 'Max Conflicts' isn't 0: copy elsewhere first what is to stay"
-}
-
-// lostAlone says what is lost where the device recorded a change that no other one has, and that is missing there.
-func (f *Fault) lostAlone(it, at string) string {
-	if !f.isAlone {
-		return ""
-	}
-	return ". What " + at + " recorded last of " + it + " no other device has: to keep that, too, look for it among old versions and backups, " +
-		"and put it back there (cp -a, or rsync -a) before Syncthing starts"
-}
-
 // isMissingSomewhere says whether the name is missing on a disk: what becomes of it in a conflict is told there.
 func (f *File) isMissingSomewhere() bool {
 	for place := range f.Faults {

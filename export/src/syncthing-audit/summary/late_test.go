@@ -119,39 +119,3 @@ func TestNamesThatNoScanTakes(t *testing.T) {
 		t.Errorf("%v", folder.Files)
 	}
 }
-
-// Where others may take what a device recorded before its scan finds that this is missing there, they delete it then. Nobody is just told that they keep
-// what they have.
-func TestWhatIsTakenBeforeItIsFoundMissing(t *testing.T) {
-	const taken, noBytes, bytes = "server recorded goes before what they have. Where they take it before that scan is over (", "they need no bytes for that)", "they can where another file has the same bytes)"
-	linked := func(seconds int64) *part.Name {
-		return with(linkRecorded(), func(one *part.Name) { one.Own.ModifiedS, one.Disk = seconds, nil })
-	}
-	dir := func(seconds int64) *part.Name {
-		return with(linked(seconds), func(one *part.Name) { one.Own.Type, one.Own.Target = 1, "" })
-	}
-	for _, one := range []struct {
-		why     string
-		row     []*part.Name
-		reasons string
-		kind    string
-		has     string
-	}{
-		{"a later file that a third device has", []*part.Name{changedAt(1, 1), with(changedAt(2, 1), absent), changedAt(2, 1)}, "RecordDiffers 1,StoreDiffers 2", "", taken + "another device has it)"},
-		{"an older file that a third device has", []*part.Name{changedAt(3, 1), with(changedAt(2, 1), absent), changedAt(2, 1)}, "RecordDiffers 2,StoreDiffers 2,RecordDiffers 3", "", ""},
-		{"a later directory", []*part.Name{changedAt(1, 1), dir(later)}, "RecordDiffers 1,StoreDiffers 2", "", taken + noBytes},
-		{"an older directory", []*part.Name{changedAt(1, 1), dir(started)}, "RecordDiffers 2,StoreDiffers 2", "", ""},
-		{"a symlink, which counts as of 1970", []*part.Name{changedAt(1, 1), linked(0)}, "RecordDiffers 2,StoreDiffers 2", "", ""},
-		{"a symlink, and another symlink whose version goes behind", []*part.Name{by(3, linkRecorded()), linked(0)}, "RecordDiffers 1,StoreDiffers 2", "", taken + noBytes},
-		{"a later file", []*part.Name{changedAt(1, 1), with(changedAt(2, 1), absent)}, "RecordDiffers 1,StoreDiffers 2", "", taken + bytes},
-		{"a directory on a device that only sends", []*part.Name{changedAt(1, 1), dir(later)}, "RecordDiffers 1,StoreDiffers 2", sendOnly, taken + noBytes},
-		{"what others have, too, and one changed", []*part.Name{changedTo(7), with(file(1, 1), absent)}, "StoreDiffers 1,StoreDiffers 2", "", ""},
-	} {
-		for _, names := range []int{1, mostAlone + 1} {
-			text := toldOf(one.row, one.reasons, 0, names, func(folder *finding.Folder) { folder.Members[1].About.Kind = one.kind })
-			if !strings.Contains(text, "the other devices keep") || !strings.Contains(text, one.has) || strings.Contains(text, "goes before what they have") != (one.has != "") {
-				t.Errorf("%s: %s", one.why, text)
-			}
-		}
-	}
-}

@@ -19,8 +19,11 @@ func (f *File) noteRivals() {
 		switch {
 		case f.isOutdone(one, scanned):
 			one.late, one.mayStay, one.isDue = lateChange, false, false
-		case one.Cause == Missing && one.Kind != receiveOnly && one.late == lateChange && !f.isKept:
+		case one.Cause == Missing && one.late == lateChange && !f.isKept:
 			one.late = notLate
+			if one.Kind == receiveOnly {
+				one.late = lateDeletion
+			}
 		}
 		one.isDue = one.isDue && !f.hasConflictBut(one.Device)
 	}

@@ -31,7 +31,7 @@ func (f *Fault) noteOwn(own *part.Record, number uint64, others, kept []contende
 	switch {
 	case f.Cause == LocalChange:
 		f.firsts = firstsOf(append(others, *recordedBy(own, afterScan(own, number), f.Device)))
-	case f.Cause == Missing && f.Kind != receiveOnly && len(kept) > 0 && recordedBy(own, own.Version, f.Device).goesBefore(kept):
+	case f.Cause == Missing && len(kept) > 0 && recordedBy(own, own.Version, f.Device).goesBefore(kept):
 		f.goesBefore = typeOf(own.Type)
 		if slices.IndexFunc(others, recordedBy(own, own.Version, f.Device).isOfOneVersion) >= 0 {
 			f.goesBefore = had
