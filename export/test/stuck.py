@@ -1,6 +1,6 @@
 #!/usr/bin/env python3
 """The audit of two real Syncthing devices on loopback, of which one put a file or a symlink in place of a directory, below which the other one changed
-something. What the answer says that Syncthing does with that is what Syncthing does.
+something; be it one that only receives. What the answer says that Syncthing does with that is what Syncthing does.
 
     export/test/stuck.py
 """
@@ -86,6 +86,67 @@ class BelowWhatIsReplaced(Behind):
         for name in ("found", "linked"):
             shutil.move(self.one.files / name, self.room / f"{name} away")
         self.one.scan()
+
+
+class BelowWhatAReceiverReplaced(Behind):
+    """The second device only receives, and has files and a symlink in place of directories, below which the first one changed something. It recorded two of
+    them; of these the first one changed one directory's mode since."""
+
+    directories = ("recorded", "passed", "found", "linked")
+
+    @classmethod
+    def synchronise(cls):
+        cls.now = 1700000000
+        for name in cls.directories:
+            (cls.one.files / name).mkdir()
+            cls.put(cls.one, f"{name}/in", OLD, -1000)
+        cls.scan_and_wait()
+
+    @classmethod
+    def change_one(cls):
+        """What the second device recorded, and what the first one changed since."""
+        cls.two.configure(cls.devices, kind="receiveonly")
+        for name in ("recorded", "passed"):
+            cls.replace(name)
+        cls.record(cls.two)
+        (cls.one.files / "passed").chmod(0o700)
+        for name in ("passed", "found"):
+            cls.put(cls.one, f"{name}/in", NEW, 0)
+        cls.record(cls.one)
+        cls.put(cls.one, "recorded/in", NEW, 0)
+        cls.put(cls.one, "linked/new", NEW, 0)
+
+    @classmethod
+    def change_two(cls):
+        cls.replace("found")
+        shutil.rmtree(cls.two.files / "linked")
+        (cls.two.files / "linked").symlink_to("recorded")
+
+    @classmethod
+    def replace(cls, name):
+        """Has the second device have a file in place of a directory."""
+        shutil.rmtree(cls.two.files / name)
+        cls.put(cls.two, name, "a file", 500)
+
+    def test_what_is_told_comes_so(self):
+        two = self.two.id[:7]
+        for told, name, what in (("recorded/in", "recorded", "file"), ("found/in", "found", "file"), ("linked/new", "linked", "symlink")):
+            self.assertIn(f"on {two} a {what} stands in place of the directory {name}, and as long as it does, Syncthing puts nothing below that there", self.told[told])
+            self.assertNotIn("goes to all", self.told[told])
+            self.assertNotIn("brings what they have", self.told[told])
+        self.assertIn(f"'Revert Local Changes' on {two} makes it the directory again", self.told["found/in"])
+        self.assertIn(f"Once Syncthing runs on {two}, it takes what they have", self.told["passed/in"])
+        self.start()
+        wait_until("the second device is stuck", lambda: {"recorded/in", "found/in", "linked/new"} <= self.failed())
+        wait_until("it has what it takes by itself", lambda: (self.two.files / "passed/in").exists() and text_of(self.two.files / "passed/in") == NEW)
+        self.two.api("POST", "db/revert?folder=docs")
+        wait_until("it has all", lambda: all((self.two.files / name).is_dir() for name in self.directories) and self.one.is_in_step_with(self.two))
+        self.stop()
+        for name in ("recorded/in", "passed/in", "found/in", "linked/new"):
+            self.assertEqual(text_of(self.two.files / name), NEW)
+
+    def failed(self):
+        return {one["path"] for one in self.two.api("GET", "folder/errors?folder=docs")["errors"] or []}
 
 
 class ADirectoryInPlaceOfADeletedFile(Behind):

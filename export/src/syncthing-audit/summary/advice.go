@@ -69,6 +69,9 @@ func adviceOfFault(one *Fault, file *File, named labels) string {
 	if file.isStopped(one) {
 		return file.stuck.advice(named)
 	}
+	if file.isBlockedAt(one) {
+		return file.blockedAdvice(at, named)
+	}
 	switch one.Cause {
 	case OtherBytes:
 		return otherBytesAdvice(one, file, at, named)
@@ -155,7 +158,7 @@ func otherTimeAdvice(one *Fault, file *File, at string, named labels) string {
 		return late
 	case one.Kind == receiveOnly:
 		return told + ": " + file.say("the time stays there as a local change", "the times stay there as local changes") + file.revert(one, at)
-	case len(file.sharers.keepers(one.Device)) > 0:
+	case len(file.sharers.keepers(one.Device))+len(file.blocked) > 0:
 		told += ": " + file.say("the time then goes ", "the times then go ") + file.toAll(one.Device, named)
 	}
 	return told + file.orBytes(one, named)

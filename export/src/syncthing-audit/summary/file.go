@@ -37,9 +37,10 @@ type File struct {
 	mayStay         []string          // the devices whose change it may keep, since not each deletion is on top of that
 	// The devices whose change goes first of those of one time, once other bytes are a change, too.
 	firstsBesideBytes []string
-	stuck             *stuck   // where Syncthing gets no further with it
-	isNeeded          bool     // whether it is a directory below which there is what Syncthing keeps
-	firsts            []string // the devices whose change goes first of those in conflict that were modified at the same time; nothing where times decide
+	stuck             *stuck    // where Syncthing gets no further with it
+	blocked           []blocked // the devices that only receive and can\'t take what Syncthing keeps of it
+	isNeeded          bool      // whether it is a directory below which there is what Syncthing keeps
+	firsts            []string  // the devices whose change goes first of those in conflict that were modified at the same time; nothing where times decide
 }
 
 // say gives what is said of one name, or of many where the file stands for these.

@@ -94,12 +94,12 @@ func (s *sharers) hasTaker(from string, but []string) bool {
 }
 
 // taking says which devices don't take what one changes, as " but phone", and why; and whether none takes it. Where all take it, it says nothing.
-// Besides those that only send, some may keep local changes.
+// Besides those that only send, some may keep local changes, of the name or in place of a directory above it.
 func (f *File) taking(from string, keepers, locals []string, named labels) (but, why string, isNone bool) {
-	if len(keepers)+len(locals) == 0 {
+	reasons, unheard, stopped := []string{}, []string{}, f.stoppedBut(from, locals)
+	if len(keepers)+len(locals)+len(stopped) == 0 {
 		return "", "", false
 	}
-	reasons, unheard := []string{}, []string{}
 	if len(keepers) > 0 {
 		reasons = append(reasons, named.all(keepers)+say(keepers, " only sends, keeps what it has, shows", " only send, keep what they have, show")+
 			" 'Out of Sync', and 'Override Changes' there takes this back")
@@ -111,11 +111,15 @@ func (f *File) taking(from string, keepers, locals []string, named labels) (but,
 	if len(locals) > 0 {
 		reasons = append(reasons, named.all(locals)+say(locals, " keeps its local change", " keep their local changes"))
 	}
+	if len(stopped) > 0 {
+		reasons = append(reasons, f.whyBlocked(named))
+	}
 	why = ": " + strings.Join(reasons, "; ")
-	if !f.sharers.hasTaker(from, locals) {
+	others := append(stopped, locals...)
+	if !f.sharers.hasTaker(from, others) {
 		return "", why, true
 	}
-	return " but " + named.all(append(append(unheard, keepers...), locals...)), why, false
+	return " but " + named.all(append(append(unheard, keepers...), others...)), why, false
 }
 
 // say gives what is said of one device, or of several.

@@ -228,6 +228,7 @@ func folderOf(answer *finding.Answer, from *finding.Folder, named labels) *Folde
 	from.EachName(func(told *finding.Told) {
 		one := fileOf(from, told)
 		one.noteStuck(from, below)
+		one.noteBlocked(from)
 		all.take(one)
 	})
 	made.Files, made.Groups = all.end()
