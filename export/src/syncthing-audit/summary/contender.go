@@ -150,21 +150,21 @@ func (c *contender) goesBefore(others []contender) bool {
 	return true
 }
 
-// isUndecided says whether it isn't known which of the newest changes Syncthing keeps: an older one is below the one and in conflict with another. Syncthing
-// takes a change with its version, so what that was on top of may win then.
+// isUndecided says whether it isn't known which of the newest changes Syncthing keeps: one of them is on top of an older one, another one goes before it,
+// and the older one before that. Syncthing takes a change with its version, so what that was on top of may win then.
 func isUndecided(all, newest []contender) bool {
-	for _, one := range all {
-		isBelow, isBeside := false, false
-		for _, other := range newest {
-			if one.isOlder(&other) {
-				isBelow = true
-			} else {
-				isBeside = isBeside || !one.isOfOneVersion(other)
+	for _, older := range all {
+		for _, one := range newest {
+			if older.isOlder(&one) && slices.IndexFunc(newest, func(other contender) bool { return other.isBetween(&older, &one) }) >= 0 {
+				return true
 			}
-		}
-		if isBelow && isBeside {
-			return true
 		}
 	}
 	return false
+}
+
+// isBetween says whether this change goes behind an older one and before a newer one, and is in conflict with both.
+func (c *contender) isBetween(older, newer *contender) bool {
+	isBeside := !older.isOlder(c) && !older.isOfOneVersion(*c) && !c.isOfOneVersion(*newer)
+	return isBeside && older.isLater(c) && c.isLater(newer)
 }

@@ -38,6 +38,7 @@ type File struct {
 	// The devices whose change goes first of those of one time, once other bytes are a change, too.
 	firstsBesideBytes []string
 	stuck             *stuck    // where Syncthing gets no further with it
+	isOpen            bool      // whether it depends on which devices connect first which of several changes Syncthing keeps
 	blocked           []blocked // the devices that only receive and can\'t take what Syncthing keeps of it
 	isNeeded          bool      // whether it is a directory below which there is what Syncthing keeps
 	firsts            []string  // the devices whose change goes first of those in conflict that were modified at the same time; nothing where times decide

@@ -105,11 +105,7 @@ func isSame(disk *part.Node, due *part.Record) bool {
 // conflicting says what Syncthing does with two changes of which neither is on top of the other. It keeps copies of files alone. In its record a
 // symlink has no time, so it goes behind whatever has one. At equal times it keeps what the first devices have: their version goes before the other.
 func (f *File) conflicting(hasNoCopy bool, firsts []string, named labels) string {
-	told, why := "keeps the one "+f.say("", "of each ")+"that was modified later", []string{}
-	if len(firsts) > 0 {
-		told = "keeps " + f.say("that of ", "those of ") + named.all(firsts)
-		why = append(why, f.say("both", "both of each")+" were modified at the same time, so their versions decide")
-	}
+	told, why := f.keeping(firsts, named)
 	if hasNoCopy {
 		why = append(why, "a symlink counts as of 1970")
 	}
@@ -122,6 +118,17 @@ func (f *File) conflicting(hasNoCopy bool, firsts []string, named labels) string
 			"It puts nothing in place of a directory that isn't empty"
 	}
 	return told + noCopies
+}
+
+// keeping says which one Syncthing keeps of several changes, and why.
+func (f *File) keeping(firsts []string, named labels) (told string, why []string) {
+	switch {
+	case f.isOpen:
+		return "keeps one" + f.say("", " of each"), []string{"which one depends on which devices connect first: one of the changes is on top of another one"}
+	case len(firsts) > 0:
+		return "keeps " + f.say("that of ", "those of ") + named.all(firsts), []string{f.say("both", "both of each") + " were modified at the same time, so their versions decide"}
+	}
+	return "keeps the one " + f.say("", "of each ") + "that was modified later", nil
 }
 
 // noCopies says where Syncthing keeps no conflict copies.

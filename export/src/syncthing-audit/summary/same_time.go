@@ -14,6 +14,7 @@ func (f *File) noteChanges(folder *finding.Folder, row *join.Row) {
 		return
 	}
 	all := contendersOf(folder, row, f.Permissions)
+	f.isOpen = isUndecided(all, newestOf(all))
 	f.firsts, f.firstsBesideBytes = firstsOf(all), firstsOf(append(f.changesOfBytes(folder, row), all...))
 	kept := f.noteKept(deletionsOf(folder, row), all)
 	for place := range f.Faults {
@@ -41,7 +42,7 @@ func (f *Fault) noteOwn(own *part.Record, number uint64, others, kept []contende
 
 // firstWhereOnlySent says that the others take what a device has that only sends, where its version goes first of those of one time.
 func (f *File) firstWhereOnlySent(one *Fault, at string) string {
-	if one.Cause != Conflicting || one.Deletion || !slices.Contains(f.firsts, one.Device) {
+	if one.Cause != Conflicting || one.Deletion || f.isOpen || !slices.Contains(f.firsts, one.Device) {
 		return ""
 	}
 	return ". " + f.say("Both", "Both of each") + " were modified at the same time, and the version of " + at + " goes first: the others take it, and keep theirs as " +

@@ -190,6 +190,8 @@ func (f *File) keepOwn(isAlone func(device string) bool, named labels) string {
 	for _, one := range f.sharers.keepers("") {
 		told += ". " + named.of(one) + " only sends: it keeps what stands there in any case"
 		switch isFirst := slices.Contains(f.firsts, one); {
+		case isAlone(one) && f.isOpen:
+			told += ". Where the others keep theirs, they have no copy of that"
 		case isAlone(one) && len(f.firsts) == 0:
 			told += ". Where that was modified earlier, the others keep theirs, without a copy"
 		case isAlone(one) && !isFirst:
