@@ -31,7 +31,7 @@ func (l labels) all(ids []string) string {
 // adviceOf says what to do about a name, each thing once. What concerns a disk comes before what asks to start Syncthing for a device to take
 // something.
 func adviceOf(file *File, named labels) []string {
-	made := []string{}
+	made := file.unseenAdvice()
 	for _, isTaking := range []bool{false, true} {
 		for next := range file.Faults {
 			one := &file.Faults[next]

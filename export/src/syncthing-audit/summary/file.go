@@ -40,6 +40,8 @@ type File struct {
 	stuck             *stuck    // where Syncthing gets no further with it
 	isOpen            bool      // whether it depends on which devices connect first which of several changes Syncthing keeps
 	blocked           []blocked // the devices that only receive and can\'t take what Syncthing keeps of it
+	unseenBelow       int64     // how many names below it no details were kept of, where what becomes of it depends on these
+	unseenAbove       string    // a directory above it of which no details were kept, where that decides
 	isNeeded          bool      // whether it is a directory below which there is what Syncthing keeps
 	firsts            []string  // the devices whose change goes first of those in conflict that were modified at the same time; nothing where times decide
 }

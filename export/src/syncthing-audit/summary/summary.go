@@ -224,11 +224,12 @@ func folderOf(answer *finding.Answer, from *finding.Folder, named labels) *Folde
 		made.Devices = append(made.Devices, memberOf(one))
 	}
 	all := &folding{named: named, alike: map[string]*alike{}}
-	below := keptBelow(from)
+	below, unseen := keptBelow(from), unseenOf(from)
 	from.EachName(func(told *finding.Told) {
 		one := fileOf(from, told)
 		one.noteStuck(from, below)
 		one.noteBlocked(from)
+		one.noteUnseen(unseen)
 		all.take(one)
 	})
 	made.Files, made.Groups = all.end()
