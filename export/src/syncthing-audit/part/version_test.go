@@ -2,6 +2,7 @@ package part
 
 import (
 	"math"
+	"math/rand"
 	"testing"
 
 	"github.com/syncthing/syncthing/lib/protocol"
@@ -28,12 +29,6 @@ func TestWhoseChangesAVersionCounts(t *testing.T) {
 
 // What Syncthing keeps at equal times is what its own Compare says of two concurrent versions.
 func TestWhichVersionGoesFirst(t *testing.T) {
-	vector := func(version [][2]uint64) (made protocol.Vector) {
-		for _, one := range version {
-			made.Counters = append(made.Counters, protocol.Counter{ID: protocol.ShortID(one[0]), Value: one[1]})
-		}
-		return made
-	}
 	versions := [][][2]uint64{{{1, 5}}, {{2, 5}}, {{1, 5}, {2, 1}}, {{1, 4}, {2, 9}}, {{1, 4}, {3, 1}}, {{3, 7}}, {{1, 0}, {3, 8}}, {{2, 5}, {3, 1}}, {{math.MaxUint64, 3}}}
 	concurrent := 0
 	for _, one := range versions {
@@ -51,4 +46,48 @@ func TestWhichVersionGoesFirst(t *testing.T) {
 	if concurrent < 30 {
 		t.Errorf("only %d pairs are concurrent", concurrent)
 	}
+}
+
+// vector gives a version as Syncthing's own packages have it.
+func vector(version [][2]uint64) (made protocol.Vector) {
+	for _, one := range version {
+		made.Counters = append(made.Counters, protocol.Counter{ID: protocol.ShortID(one[0]), Value: one[1]})
+	}
+	return made
+}
+
+// Of any two versions this package says what Syncthing's own Compare says.
+func TestVersionsCompareAsSyncthingsDo(t *testing.T) {
+	random, seen := rand.New(rand.NewSource(1)), map[protocol.Ordering]int{}
+	for turn := 0; turn < 50000; turn++ {
+		one, other := versionBy(random), versionBy(random)
+		compared := vector(one).Compare(vector(other))
+		seen[compared]++
+		if IsAtMost(one, other) != (compared == protocol.Equal || compared == protocol.Lesser) {
+			t.Fatalf("%v and %v: %v, and at most: %t", one, other, compared, IsAtMost(one, other))
+		}
+		isConcurrent := compared == protocol.ConcurrentGreater || compared == protocol.ConcurrentLesser
+		if isConcurrent && GoesFirst(one, other) != (compared == protocol.ConcurrentGreater) {
+			t.Fatalf("%v and %v: %v, and goes first: %t", one, other, compared, GoesFirst(one, other))
+		}
+	}
+	for _, ordering := range []protocol.Ordering{protocol.Equal, protocol.Greater, protocol.Lesser, protocol.ConcurrentGreater, protocol.ConcurrentLesser} {
+		if seen[ordering] < 500 {
+			t.Errorf("ordering %v came only %d times", ordering, seen[ordering])
+		}
+	}
+}
+
+// versionBy gives a version as Syncthing has one: its ids rise, and a value may be 0.
+func versionBy(random *rand.Rand) [][2]uint64 {
+	var made [][2]uint64
+	for _, id := range []uint64{0, 1, 2, math.MaxUint64 - 1, math.MaxUint64} {
+		if value := uint64(random.Intn(4)); random.Intn(2) == 0 {
+			if value == 3 {
+				value = math.MaxUint64
+			}
+			made = append(made, [2]uint64{id, value})
+		}
+	}
+	return made
 }
