@@ -137,7 +137,7 @@ func notScannedAdvice(one *Fault, file *File, at string, named labels) string {
 		return late
 	case file.isOdd:
 		return "rename " + file.say("it", "them") + " on " + at + ": " + file.say("its name isn't", "their names aren't") + " in Unicode's form NFC, in which " +
-			"Syncthing has names. A scan does that by itself only where nothing stands at the other name; else it passes over " + file.say("it", "them")
+			"Syncthing has names. A scan does that by itself only where the folder's 'Auto Normalize' is on and nothing stands at the other name; else it passes over " + file.say("it", "them")
 	case one.Kind == receiveOnly && file.isOwn:
 		return "make the folder 'Send & Receive' on " + at + " and 'Rescan': " + file.say("it is then recorded", "they are then recorded") +
 			". While the folder only receives, a scan takes " + file.say("it for a local addition, which keeps", "them for local additions, which keep") +

@@ -115,7 +115,8 @@ func TestNamesThatNoScanTakes(t *testing.T) {
 	if len(folder.Groups) != 1 || folder.Groups[0].Names != 7 || strings.Contains(folder.Groups[0].Advice[0], "NFC") {
 		t.Errorf("%v", folder.Groups)
 	}
-	if len(folder.Files) != 1 || !strings.HasPrefix(folder.Files[0].Advice[0], "rename it on laptop: its name isn't in Unicode's form NFC") {
+	if len(folder.Files) != 1 || !strings.HasPrefix(folder.Files[0].Advice[0], "rename it on laptop: its name isn't in Unicode's form NFC") ||
+		!strings.Contains(folder.Files[0].Advice[0], "only where the folder's 'Auto Normalize' is on and nothing stands at the other name") {
 		t.Errorf("%v", folder.Files)
 	}
 }
