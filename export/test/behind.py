@@ -203,7 +203,7 @@ class BehindWithoutCopies(Exporting):
         for name in ("text", "empty"):
             os.utime(self.two.files / name, (time.time(),) * 2)
         told = " ".join(self.on_homes("check", [device.home for device in self.devices], "--syncaudit", self.auditor).stdout.split())
-        self.assertIn("Where the folder's 'Max Conflicts' is 0 it keeps no copy: save first what is to stay. "
+        self.assertIn("Where the folder's 'Max Conflicts' is 0 Syncthing keeps no copy, and beyond that number it deletes the oldest copies: save first what is to stay. "
                       "To have only what the others have, first delete what stands there while Syncthing is stopped", told)
         (self.two.files / "empty").unlink()
         self.start()

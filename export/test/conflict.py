@@ -7,6 +7,7 @@ It installs nothing, and says what is missing.
 """
 
 import os
+import time
 
 from exporting import Exporting, main
 from syncthing import wait_until, wait_until_in_step
@@ -66,6 +67,47 @@ class ConflictOfSymlinks(Exporting):
         self.stop()
         for device in self.devices:
             self.assertEqual(list(device.files.glob("*.sync-conflict-*")), [])
+
+
+class ConflictOfAConflictCopy(Exporting):
+    """Both devices changed a file, of which there is a conflict copy already, and another file's conflict copy."""
+
+    older, copy = "text.sync-conflict-20200101-000000-AAAAAAA", "other.sync-conflict-20200101-000000-AAAAAAA.txt"
+
+    @classmethod
+    def synchronise(cls):
+        super().synchronise()
+        for name in (cls.older, cls.copy):
+            (cls.one.files / name).write_text("kept")
+        cls.scan_and_wait()
+
+    def test_no_copy_is_kept(self):
+        """The answer says so, and real Syncthing keeps none. Of the file it keeps one, and deletes the older copy, since 'Max Conflicts' is 1."""
+        for place, device in enumerate(self.devices):
+            device.choose(maxConflicts="1")
+            for name in ("text", self.copy):
+                (device.files / name).write_text(f"changed on {place}")
+                os.utime(device.files / name, (time.time() + place,) * 2)
+        told = " ".join(self.on_homes("check", [device.home for device in self.devices], "--syncaudit", self.auditor).stdout.split())
+        of_copy, _, of_text = told.partition(f"{self.copy} (in ")[2].partition(" text (in ")
+        self.assertIn("Syncthing keeps the one that was modified later. Syncthing keeps no copy of a conflict copy: save first what is to stay.", of_copy)
+        self.assertIn("and the other one as a conflict copy. Where the folder's 'Max Conflicts' is 0 Syncthing keeps no copy, and beyond that number it deletes the "
+                      "oldest copies: save first what is to stay.", of_text)
+        self.start()
+        wait_until("the older copy is deleted", self.is_older_deleted)
+        wait_until_in_step(self.one, self.two)
+        self.stop()
+        for device in self.devices:
+            texts = {path.name: path.read_text() for path in device.files.glob("*.sync-conflict-*")}
+            self.assertEqual(texts.pop(self.copy), "changed on 1")
+            self.assertEqual(list(texts.values()), ["changed on 0"])
+            self.assertTrue(next(iter(texts)).startswith("text.sync-conflict-"))
+
+    def is_older_deleted(self):
+        """Whether neither device has the older copy, after a scan of each."""
+        for device in self.devices:
+            device.scan()
+        return not any((device.files / self.older).exists() for device in self.devices)
 
 
 if __name__ == "__main__":

@@ -97,8 +97,11 @@ func adviceOfFault(one *Fault, file *File, named labels) string {
 	case OtherTime:
 		return otherTimeAdvice(one, file, at, named)
 	case OtherBlocks:
-		return "nothing is lost: the bytes are the same. Once the devices connect, Syncthing takes one of the records" + file.say("", " of each") +
-			". Where neither is of a later version, it may keep " + file.say("a conflict copy, which has", "conflict copies, which have") + " the same bytes"
+		told := "nothing is lost: the bytes are the same. Once the devices connect, Syncthing takes one of the records" + file.say("", " of each")
+		if file.isCopy {
+			return told
+		}
+		return told + ". Where neither is of a later version, it may keep " + file.say("a conflict copy, which has", "conflict copies, which have") + " the same bytes"
 	}
 	return file.say("audit it by itself: --names with this name tells more", "audit some of them by themselves: --names with how they begin tells more")
 }

@@ -25,6 +25,7 @@ type File struct {
 	hasDetails      bool
 	isOfAnotherTime bool              // whether those that have what is due have it with another time
 	isOdd           bool              // whether the name isn't in Unicode's form NFC
+	isCopy          bool              // whether the name is itself that of a conflict copy
 	isMany          bool              // whether it stands for many names, which are told as one
 	areWide         map[string]bool   // the devices whose scans look at owners or extended attributes, too
 	takers          []string          // those of them that take the file from others, with the owner and attributes that are recorded
@@ -79,7 +80,7 @@ type Mode struct {
 func fileOf(folder *finding.Folder, told *finding.Told) *File {
 	made := &File{Name: Text(told.Name), Faults: []Fault{}, Have: []string{}, Follows: []Follow{}, Permissions: []Mode{}, areWide: areWide(folder),
 		takers: membersWhere(folder, isTaker), receivers: membersWhere(folder, isReceiver), runs: runsOf(folder), isOwn: folder.Own != "",
-		sharers: sharersOf(folder), isOdd: !norm.NFC.IsNormalString(told.Name)}
+		sharers: sharersOf(folder), isOdd: !norm.NFC.IsNormalString(told.Name), isCopy: isCopyName(told.Name)}
 	row := folder.Rows[told.Name]
 	switch {
 	case told.Unwon != nil:

@@ -57,6 +57,9 @@ func keyOf(file *File) string {
 		if one.isRival {
 			key += " in conflict"
 		}
+		if file.isCopy && (one.isRival || one.late == lateChange || one.Cause == OtherBlocks) {
+			key += " of a conflict copy"
+		}
 		if one.isUntold {
 			key += " untold"
 		}
@@ -155,7 +158,7 @@ func (f *folding) end() ([]*File, []*Group) {
 // groupOf tells names as one.
 func (a *alike) groupOf(named labels) *Group {
 	first := a.first[0]
-	same := &File{Faults: withoutDetails(first.Faults), Have: first.Have, Permissions: first.Permissions, isMany: true, areWide: first.areWide, isOwn: first.isOwn, isOdd: first.isOdd, rivals: first.rivals, receivers: first.receivers, sharers: first.sharers,
+	same := &File{Faults: withoutDetails(first.Faults), Have: first.Have, Permissions: first.Permissions, isMany: true, areWide: first.areWide, isOwn: first.isOwn, isOdd: first.isOdd, isCopy: first.isCopy, rivals: first.rivals, receivers: first.receivers, sharers: first.sharers,
 		firsts: first.firsts, isOpen: first.isOpen, mayStay: first.mayStay, stuck: first.stuck, isNeeded: first.isNeeded, blocked: first.blocked,
 		unseenBelow: first.unseenBelow, unseenAbove: first.unseenAbove}
 	made := a.group

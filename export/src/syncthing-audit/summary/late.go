@@ -112,12 +112,11 @@ func (f *File) conflicting(hasNoCopy bool, firsts []string, named labels) string
 	if len(why) > 0 {
 		told += " (" + strings.Join(why, "; ") + ")"
 	}
-	told += f.say(", and the other one as a conflict copy", ", and the others as conflict copies")
+	copied := f.say(", and the other one as a conflict copy", ", and the others as conflict copies")
 	if hasNoCopy {
-		return told + " only if " + f.say("it is a file", "they are files") + " and the folder's 'Max Conflicts' isn't 0: save first what is to stay. " +
-			"It puts nothing in place of a directory that isn't empty"
+		return told + f.copied(copied+" only if "+f.say("it is a file", "they are files")) + ". It puts nothing in place of a directory that isn't empty"
 	}
-	return told + noCopies
+	return told + f.copied(copied)
 }
 
 // keeping says which one Syncthing keeps of several changes, and why.
@@ -130,9 +129,6 @@ func (f *File) keeping(firsts []string, named labels) (told string, why []string
 	}
 	return "keeps the one " + f.say("", "of each ") + "that was modified later", nil
 }
-
-// noCopies says where Syncthing keeps no conflict copies.
-const noCopies = ". Where the folder's 'Max Conflicts' is 0 it keeps no copy: save first what is to stay"
 
 // lateAdvice says what a scan does with what stands on the disk of a device, where others have what its version lacks; nothing where they
 // have nothing of that kind. A device that only receives keeps its own where the others have deleted theirs.
@@ -153,8 +149,8 @@ func lateAdvice(one *Fault, file *File, at string, named labels) string {
 		return told + takes + " what the others have, and of a symlink or a directory that stands there it keeps no copy: save first what is " +
 			"to stay. It puts nothing in place of a directory that isn't empty"
 	case one.Kind == receiveOnly:
-		return told + takes + " what the others have, and keeps what stands there as " +
-			file.say("a conflict copy, a local addition", "conflict copies, local additions") + noCopies
+		return told + takes + " what the others have" + file.copied(", and keeps what stands there as "+
+			file.say("a conflict copy, a local addition", "conflict copies, local additions"))
 	}
 	told += "what stands there is then in conflict with what the others have. Syncthing " + file.conflicting(one.hasNoCopy, file.firsts, named)
 	if one.Kind != sendOnly {

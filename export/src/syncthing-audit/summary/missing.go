@@ -72,8 +72,7 @@ func (f *File) takenBefore(one *Fault, at string) string {
 		deletes, stays = "have what "+at+" recorded", ". 'Revert Local Changes' on "+at+" then brings "+f.say("it", "them")+" there"
 	}
 	return ". But what " + at + " recorded goes before what they have. Where they take it before that scan is over (" + how + "), they then " + deletes +
-		f.say(", and keep what they had as a conflict copy alone, if it is a file", ", and keep what they had as conflict copies alone, if these are files") +
-		" and the folder's 'Max Conflicts' isn't 0: copy elsewhere first what is to stay" + stays
+		f.copied(f.say(", and keep what they had as a conflict copy alone, if it is a file", ", and keep what they had as conflict copies alone, if these are files")) + stays
 }
 
 // deleteToo says that the other devices delete what is missing on one that only receives, or have done so.

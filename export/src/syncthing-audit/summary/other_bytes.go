@@ -66,8 +66,11 @@ func lateBytesAdvice(one, lack *Fault, file *File, at string, named labels) stri
 	isShown := one.isSeen || one.mayShow()
 	switch {
 	case lack.Cause == Conflicting:
-		return "before Syncthing starts there, put the bytes back that " + at + " recorded, from old versions or backups: else the conflict copy " +
-			"has these other bytes"
+		told := "before Syncthing starts there, put the bytes back that " + at + " recorded, from old versions or backups"
+		if file.isCopy {
+			return told
+		}
+		return told + ": else the conflict copy has these other bytes"
 	case !isShown && one.Kind == sendOnly:
 		return "don't 'Override Changes' on " + at + " before the bytes that it recorded are back there, from old versions or backups: it would " +
 			"send these other bytes " + file.toAll(one.Device, named)

@@ -47,7 +47,7 @@ func passedAdvice(one *Fault, file *File, at string) string {
 		return told + ", and of a symlink or a directory that stands there it keeps no copy: save first what is to stay. It puts nothing in place of a " +
 			"directory that isn't empty"
 	}
-	return told + ", and keeps what stands there as " + file.say("a conflict copy, a local addition", "conflict copies, local additions") + noCopies
+	return told + file.copied(", and keeps what stands there as "+file.say("a conflict copy, a local addition", "conflict copies, local additions"))
 }
 
 // isDeletedElsewhere says whether a deletion is what is due.
@@ -67,7 +67,7 @@ func (f *File) keptFromDeletion(at string) string {
 
 // keptAsCopy says what Syncthing may keep of a change that is reverted, for the same reason.
 func (f *File) keptAsCopy(one *Fault, at string) string {
-	if !one.isBefore || one.Deletion || one.mine().isCopyless() {
+	if !one.isBefore || one.Deletion || f.isCopy || one.mine().isCopyless() {
 		return ""
 	}
 	return "Since " + at + " changed " + f.say("it", "them") + " before, Syncthing may keep what stands there now as " +

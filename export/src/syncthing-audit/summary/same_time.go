@@ -45,8 +45,8 @@ func (f *File) firstWhereOnlySent(one *Fault, at string) string {
 	if one.Cause != Conflicting || one.Deletion || f.isOpen || !slices.Contains(f.firsts, one.Device) {
 		return ""
 	}
-	return ". " + f.say("Both", "Both of each") + " were modified at the same time, and the version of " + at + " goes first: the others take it, and keep theirs as " +
-		f.say("a conflict copy, if it is a file", "conflict copies, if they are files") + " and the folder's 'Max Conflicts' isn't 0"
+	return ". " + f.say("Both", "Both of each") + " were modified at the same time, and the version of " + at + " goes first: the others take it" +
+		f.copied(", and keep theirs as "+f.say("a conflict copy, if it is a file", "conflict copies, if they are files"))
 }
 
 // firstsOf gives the devices of which Syncthing keeps what they have, where their versions decide that: since another change, in conflict with it, was

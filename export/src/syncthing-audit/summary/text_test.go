@@ -197,7 +197,8 @@ a  (in docs, 300.0 kB)
   as recorded on: laptop
   to do: start Syncthing on all of these devices: it keeps that of laptop (both were modified at the
          same time, so their versions decide), and the other one as a conflict copy. Where the
-         folder's 'Max Conflicts' is 0 it keeps no copy: save first what is to stay.
+         folder's 'Max Conflicts' is 0 Syncthing keeps no copy, and beyond that number it deletes
+         the oldest copies: save first what is to stay.
 ` + lastLine},
 	{"a device that is behind, and what others still see of it", 3, func(folder *finding.Folder) {
 		old := with(file(1, 2), func(one *part.Name) { one.Own.ModifiedS = started - 60; one.Disk.ModifiedS = started - 60 })
