@@ -140,7 +140,8 @@ class ReceiveOnlyChangedItsOwnAgain(Exporting):
         told = " ".join(ran.stdout.split())
         self.assertIn("'Rescan': the change stays there as a local one", told)
         self.assertNotIn("takes what the others have", told)
-        self.assertIn("make the folder 'Send & Receive' there: it then goes to all, since no other device ever changed it", told)
+        self.assertIn("make the folder 'Send & Receive' there (that sends all local changes of the folder, deletions too: put back first what is to "
+                      "stay): it then goes to all, since no other device ever changed it", told)
         self.start()
         self.two.scan()
         wait_until("nothing is to be taken", lambda: self.two.shows_up_to_date() and self.two.knows_all_of(self.one))

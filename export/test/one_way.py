@@ -264,6 +264,33 @@ class ReceiveOnlyThatIsToSend(Exporting):
             self.assertFalse((device.files / "link").is_symlink())
 
 
+class ReceiveOnlyThatSendsItsDeletion(Exporting):
+    """A device that only receives, on which one file was deleted and another one added; then its folder is made to send, too."""
+
+    kinds = {"two": "receiveonly"}
+
+    def test_what_is_deleted_goes_to_all(self):
+        """The entry of what was added says so, also where only that name is audited."""
+        (self.two.files / "text").unlink()
+        (self.two.files / "added").write_text("added")
+        self.two.start()
+        self.two.scan()
+        self.two.stop()
+        for words in ((), ("--names", "added")):
+            told = " ".join(self.on_homes("check", [device.home for device in self.devices], "--syncaudit", self.auditor, *words).stdout.split())
+            self.assertIn("To have it everywhere, make the folder 'Send & Receive' there (that sends all local changes of the folder, deletions too: put back "
+                          "first what is to stay).", told)
+        self.assertTrue((self.one.files / "text").exists())
+        self.two.configure(self.devices)
+        self.start()
+        self.two.scan()
+        wait_until("what was added is there", (self.one.files / "added").exists)
+        wait_until_in_step(self.one, self.two)
+        self.stop()
+        self.assertFalse((self.one.files / "text").exists())
+        self.assertEqual(self.verdict(), "settled")
+
+
 class SendOnly(Exporting):
     """A device that only sends, and another that changed a file."""
 

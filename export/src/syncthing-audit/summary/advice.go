@@ -198,8 +198,9 @@ func (f *Fault) types() string {
 func behindAdvice(one *Fault, file *File, at string, named labels) string {
 	switch {
 	case one.Kind == sendOnly:
-		return at + " only sends: it doesn't take what others change. 'Override Changes' there undoes their changes " + file.onAll(one.Device, named) + ", and deletes " +
-			"what they added; to take the changes, make the folder 'Send & Receive' there" + file.firstWhereOnlySent(one, at)
+		return at + " only sends: it doesn't take what others change. Choose for the whole folder: 'Override Changes' there undoes their changes " +
+			file.onAll(one.Device, named) + ", and deletes what they added; made 'Send & Receive' there, it takes their changes in place of what stands there" +
+			file.firstWhereOnlySent(one, at)
 	case one.Cause == Conflicting && file.isMissingSomewhere():
 		return "then start Syncthing on all of these devices"
 	case one.Cause == Conflicting && one.Deletion:

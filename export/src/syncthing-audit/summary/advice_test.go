@@ -32,9 +32,10 @@ var advised = []struct {
 	{"changed", faultsOf("send-receive", Changed), "goes to all. If the change isn't wanted, first copy it from laptop", "Revert"},
 	{"not scanned", faultsOf("send-receive", NotScanned), "it then goes to all", "Revert"},
 	{"not scanned on a device that only receives", faultsOf(receiveOnly, NotScanned), "'Revert Local Changes' would delete. To have it everywhere", "goes to all"},
-	{"behind on a device that only sends", faultsOf(sendOnly, Behind), "'Override Changes' there undoes their changes on all devices", "let them finish"},
+	{"behind on a device that only sends", faultsOf(sendOnly, Behind), "Choose for the whole folder: 'Override Changes' there undoes their changes on all devices, and deletes " +
+		"what they added; made 'Send & Receive' there, it takes their changes in place of what stands there", "let them finish"},
 	{"added on a device that only receives", faultsOf(receiveOnly, LocalAddition), "deletes what was added there: copy elsewhere first", "goes to all"},
-	{"changed locally", faultsOf(receiveOnly, LocalChange), "'Send & Receive' there: it is then in conflict with what the others have", "goes to all"},
+	{"changed locally", faultsOf(receiveOnly, LocalChange), "'Send & Receive' there" + sendsAll + ": it is then in conflict with what the others have", "goes to all"},
 	{"deleted locally", []Fault{{Device: server, Kind: receiveOnly, Cause: LocalChange, Deletion: true}}, "added files are deleted", "conflict"},
 	{"back", faultsOf("send-receive", Back), "takes it for a new file and sends it to all", "Revert"},
 }
@@ -77,7 +78,7 @@ func TestAdviceOnRevertingWhatNoOtherDeviceHas(t *testing.T) {
 		{Changed, true, "Don't 'Revert Local Changes' then: that deletes the file: no other device has the folder", "that deletes the files"},
 		{OtherTime, true, "Don't 'Revert Local Changes' then: that deletes the file: no other device has the folder", "that deletes the files"},
 		{LocalChange, true, "'Revert Local Changes' on server deletes the file: no other", "deletes the files"},
-		{LocalAddition, true, "To have it recorded", "To have it recorded"},
+		{LocalAddition, true, "To have it recorded as any other file, make the folder 'Send & Receive' there", "To have it recorded"},
 		{NotScanned, true, "make the folder 'Send & Receive' on server and 'Rescan': it is then recorded", "they are then recorded"},
 		{Missing, true, "doesn't bring it back: look among old versions and backups for the recorded bytes", "doesn't bring them back"},
 		{Missing, false, "brings it back only from a device that has the recorded bytes, and no audited one has", "brings them back only from"},
@@ -86,7 +87,7 @@ func TestAdviceOnRevertingWhatNoOtherDeviceHas(t *testing.T) {
 		for isMany, has := range map[bool]string{false: one.told, true: one.many} {
 			file := &File{Faults: faultsOf(receiveOnly, one.cause), isOwn: one.isOwn, isMany: isMany}
 			told := strings.Join(adviceOf(file, labels{server: "server"}), ". ")
-			if !strings.Contains(told, has) || strings.Contains(told, "everywhere") || regexp.MustCompile("takes back(,|$)|brings \\w+ back;").MatchString(told) {
+			if !strings.Contains(told, has) || strings.Contains(told, "everywhere") || strings.Contains(told, sendsAll) || regexp.MustCompile("takes back(,|$)|brings \\w+ back;").MatchString(told) {
 				t.Errorf("%s: %s", one.cause, told)
 			}
 		}

@@ -140,3 +140,31 @@ func TestAnotherModeOfALocalChange(t *testing.T) {
 		}
 	}
 }
+
+// Whoever is told to make a folder 'Send & Receive' is told that its deletions then go to all, whatever entry says so.
+func TestWhatElseIsSent(t *testing.T) {
+	for why, one := range map[string]struct {
+		row     []*part.Name
+		reasons string
+	}{
+		"added":       {[]*part.Name{nil, local(file(1, 7))}, ""},
+		"not scanned": {[]*part.Name{nil, addedAs(7)}, ""},
+		"changed":     {[]*part.Name{file(2, 1), local(file(1, 7))}, "LocalOnly 2,StoreDiffers 2"},
+		"deleted":     {[]*part.Name{file(2, 1), local(with(with(file(1, 7), again), absent))}, "LocalOnly 2,StoreDiffers 2"},
+	} {
+		text := printed(answerOf(2, func(folder *finding.Folder) {
+			folder.Members[1].About.Kind = receiveOnly
+			switch {
+			case one.reasons != "":
+				fails(folder, "a", one.row, strings.Split(one.reasons, ",")...)
+			case one.row[1].Own != nil:
+				unwon(folder, "a", 1, finding.LocalChange, one.row[1])
+			default:
+				unwon(folder, "a", 1, finding.Unscanned, one.row[1])
+			}
+		}))
+		if !strings.Contains(text, "make the folder 'Send & Receive' there"+sendsAll) {
+			t.Errorf("%s: %s", why, text)
+		}
+	}
+}

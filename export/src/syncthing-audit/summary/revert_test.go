@@ -30,7 +30,7 @@ func TestRevertingWhatTheDeviceChangedBefore(t *testing.T) {
 			[]*part.Name{with(file(2, 1), by2), local(file(1, 7))}, "LocalOnly 2,StoreDiffers 2"},
 		{"changed elsewhere, and never changed here", "copy elsewhere what is to stay. To have", "changed it before",
 			[]*part.Name{file(2, 1), local(file(1, 7))}, "LocalOnly 2,StoreDiffers 2"},
-		{"changed here alone", "make the folder 'Send & Receive' there: it then goes to all, since no other device ever changed it", "in conflict",
+		{"changed here alone", "make the folder 'Send & Receive' there" + sendsAll + ": it then goes to all, since no other device ever changed it", "in conflict",
 			[]*part.Name{by(2, file(1, 1)), local(file(1, 7))}, "LocalOnly 2,StoreDiffers 2"},
 		{"changed on the disk", "which 'Revert Local Changes' takes back. Since server changed it before, Syncthing may keep", "deletes it",
 			[]*part.Name{with(file(2, 1), by2), with(with(file(2, 1), by2), written)}, "StoreDiffers 2,StoreUnclean 2"},

@@ -50,7 +50,7 @@ var ofOneTime = []struct {
 	{"recorded where it is only sent, and goes first", sendOnly, []*part.Name{by(5, file(1, 1)), by(2, file(1, 2))}, "RecordDiffers 1", 0,
 		"server only sends: it keeps what stands there in any case. not compared"},
 	{"recorded where it is only sent, and goes first against the row", sendOnly, []*part.Name{by(5, file(1, 1)), by(2, file(1, 2))}, "RecordDiffers 2", 0,
-		"make the folder 'Send & Receive' there. Both were modified at the same time, and the version of server goes first: the others take it, and keep theirs as a conflict copy, if it is a file. Where"},
+		"in place of what stands there. Both were modified at the same time, and the version of server goes first: the others take it, and keep theirs as a conflict copy, if it is a file. Where"},
 }
 
 // Of changes in conflict that were modified at the same time nobody is told that Syncthing keeps the later one, but whose it keeps.

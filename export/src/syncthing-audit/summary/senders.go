@@ -178,11 +178,17 @@ func (f *File) onAll(from string, named labels) string {
 // sendAndReceive says of which folders the kind is to be another one for all devices to have what one has that only receives.
 func (f *File) sendAndReceive(from string, named labels) string {
 	told, keepers := "make the folder 'Send & Receive' there", f.sharers.keepers(from)
-	if len(keepers) == 0 {
+	switch {
+	case f.isOwn:
 		return told
+	case len(keepers) == 0:
+		return told + sendsAll
 	}
-	return told + ", and on " + named.all(keepers) + say(keepers, ", which only sends", ", which only send")
+	return told + ", and on " + named.all(keepers) + say(keepers, ", which only sends", ", which only send") + sendsAll
 }
+
+// sendsAll says what else a device sends once it doesn't only receive. The record of a deletion has a version above that of what was deleted.
+const sendsAll = " (that sends all local changes of the folder, deletions too: put back first what is to stay)"
 
 // keepOwn says what devices that only send have of a conflict. Where such a device alone has the one change, nobody makes a copy of that.
 func (f *File) keepOwn(isAlone func(device string) bool, named labels) string {

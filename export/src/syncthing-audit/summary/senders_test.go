@@ -147,7 +147,7 @@ func TestWhereTheOtherDeviceOnlySends(t *testing.T) {
 		"changed, one is out":  {[]*part.Name{changedTo(7), file(1, 1)}, "StoreDiffers 1", true, "the change then goes to all but server: server" + keeps},
 		"missing":              {[]*part.Name{with(file(1, 1), absent), file(1, 1)}, "StoreDiffers 1", false, "and then no other device deletes it: server" + keeps},
 		"other bytes":          {[]*part.Name{with(file(1, 1), rotten), file(1, 1)}, "StoreDiffers 1", false, "Syncthing won't repair it: copy it from server"},
-		"added where received": {[]*part.Name{addedAs(7), nil}, "", false, "To have it everywhere, make the folder 'Send & Receive' there, and on server, which only sends."},
+		"added where received": {[]*part.Name{addedAs(7), nil}, "", false, "To have it everywhere, make the folder 'Send & Receive' there, and on server, which only sends" + sendsAll + "."},
 	} {
 		text := toldOf(one.row, one.reasons, 0, 1, func(folder *finding.Folder) {
 			folder.Members[1].About.Kind = sendOnly

@@ -238,7 +238,8 @@ a  (in docs, 300.0 kB)
 added  (in docs, 300.0 kB)
   server: added on this receive-only device; no other has it (modified 2020-09-13 12:26:40 UTC)
   to do: 'Revert Local Changes' on server deletes what was added there: copy elsewhere first what is
-         to stay. To have it everywhere, make the folder 'Send & Receive' there.
+         to stay. To have it everywhere, make the folder 'Send & Receive' there (that sends all
+         local changes of the folder, deletions too: put back first what is to stay).
 ` + lastLine},
 	{"a file that no scan has seen", 2, func(folder *finding.Folder) {
 		unwon(folder, "new", 0, finding.Unscanned, with(file(1, 1), func(one *part.Name) { one.Own = nil; one.Disk.ModifiedS = later }))

@@ -31,7 +31,7 @@ func TestOtherContentsUnderOneVersion(t *testing.T) {
 			fails(folder, "a", one.row, "RecordDiffers 2", "StoreDiffers 2", "ViewAhead 1")
 		})
 		text := printed(answer)
-		for _, has := range append(one.has, "server: has something else under the same version", "first make the folder 'Send & Receive' there") {
+		for _, has := range append(one.has, "server: has something else under the same version", "first make the folder 'Send & Receive' there"+sendsAll) {
 			if !strings.Contains(text, has) {
 				t.Errorf("%s: %q isn't in %s", one.why, has, text)
 			}
