@@ -33,12 +33,13 @@ func damageAdvice(one *Fault, file *File, at string, named labels) string {
 	told := "see the system's log on " + at + " (journalctl -k, smartctl -a): its disk fails there, and may soon fail elsewhere. Save what " +
 		"that disk has and no other device has, and replace it. "
 	if len(file.Have) > 0 {
-		return told + "Then " + copying(one, file, named, afterLoss)
+		told += "Then " + copying(one, file, named, afterLoss)
+	} else {
+		told += "Then bring back what is lost, from another device, old versions or backups"
 	}
-	told += "Before Syncthing starts there, bring back what is lost, from another device, old versions or backups: a scan takes what is " +
-		"missing for deleted"
+	told += ". Don't delete what is damaged, and don't start Syncthing there, before that is done: a scan takes what is missing for deleted"
 	if one.Kind == receiveOnly {
 		return told
 	}
-	return told + file.spread(file.allDelete(one.Device, "it", named), "")
+	return told + file.spread(file.allDelete(one.Device, "that", named), "")
 }

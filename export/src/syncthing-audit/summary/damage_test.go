@@ -20,11 +20,15 @@ const (
          soon fail elsewhere. Save what that disk has and no other device has, and replace it.`
 	copyOfServer = ` Then
          copy what is lost from laptop to server with its time (cp -p, or rsync --times
-         --ignore-times) while Syncthing is stopped there.
+         --ignore-times) while Syncthing is stopped there. Don't delete what is damaged, and don't
+         start Syncthing there, before that is done: a scan takes what is missing for deleted, and
+         then all devices delete that.
 `
-	bringBack = `
-         Before Syncthing starts there, bring back what is lost, from another device, old versions
-         or backups: a scan takes what is missing for deleted, and then all devices delete it.
+	bringBack = ` Then
+         bring back what is lost, from another device, old versions or backups. Don't delete what is
+         damaged, and don't start Syncthing there, before that is done: a scan takes what is missing
+         for deleted`
+	allLoseIt = `, and then all devices delete that.
 `
 )
 
@@ -69,17 +73,14 @@ lost  (in docs)
 	{"a directory", func(folder *finding.Folder) { damaged(folder, "d/", false) }, `
 d/  (in docs)
   server: the disk fails to give what it has; it may be lost there (read d/: input/output error)
-` + damageOfServer + bringBack},
+` + damageOfServer + bringBack + allLoseIt},
 	{"a directory on a device that only receives", func(folder *finding.Folder) {
 		folder.Members[1].About.Kind = receiveOnly
 		damaged(folder, "d/", false)
 	}, `
 d/  (in docs)
   server: the disk fails to give what it has; it may be lost there (read d/: input/output error)
-` + damageOfServer + `
-         Before Syncthing starts there, bring back what is lost, from another device, old versions
-         or backups: a scan takes what is missing for deleted.
-`},
+` + damageOfServer + bringBack + ".\n"},
 }
 
 // What a disk itself fails to give is wrong on that device. Who has the file's bytes is told, and what else is wrong with it.
