@@ -72,7 +72,8 @@ class BothChanged(Rivals):
             self.assert_told(name, IN_CONFLICT + AS_A_COPY)
         self.assert_told("rotten", "before Syncthing scans there (the scan takes these bytes for a change, in conflict with what the others have)")
         for name in ("linked", "directory"):
-            self.assert_told(name, IN_CONFLICT + ONLY_FILES, "It puts nothing in place of a directory that isn't empty")
+            self.assert_told(name, IN_CONFLICT + ONLY_FILES, "It puts nothing in place of a directory that has more than Syncthing's temporary files and what "
+                             ".stignore marks with (?d): these it deletes")
         self.run_both(lambda: all(self.have_all(device) for device in self.devices))
         self.stop()
         for device in self.devices:

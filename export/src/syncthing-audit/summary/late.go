@@ -114,7 +114,7 @@ func (f *File) conflicting(hasNoCopy bool, firsts []string, named labels) string
 	}
 	copied := f.say(", and the other one as a conflict copy", ", and the others as conflict copies")
 	if hasNoCopy {
-		return told + f.copied(copied+" only if "+f.say("it is a file", "they are files")) + ". It puts nothing in place of a directory that isn't empty"
+		return told + f.copied(copied+" only if "+f.say("it is a file", "they are files")) + ". It puts nothing in place of " + fullDirectory
 	}
 	return told + f.copied(copied)
 }
@@ -147,7 +147,7 @@ func lateAdvice(one *Fault, file *File, at string, named labels) string {
 			file.say(". If it isn't wanted, first delete the file there", ". If they aren't wanted, first delete the files there") + " while Syncthing is stopped"
 	case one.Kind == receiveOnly && one.hasNoCopy:
 		return told + takes + " what the others have, and of a symlink or a directory that stands there it keeps no copy: save first what is " +
-			"to stay. It puts nothing in place of a directory that isn't empty"
+			"to stay. It puts nothing in place of " + fullDirectory
 	case one.Kind == receiveOnly:
 		return told + takes + " what the others have" + file.copied(", and keeps what stands there as "+
 			file.say("a conflict copy, a local addition", "conflict copies, local additions"))

@@ -44,8 +44,7 @@ func passedAdvice(one *Fault, file *File, at string) string {
 	case one.Deletion:
 		return told
 	case one.hasNoCopy:
-		return told + ", and of a symlink or a directory that stands there it keeps no copy: save first what is to stay. It puts nothing in place of a " +
-			"directory that isn't empty"
+		return told + ", and of a symlink or a directory that stands there it keeps no copy: save first what is to stay. It puts nothing in place of " + fullDirectory
 	}
 	return told + file.copied(", and keeps what stands there as "+file.say("a conflict copy, a local addition", "conflict copies, local additions"))
 }

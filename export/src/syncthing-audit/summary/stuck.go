@@ -9,7 +9,7 @@ import (
 )
 
 // stuck says where Syncthing gets no further: devices have a file or a symlink in place of a directory, below which others have what Syncthing keeps.
-// It replaces no directory that isn't empty, and puts nothing below what isn't one.
+// It replaces no directory that has what it keeps, and puts nothing below what isn't one.
 type stuck struct {
 	directory string
 	devices   []string // that have something else there
@@ -106,7 +106,7 @@ func (s *stuck) advice(named labels) string {
 	}
 	at := named.all(s.devices)
 	return "Syncthing " + gets + " here, and lists 'Failed Items': on " + at + " " + strings.Join(s.types, " or ") + " stands in place of the directory " +
-		shell.Path(s.directory) + ", below which other devices have what it keeps. It replaces no directory that isn't empty, and puts nothing below what isn't one. " +
+		shell.Path(s.directory) + ", below which other devices have what it keeps. It puts nothing below what isn't a directory, and nothing in place of " + fullDirectory + ". " +
 		"To have the directory, move what stands in its place out of the folder on " + at + ", and let Syncthing scan there. To have what stands in its place, move the " +
 		"directory out of the folder on each device that has it, and let Syncthing scan there"
 }
