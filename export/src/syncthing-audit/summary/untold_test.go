@@ -38,7 +38,7 @@ func TestChangesThatNobodyTells(t *testing.T) {
 			folder.Members[1].About.Views = []part.View{one.view}
 			fails(folder, "a", []*part.Name{newest(), one.has}, reason, "StoreDiffers 2")
 		}))
-		if strings.Contains(text, "start it there once by 'syncthing serve --reset-deltas'") != one.isFor || strings.Contains(text, "let them finish") == one.isFor {
+		if strings.Contains(text, "start it there once by 'syncthing serve --reset-deltas', as the same user and with the same --home, --config and --data as ever.") != one.isFor || strings.Contains(text, "let them finish") == one.isFor {
 			t.Errorf("%s: %s", one.why, text)
 		}
 	}
