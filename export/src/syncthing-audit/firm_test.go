@@ -9,6 +9,7 @@ import (
 
 	"golang.org/x/exp/slices"
 	"syncthing-audit/ask"
+	"syncthing-audit/choice"
 	"syncthing-audit/device"
 	"syncthing-audit/finding"
 	"syncthing-audit/join"
@@ -152,6 +153,46 @@ func TestMeaning(t *testing.T) {
 	if err != nil || !strings.Contains(string(manual), "\n.SH WHAT AN ANSWER MEANS\n") {
 		t.Error("the man page hasn't the section that is told")
 	}
+}
+
+// Nothing is promised where names or devices weren't audited, also where a command asked for some names alone. It is said of folders in step.
+func TestMeaningOfAPart(t *testing.T) {
+	of := func(change func(folder *finding.Folder)) *finding.Folder {
+		made := &finding.Folder{ID: "docs", Firmness: finding.Firmness{Asked: true}, Members: make([]join.Member, 2)}
+		for place := range made.Members {
+			made.Members[place].Device = join.NewDevice(headAlone{&part.Head{}}, "")
+		}
+		change(made)
+		return made
+	}
+	slice := of(func(folder *finding.Folder) { folder.Members[0].Head.Names = choice.Names{Slice: 1, Slices: 7} })
+	whole := of(func(*finding.Folder) {})
+	for words, one := range map[string]struct {
+		answer finding.Answer
+		isTold bool
+	}{
+		"whole":              {finding.Answer{Folders: []*finding.Folder{whole}}, false},
+		"a slice":            {finding.Answer{Folders: []*finding.Folder{slice}}, true},
+		"a slice by choice":  {finding.Answer{Folders: []*finding.Folder{whole, slice}, ByNames: true}, true},
+		"a name":             {finding.Answer{Folders: []*finding.Folder{of(func(folder *finding.Folder) { folder.LeftOut = []*finding.LeftOut{{Name: "a"}} })}}, true},
+		"a name in motion":   {finding.Answer{Folders: []*finding.Folder{of(func(folder *finding.Folder) { folder.Live = &finding.Live{Moving: 1} })}}, true},
+		"one device alone":   {finding.Answer{Folders: []*finding.Folder{of(func(folder *finding.Folder) { folder.Members = folder.Members[:1] })}}, true},
+		"its one device":     {finding.Answer{Folders: []*finding.Folder{of(func(folder *finding.Folder) { folder.Members, folder.Own = folder.Members[:1], "A" })}}, false},
+		"a device":           {finding.Answer{Folders: []*finding.Folder{whole}, LeftOut: []finding.Refusal{{Folder: "docs"}}}, true},
+		"of another folder":  {finding.Answer{Folders: []*finding.Folder{whole}, LeftOut: []finding.Refusal{{Folder: "photos"}}}, false},
+		"what isn't in step": {finding.Answer{Folders: []*finding.Folder{failedSlice(slice)}}, false},
+	} {
+		if told := meaningOf(&one.answer); strings.Contains(told, butAPart) != one.isTold {
+			t.Errorf("%s: %q", words, told)
+		}
+	}
+}
+
+// failedSlice gives a folder that isn't in step, with the names of another one.
+func failedSlice(like *finding.Folder) *finding.Folder {
+	made := &finding.Folder{ID: like.ID, Firmness: like.Firmness, Members: like.Members}
+	made.Failures.Add(finding.Failure{Reason: "StoreDiffers", Name: "a", Device: 1})
+	return made
 }
 
 // A program that is too old to be asked leaves an answer as it was, and says that.

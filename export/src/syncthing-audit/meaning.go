@@ -14,6 +14,9 @@ they adopt a record, as Syncthing does not ('man syncthing-audit', under WHAT AN
 	meaningOfFirm = `What is firm stays as it is with all peers that keep a few rules. That Syncthing keeps them is argued, and
 not proved ('man syncthing-audit', under WHAT AN ANSWER MEANS).
 `
+	butAPart = `But names or devices weren't audited, and may still change what was: such a device sends other records, and a pull of
+such a name writes or removes conflict copies. That it stays so is said only of a folder that was audited whole.
+`
 	butPermissions = `But there are permissions on a disk that aren't as recorded: the next scan records them.
 `
 	butAttributes = `But there are folders whose scans look at owners or extended attributes. These aren't compared, and the next scan
@@ -47,7 +50,20 @@ func meaningOf(answer *finding.Answer) string {
 			text += butAttributes
 		}
 	}
+	if promisesAPart(answer) {
+		text += butAPart
+	}
 	return text
+}
+
+// promisesAPart says whether names or devices of a folder in step weren't audited, whoever chose that: so nothing is promised of the others.
+func promisesAPart(answer *finding.Answer) bool {
+	for _, folder := range answer.Folders {
+		if !folder.HasFailures() && !answer.IsWhole(folder) {
+			return true
+		}
+	}
+	return false
 }
 
 // hasScannedAttributes says whether scans look at owners or extended attributes somewhere, in a folder that is in step.

@@ -187,10 +187,18 @@ func (a *Answer) IsApart(folder *Folder) bool {
 	return false
 }
 
-// IsPart says whether something of the folder wasn't audited: a name, a device, or all other devices. Of one that its device shares with
-// nobody there is no other one, but where others have theirs of the same id.
+// IsPart says whether something of the folder wasn't audited, and nobody chose that: a name, a device, or all other devices. Of one that its
+// device shares with nobody there is no other one, but where others have theirs of the same id. Records on their way weren't audited, either.
 func (a *Answer) IsPart(folder *Folder) bool {
-	if a.IsApart(folder) || len(folder.LeftOut) > 0 || (len(folder.Members) < 2 && folder.Own == "") || folder.Live.isPart() || (!folder.Asked().IsAll() && !a.ByNames) {
+	return a.IsApart(folder) || a.lacksSome(folder) || folder.Live.isOnItsWay() || (!folder.Asked().IsAll() && !a.ByNames)
+}
+
+// IsWhole says whether all names of the folder were audited, on all devices that share it.
+func (a *Answer) IsWhole(folder *Folder) bool { return !a.lacksSome(folder) && folder.Asked().IsAll() }
+
+// lacksSome says whether a name or a device of the folder was left out, or a name was in motion.
+func (a *Answer) lacksSome(folder *Folder) bool {
+	if len(folder.LeftOut) > 0 || (len(folder.Members) < 2 && folder.Own == "") || folder.Live.isMoving() {
 		return true
 	}
 	for _, one := range a.LeftOut {

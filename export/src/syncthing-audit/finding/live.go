@@ -30,8 +30,11 @@ type Unheard struct {
 	Names      int64
 }
 
-// isPart says whether something isn't known of a folder that was audited while its devices ran.
-func (l *Live) isPart() bool { return l != nil && (l.Moving > 0 || len(l.Unheard) > 0) }
+// isMoving says whether names of a folder that was audited while its devices ran weren't audited.
+func (l *Live) isMoving() bool { return l != nil && l.Moving > 0 }
+
+// isOnItsWay says whether records of such a folder may be on their way.
+func (l *Live) isOnItsWay() bool { return l != nil && len(l.Unheard) > 0 }
 
 // AddMoving adds a name that changed; the first MostListed are told by name.
 func (l *Live) AddMoving(one Moving) {
