@@ -29,6 +29,8 @@ type Walker struct {
 	Names  choice.Names  // those that are read
 	Stamps bool          // stand in the nodes, too
 	Take   func(Found) error
+
+	Temporary part.Count // names that were met and passed over, since Syncthing takes them for its temporary files
 }
 
 // Walk reads all names, rising byte by byte as the names of an index do.
@@ -81,7 +83,7 @@ func insert(names []string, name string) []string {
 }
 
 // visit reads what stands under a name, and says whether names below it are to be read. What Syncthing keeps for itself
-// and its temporary files are passed over, as its scanner does.
+// is passed over, as its scanner does. So are its temporary files. A user's file may have such a name, too, so they are counted.
 func (w *Walker) visit(name string) (bool, error) {
 	if fs.IsInternal(name) {
 		return false, nil
@@ -90,12 +92,24 @@ func (w *Walker) visit(name string) (bool, error) {
 	if err != nil {
 		return false, w.Take(Found{Name: name, Out: outOf("it", err)})
 	}
-	if w.Names.Has(w.Folder, name) && !fs.IsTemporary(name) {
+	switch {
+	case !w.Names.Has(w.Folder, name):
+	case fs.IsTemporary(name):
+		w.Temporary.Add(1, bytesOf(info))
+	default:
 		if err := w.Take(w.found(name, info)); err != nil {
 			return false, err
 		}
 	}
 	return info.IsDir() && w.Names.MayHold(name), nil
+}
+
+// bytesOf gives the bytes of a file; a directory has none.
+func bytesOf(info fs.FileInfo) int64 {
+	if !info.IsRegular() {
+		return 0
+	}
+	return info.Size()
 }
 
 // found reads a node, and says why a document has none such.

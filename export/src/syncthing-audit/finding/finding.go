@@ -77,13 +77,7 @@ const MostListed = 10000
 type Unlisted struct{ Conflicts, LeftOut Count }
 
 // Count is of names.
-type Count struct{ Names, Bytes int64 }
-
-// Add counts more names.
-func (c *Count) Add(names, bytes int64) {
-	c.Names += names
-	c.Bytes += bytes
-}
+type Count = part.Count
 
 // Failure is a reason why a folder isn't settled, at a name and, from RecordMissing on, a device.
 type Failure struct {

@@ -87,6 +87,7 @@ func (d *Device) names(folder Folder, about *part.Folder, end *part.End, sink pa
 	for {
 		next, err := found.next()
 		if next == nil {
+			end.Temporary = &merging.walker.Temporary
 			return err
 		}
 		line := next.finish()

@@ -29,6 +29,8 @@ type Member struct {
 	*Device
 	About *part.Folder
 	Near  int64 // how many of its files have another time than recorded, which its Syncthing takes for the same
+
+	Temporary *part.Count // its names that Syncthing takes for its temporary files, as far as its part tells them
 }
 
 // Folder is a folder with those of its devices that are audited, their numbers rising.
@@ -236,11 +238,13 @@ func (m *Member) takeTime(one *part.Name) {
 // finish takes the ends of a folder.
 func (f *Folder) finish() (int64, error) {
 	total := int64(0)
-	for _, one := range f.Members {
+	for place := range f.Members {
+		one := &f.Members[place]
 		end, err := one.end(one.About)
 		if err != nil {
 			return 0, err
 		}
+		one.Temporary = end.Temporary
 		total += end.Bytes
 	}
 	return total, nil

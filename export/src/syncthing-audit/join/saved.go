@@ -12,10 +12,12 @@ type savedMember struct {
 	From  string
 	About *part.Folder
 	Near  int64 `json:",omitempty"`
+
+	Temporary *part.Count `json:",omitempty"`
 }
 
 func (m Member) MarshalJSON() ([]byte, error) {
-	return json.Marshal(savedMember{m.Head, m.From, m.About, m.Near})
+	return json.Marshal(savedMember{m.Head, m.From, m.About, m.Near, m.Temporary})
 }
 
 func (m *Member) UnmarshalJSON(text []byte) error {
@@ -27,6 +29,6 @@ func (m *Member) UnmarshalJSON(text []byte) error {
 	if read.Head != nil {
 		m.Number = read.Head.Number()
 	}
-	m.About, m.Near = read.About, read.Near
+	m.About, m.Near, m.Temporary = read.About, read.Near, read.Temporary
 	return nil
 }

@@ -72,6 +72,9 @@ func unchanged(*part.Name) {}
 
 // joined gives the names of both looks.
 func joined(t *testing.T, first, second *lines) []*part.Name {
+	// What the second look counts is told: as long as Syncthing runs, its temporary files come and go.
+	temporary := &part.Count{Names: 1}
+	second.rest[len(second.rest)-1].End.Temporary = temporary
 	stream, err := Join(first, second)
 	if err != nil {
 		t.Fatal(err)
@@ -88,8 +91,8 @@ func joined(t *testing.T, first, second *lines) []*part.Name {
 		if line.Name != nil {
 			names = append(names, line.Name)
 		}
-		if line.End != nil && line.End.Names != int64(len(names)) {
-			t.Errorf("the end counts %d names, not %d", line.End.Names, len(names))
+		if line.End != nil && (line.End.Names != int64(len(names)) || line.End.Temporary != temporary) {
+			t.Errorf("the end counts %d names, not %d, and %v temporary ones", line.End.Names, len(names), line.End.Temporary)
 		}
 	}
 }

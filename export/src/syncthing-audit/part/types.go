@@ -137,6 +137,20 @@ type End struct {
 	Bytes  int64  `json:"bytes"`          // that were hashed
 	Max    int64  `json:"max"`            // the greatest sequence now, to be that of the head
 	Last   bool   `json:"last,omitempty"` // no folder follows
+
+	Temporary *Count `json:"temporary,omitempty"` // names that Syncthing takes for its temporary files; nothing where an older program made the part
+}
+
+// Count is of names.
+type Count struct {
+	Names int64 `json:"names"`
+	Bytes int64 `json:"bytes"`
+}
+
+// Add counts more names.
+func (c *Count) Add(names, bytes int64) {
+	c.Names += names
+	c.Bytes += bytes
 }
 
 // Name is all that the device has of one name.

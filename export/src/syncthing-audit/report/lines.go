@@ -69,6 +69,9 @@ func Rest(to io.Writer, answer *finding.Answer) {
 			if one.Near > 0 {
 				fmt.Fprintf(to, "times taken for the same: %s %d files on %d, by less than %d s\n", folder.ID, one.Near, one.Number, one.About.TimeWindow)
 			}
+			if count := one.Temporary; count != nil && count.Names > 0 {
+				fmt.Fprintf(to, "temporary: %s %d names, %d bytes on %d\n", folder.ID, count.Names, count.Bytes, one.Number)
+			}
 		}
 	}
 	for _, folder := range answer.Folders {

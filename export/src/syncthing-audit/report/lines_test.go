@@ -275,6 +275,17 @@ func TestLineOfNearTimes(t *testing.T) {
 	}
 }
 
+// So has each device with names that Syncthing takes for its temporary files.
+func TestLineOfTemporaryNames(t *testing.T) {
+	var written strings.Builder
+	folder := folderOf("docs", 2)
+	folder.Members[0].Temporary, folder.Members[1].Temporary = &part.Count{}, &part.Count{Names: 2, Bytes: 9}
+	Lines(&written, &finding.Answer{Folders: []*finding.Folder{folder}})
+	if !strings.HasSuffix(written.String(), "\ntemporary: docs 2 names, 9 bytes on 2\n") || strings.Count(written.String(), "temporary") != 1 {
+		t.Error(written.String())
+	}
+}
+
 // And so has each index that Syncthing is to repair, also where the answer is a refusal.
 func TestLineOfAnIndexThatIsToBeRepaired(t *testing.T) {
 	devices := []finding.Device{{ID: "A", Number: 1}, {ID: "B", Number: 2, ToRepair: true}}

@@ -105,6 +105,22 @@ func TestTimesThatAreNear(t *testing.T) {
 	}
 }
 
+// Names that Syncthing takes for its temporary files are told of the devices that have some, and the verdict stays.
+func TestTemporaryNames(t *testing.T) {
+	answer := answerOf(2, func(folder *finding.Folder) {
+		folder.Members[0].Temporary, folder.Members[1].Temporary = &part.Count{}, &part.Count{Names: 2, Bytes: 3100}
+	})
+	const told = " outside docs: 2 names, 3.1 kB on server, which Syncthing takes for its temporary files ('.syncthing.*', '~syncthing~*'): it never sends such names, " +
+		"and its scans delete such files once they are a day old, or as 'keepTemporariesH' says "
+	if text := printed(answer); !strings.HasPrefix(text, "docs (Documents): in step") || !strings.Contains(text, told) || strings.Count(text, "outside") != 1 {
+		t.Error(text)
+	}
+	made, err := json.Marshal(Of(answer).Folders[0].Devices)
+	if err != nil || strings.Count(string(made), `"temporary"`) != 1 || !strings.Contains(string(made), `"temporary":{"names":2,"bytes":3100}`) {
+		t.Errorf("%s, %v", made, err)
+	}
+}
+
 // An index that Syncthing is to repair is told, and the verdict stays.
 func TestAnIndexThatIsToBeRepaired(t *testing.T) {
 	answer := answerOf(2, func(*finding.Folder) {})

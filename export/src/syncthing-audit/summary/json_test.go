@@ -36,6 +36,7 @@ func full(folder *finding.Folder) {
 	folder.Members[0].About.Indexed = 1001
 	folder.Members[0].About.Writers = []string{"folder photos"}
 	folder.Members[0].About.TimeWindow, folder.Members[0].Near = 2, 3
+	folder.Members[0].Temporary = &part.Count{Names: 2, Bytes: 9}
 }
 
 // What is written is what the schema says, and what the schema says is looked at: a document of other words is none.

@@ -17,6 +17,7 @@ func (p *printer) rest(s *Summary) {
 		p.moving(folder)
 		p.copies(folder)
 		p.leftOut(folder)
+		p.temporary(folder)
 		if len(folder.Devices) < 2 && !folder.Own {
 			p.line("alone: %s is audited on one device, so there is nothing to compare it with", folder.ID)
 		}
@@ -168,6 +169,17 @@ func (p *printer) leftOut(folder *Folder) {
 	if folder.Ignored.Names > 0 {
 		p.line("outside %s: %s, %s, which .stignore keeps out on each device that has them", folder.ID,
 			counted(folder.Ignored.Names, "name", "names"), size(folder.Ignored.Bytes))
+	}
+}
+
+// temporary prints how many names Syncthing takes for its temporary files. Some may be a user's own.
+func (p *printer) temporary(folder *Folder) {
+	for _, one := range folder.Devices {
+		if one.Temporary != nil {
+			p.line("outside %s: %s, %s on %s, which Syncthing takes for its temporary files ('.syncthing.*', '~syncthing~*'): it never sends such names, "+
+				"and its scans delete such files once they are a day old, or as 'keepTemporariesH' says", folder.ID,
+				counted(one.Temporary.Names, "name", "names"), size(one.Temporary.Bytes), p.named.of(one.Device))
+		}
 	}
 }
 

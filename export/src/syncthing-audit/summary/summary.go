@@ -104,6 +104,7 @@ type Member struct {
 	Writers       []string `json:"writers,omitempty"`        // what else of Syncthing writes into the directory
 	Window        int64    `json:"time_window,omitempty"`    // in seconds
 	Near          int64    `json:"near_times,omitempty"`     // files with other times than recorded within that
+	Temporary     *Count   `json:"temporary,omitempty"`      // names that Syncthing takes for its temporary files, where there are any
 }
 
 func memberOf(one join.Member) Member {
@@ -111,6 +112,9 @@ func memberOf(one join.Member) Member {
 	if one.About != nil {
 		made.Path, made.Indexed, made.Paused, made.PausedDevices = one.About.Path, one.About.Indexed, one.About.Paused, one.About.PausedDevices
 		made.Writers, made.Window, made.Near = one.About.Writers, one.About.TimeWindow, one.Near
+	}
+	if one.Temporary != nil && one.Temporary.Names > 0 {
+		made.Temporary = &Count{one.Temporary.Names, one.Temporary.Bytes}
 	}
 	return made
 }

@@ -1,0 +1,30 @@
+package join
+
+import (
+	"encoding/json"
+	"testing"
+
+	"syncthing-audit/part"
+)
+
+// A member keeps its counts where an export saves it. One that an older program saved doesn't tell them.
+func TestSavedMember(t *testing.T) {
+	made := Member{Device: NewDevice(silent{&part.Head{Device: "A"}}, "a.part"), Near: 3, Temporary: &part.Count{Names: 2, Bytes: 9}}
+	text, err := json.Marshal(made)
+	if err != nil {
+		t.Fatal(err)
+	}
+	var read, old Member
+	if err := json.Unmarshal(text, &read); err != nil || read.Head.Device != "A" || read.From != "a.part" || read.Near != 3 || *read.Temporary != *made.Temporary {
+		t.Errorf("%s: %+v, %v", text, read, err)
+	}
+	if err := json.Unmarshal([]byte(`{"Head":{"device":"A"},"From":"a.part","About":null}`), &old); err != nil || old.Temporary != nil || old.Near != 0 {
+		t.Errorf("%+v, %v", old, err)
+	}
+}
+
+// silent is a part without lines.
+type silent struct{ head *part.Head }
+
+func (s silent) Head() *part.Head         { return s.head }
+func (s silent) Next() (part.Line, error) { panic("no line is asked for") }
