@@ -6,4 +6,10 @@ import (
 )
 
 // About reads whose home a directory is, and how it is configured. No index is read.
-func About(dir string) (protocol.DeviceID, config.Configuration, error) { return readAbout(dir) }
+func About(dir string) (protocol.DeviceID, config.Configuration, error) {
+	read, err := readAbout(dir)
+	if err != nil {
+		return protocol.DeviceID{}, config.Configuration{}, err
+	}
+	return read.ID, read.Config, nil
+}

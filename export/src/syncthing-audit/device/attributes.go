@@ -1,19 +1,11 @@
 package device
 
-import (
-	"encoding/xml"
-	"fmt"
-	"os"
-)
+import "encoding/xml"
 
 // attributesIn gives the folders in which scans look at owners or extended attributes, by their ids. Such a scan hashes each
 // file whose inode changed, also where size and time are as recorded. Syncthing 1.19 has no such scans, and its packages
 // don't read these options.
-func attributesIn(path string) (map[string]bool, error) {
-	text, err := os.ReadFile(path)
-	if err != nil {
-		return nil, err
-	}
+func attributesIn(text []byte) (map[string]bool, error) {
 	var read struct {
 		Folders []struct {
 			ID            string `xml:"id,attr"`
@@ -24,7 +16,7 @@ func attributesIn(path string) (map[string]bool, error) {
 		} `xml:"folder"`
 	}
 	if err := xml.Unmarshal(text, &read); err != nil {
-		return nil, fmt.Errorf("%s: %w", path, err)
+		return nil, err
 	}
 	made := map[string]bool{}
 	for _, one := range read.Folders {

@@ -68,15 +68,12 @@ func Open(dir, data string) (*Home, error) {
 
 // openWith reads a home and has its index opened.
 func openWith(dir, data string, open func(*Home) error) (*Home, error) {
-	id, read, err := readAbout(dir)
+	opened, err := readAbout(dir)
 	if err != nil {
 		return nil, err
 	}
-	opened := &Home{Dir: dir, data: data, ID: id, Config: read}
+	opened.data = data
 	if err := checkOne(opened.dataDirectory()); err != nil {
-		return nil, err
-	}
-	if opened.attributes, err = attributesIn(filepath.Join(dir, "config.xml")); err != nil {
 		return nil, err
 	}
 	err = open(opened)
@@ -125,17 +122,29 @@ func CheckIndex(dir, data string) error {
 // HasIndex says whether a directory has an index, as a home has it beside its configuration.
 func HasIndex(dir string) bool { return isThere(dir, databaseName) || isThere(dir, indexOfTwo) }
 
-// readAbout reads whose home a directory is, and how it is configured.
-func readAbout(dir string) (protocol.DeviceID, config.Configuration, error) {
+// readAbout reads whose home a directory is, and how it is configured. The configuration is read once: a Syncthing that runs may put another one in its
+// place between.
+func readAbout(dir string) (*Home, error) {
 	id, err := readDeviceID(filepath.Join(dir, "cert.pem"))
 	if err != nil {
-		return id, config.Configuration{}, withHint(err)
+		return nil, withHint(err)
 	}
 	if err := checkOne(dir); err != nil {
-		return id, config.Configuration{}, err
+		return nil, err
 	}
-	read, err := readConfig(filepath.Join(dir, "config.xml"), id)
-	return id, read, err
+	path := filepath.Join(dir, "config.xml")
+	text, err := os.ReadFile(path)
+	if err != nil {
+		return nil, err
+	}
+	made := &Home{Dir: dir, ID: id}
+	if made.Config, err = readConfig(path, text, id); err != nil {
+		return nil, err
+	}
+	if made.attributes, err = attributesIn(text); err != nil {
+		return nil, fmt.Errorf("%s: %w", path, err)
+	}
+	return made, nil
 }
 
 // withHint says beside why a home can't be read what that may come from.
@@ -169,7 +178,7 @@ func isThere(dir, place string) bool {
 
 // ReadConfig reads the configuration of a home.
 func ReadConfig(dir string) (config.Configuration, error) {
-	_, read, err := readAbout(dir)
+	_, read, err := About(dir)
 	return read, err
 }
 
@@ -228,12 +237,8 @@ func readDeviceID(path string) (protocol.DeviceID, error) {
 	return protocol.NewDeviceID(block.Bytes), nil
 }
 
-// readConfig reads a device's configuration.
-func readConfig(path string, id protocol.DeviceID) (config.Configuration, error) {
-	text, err := os.ReadFile(path)
-	if err != nil {
-		return config.Configuration{}, err
-	}
+// readConfig reads a device's configuration of the text that was at a path.
+func readConfig(path string, text []byte, id protocol.DeviceID) (config.Configuration, error) {
 	var head struct {
 		Version int `xml:"version,attr"`
 	}
