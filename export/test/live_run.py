@@ -126,7 +126,8 @@ cd "{room}/$machine/user" && HOME=$PWD PATH={programs}:$PATH exec sh -c "$*"
             self.two.start()
             wait_until_in_step(*self.devices)
         self.assertEqual((ran.returncode, ran.stdout), (2, ""))
-        self.assertIn("does Syncthing run there?", ran.stderr)
+        self.assertIn(f"refused: no Syncthing runs on {self.two.home}: none holds the lock of", ran.stderr)
+        self.assert_no_look()
 
     def test_a_scan_of_a_paused_folder_is_refused(self):
         """It is told what to do, before any device scans or hashes."""

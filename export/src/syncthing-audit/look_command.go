@@ -1,6 +1,7 @@
 package main
 
 import (
+	"errors"
 	"fmt"
 	"io"
 	"os"
@@ -47,11 +48,6 @@ func beginPart(asked options, write writing, output, log io.Writer) error {
 	if asked.heeds {
 		heedInput(log)
 	}
-	if asked.rescan {
-		if err := rescan(asked); err != nil {
-			return err
-		}
-	}
 	from, err := openLive(asked, log)
 	if err != nil {
 		return err
@@ -78,9 +74,12 @@ func beginPart(asked options, write writing, output, log io.Writer) error {
 	return err
 }
 
-// openLive opens the home of a device that may run, by the index that its Syncthing writes to.
+// openLive opens the home of a device that may run, by the index that its Syncthing writes to, and has it scan first where that is asked for.
 func openLive(asked options, log io.Writer) (*source, error) {
 	isOwn, err := findIndex(asked, log)
+	if err == nil && asked.rescan {
+		err = rescan(asked)
+	}
 	if err != nil {
 		return nil, err
 	}
@@ -93,7 +92,8 @@ func openLive(asked options, log io.Writer) (*source, error) {
 }
 
 // findIndex finds where the index of a device is that may run, and whether Syncthing is known to write to it. What is named is taken. Where
-// that isn't said, an index beside the configuration is taken but for one that is known to be another's.
+// that isn't said, an index beside the configuration is taken but for one that is known to be another's. Where that is locked, Syncthing writes to
+// it, and isn't asked.
 func findIndex(asked options, log io.Writer) (bool, error) {
 	if asked.data[0] != "" {
 		return false, nil
@@ -107,7 +107,10 @@ func findIndex(asked options, log io.Writer) (bool, error) {
 		asked.data[0] = askedWhere(home, about.GUI, log)
 		return asked.data[0] != "", nil
 	}
-	isOwn, isKnown := isWrittenTo(home, about.GUI)
+	if device.IsHeld(home) {
+		return true, nil
+	}
+	isOwn, isKnown := isWrittenTo(home, about.GUI, log)
 	if isOwn || !isKnown {
 		return isOwn, nil
 	}
@@ -117,8 +120,11 @@ func findIndex(asked options, log io.Writer) (bool, error) {
 
 // isWrittenTo says whether Syncthing has written to the index beside a home's configuration since it was started, as it does to its own, and
 // whether that is known: it isn't where Syncthing doesn't say when that was.
-func isWrittenTo(home string, about config.GUIConfiguration) (isOwn, isKnown bool) {
-	started, err := rest.Started(home, about)
+func isWrittenTo(home string, about config.GUIConfiguration, log io.Writer) (isOwn, isKnown bool) {
+	started, err := rest.Syncthing{Home: home, GUI: about}.Started()
+	if errors.Is(err, rest.ErrStranger) {
+		fmt.Fprintf(log, "syncthing-audit: %s: Syncthing can't be asked when it was started: %v\n", home, err)
+	}
 	if err != nil {
 		return false, false
 	}
@@ -127,7 +133,7 @@ func isWrittenTo(home string, about config.GUIConfiguration) (isOwn, isKnown boo
 
 // askedWhere asks Syncthing where its database is, and tells why it can't be asked.
 func askedWhere(home string, about config.GUIConfiguration, log io.Writer) string {
-	data, err := rest.DataDirectory(home, about)
+	data, err := rest.Syncthing{Home: home, GUI: about}.DataDirectory()
 	if err != nil {
 		fmt.Fprintf(log, "syncthing-audit: Syncthing can't be asked where its database is: %v\n", err)
 	}
@@ -136,7 +142,7 @@ func askedWhere(home string, about config.GUIConfiguration, log io.Writer) strin
 
 // whereElse asks Syncthing where its database is, since the index beside a home's configuration isn't its own.
 func whereElse(home string, about config.GUIConfiguration) (string, error) {
-	data, err := rest.DataDirectory(home, about)
+	data, err := rest.Syncthing{Home: home, GUI: about}.DataDirectory()
 	if err != nil {
 		return "", fmt.Errorf("refused: %s: Syncthing runs, and it hasn't written to the index there since it was started: it has its database elsewhere. "+
 			"Name that behind the home as --data DIR. It can't be asked where it is: %w", home, err)

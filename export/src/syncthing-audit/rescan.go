@@ -20,15 +20,18 @@ func rescan(asked options) error {
 		return err
 	}
 	for _, one := range chosenOf(about, asked.folders) {
-		if err := rest.Scan(asked.homes[0], about.GUI, one.ID, one.Label); err != nil {
+		if err := (rest.Syncthing{Home: asked.homes[0], Data: asked.data[0], GUI: about.GUI}).Scan(one.ID, one.Label); err != nil {
 			return fmt.Errorf("refused: %s: %w", asked.homes[0], err)
 		}
 	}
 	return nil
 }
 
-// checkScannable says which folder is paused, before any of them is scanned: Syncthing scans none such.
+// checkScannable says whether no Syncthing runs that could scan, and which folder is paused, before any of them is scanned: Syncthing scans none such.
 func checkScannable(about config.Configuration, asked options) error {
+	if err := device.CheckRuns(asked.homes[0], asked.data[0]); err != nil {
+		return fmt.Errorf("%w. So nothing is scanned there: start it, or audit without --rescan", err)
+	}
 	for _, one := range chosenOf(about, asked.folders) {
 		if one.Paused {
 			return fmt.Errorf("refused: %s: folder %s is paused there, and Syncthing doesn't scan it: resume it on Syncthing's page, audit it without "+

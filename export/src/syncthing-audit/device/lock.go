@@ -1,26 +1,79 @@
 package device
 
 import (
+	"errors"
 	"fmt"
 	"io"
 	"os"
 	"path/filepath"
+	"strconv"
+	"strings"
 	"syscall"
 )
+
+// nameOfLock is the file of an index on which a running Syncthing has a lock alone.
+const nameOfLock = "LOCK"
+
+// errHeld says that a Syncthing has it.
+var errHeld = errors.New("its index is locked")
 
 // lockShared takes a shared lock on the file that a running Syncthing holds alone. While it is held, no Syncthing can
 // start on that home; closing the file gives it back.
 func lockShared(home, database string) (*os.File, error) {
-	file, err := os.Open(filepath.Join(database, "LOCK"))
+	file, err := os.Open(filepath.Join(database, nameOfLock))
 	if err != nil {
 		return nil, err
 	}
-	if err := syscall.Flock(int(file.Fd()), syscall.LOCK_SH|syscall.LOCK_NB); err != nil {
-		file.Close()
-		return nil, fmt.Errorf("refused: Syncthing runs on %s (its index is locked). Stop it, which pausing it or its "+
-			"folders doesn't do; or give --home a copy of the home that was made while it was stopped", home)
+	err = syscall.Flock(int(file.Fd()), syscall.LOCK_SH|syscall.LOCK_NB)
+	if err == nil {
+		return file, nil
 	}
-	return file, nil
+	file.Close()
+	if errors.Is(err, syscall.EWOULDBLOCK) {
+		return nil, fmt.Errorf("refused: Syncthing runs on %s (%w). Stop it, which pausing it or its "+
+			"folders doesn't do; or give --home a copy of the home that was made while it was stopped", home, errHeld)
+	}
+	return nil, fmt.Errorf("refused: %s: its index can't be locked: %w", home, err)
+}
+
+// IsHeld says whether a Syncthing runs on the index in a directory, by its lock. The lock is tried, since /proc/locks shows other device numbers than
+// files of btrfs have, and no locks from outside a container. A Syncthing that starts at that very moment fails, and its monitor starts it again
+// after a second.
+func IsHeld(dir string) bool {
+	lock, err := lockShared(dir, filepath.Join(dir, databaseName))
+	if err == nil {
+		lock.Close()
+	}
+	return errors.Is(err, errHeld)
+}
+
+// CheckRuns refuses a home on whose index no Syncthing runs.
+func CheckRuns(dir, data string) error {
+	home := &Home{Dir: dir, data: data}
+	if err := CheckIndex(dir, data); err != nil {
+		return err
+	}
+	if !IsHeld(home.dataDirectory()) {
+		return fmt.Errorf("refused: no Syncthing runs on %s: none holds the lock of %s", dir, home.database())
+	}
+	return nil
+}
+
+// HoldsIndex says whether a process is seen to have the lock of an index open.
+func HoldsIndex(process int) bool {
+	return HasOpen(process, func(target string) bool { return strings.HasSuffix(target, "/"+databaseName+"/"+nameOfLock) })
+}
+
+// HasOpen says whether a process is seen to have something open. Only its user and root see that.
+func HasOpen(process int, is func(target string) bool) bool {
+	directory := filepath.Join("/proc", strconv.Itoa(process), "fd")
+	entries, _ := os.ReadDir(directory)
+	for _, one := range entries {
+		if target, err := os.Readlink(filepath.Join(directory, one.Name())); err == nil && is(target) {
+			return true
+		}
+	}
+	return false
 }
 
 // copyFiles copies the files of one directory, and none of its subdirectories, to another.

@@ -23,17 +23,32 @@ import (
 	"syncthing-audit/shell"
 )
 
-// Scan has the Syncthing of a home scan a folder, and waits until that is done.
-func Scan(home string, about config.GUIConfiguration, folder, label string) error {
+// Syncthing is that of a home.
+type Syncthing struct {
+	Home string
+	Data string // the directory with its index; nothing where that is the home
+	GUI  config.GUIConfiguration
+}
+
+// data gives the directory with the index.
+func (s Syncthing) data() string {
+	if s.Data == "" {
+		return s.Home
+	}
+	return s.Data
+}
+
+// Scan has Syncthing scan a folder, and waits until that is done.
+func (s Syncthing) Scan(folder, label string) error {
 	called := shell.Folder(folder, label)
-	answer, err := ask(home, about, http.MethodPost, "db/scan?"+url.Values{"folder": {folder}}.Encode(), forAsLongAsItTakes)
+	answer, err := s.ask(http.MethodPost, "db/scan?"+url.Values{"folder": {folder}}.Encode(), forAsLongAsItTakes)
 	if err != nil {
 		return fmt.Errorf("folder %s isn't scanned: does Syncthing run there? %w", called, err)
 	}
 	defer answer.Body.Close()
 	if answer.StatusCode == http.StatusForbidden || answer.StatusCode == http.StatusUnauthorized {
 		return fmt.Errorf("folder %s isn't scanned: Syncthing doesn't take the API key of %s (%s): restart it if that file was changed, "+
-			"and see that no other Syncthing listens at %s", called, filepath.Join(home, "config.xml"), answer.Status, about.Address())
+			"and see that no other Syncthing listens at %s", called, filepath.Join(s.Home, "config.xml"), answer.Status, s.GUI.Address())
 	}
 	if answer.StatusCode != http.StatusOK {
 		text, _ := io.ReadAll(io.LimitReader(answer.Body, 1000))
@@ -49,10 +64,10 @@ const (
 	forAsLongAsItTakes = 0
 )
 
-// DataDirectory gives the directory in which the Syncthing of a home has its database.
-func DataDirectory(home string, about config.GUIConfiguration) (string, error) {
+// DataDirectory gives the directory in which Syncthing has its database.
+func (s Syncthing) DataDirectory() (string, error) {
 	var paths map[string]string
-	if err := get(home, about, "system/paths", &paths); err != nil {
+	if err := s.get("system/paths", &paths); err != nil {
 		return "", err
 	}
 	if !filepath.IsAbs(paths["baseDir-data"]) {
@@ -61,12 +76,12 @@ func DataDirectory(home string, about config.GUIConfiguration) (string, error) {
 	return paths["baseDir-data"], nil
 }
 
-// Started says when the Syncthing of a home was started.
-func Started(home string, about config.GUIConfiguration) (time.Time, error) {
+// Started says when Syncthing was started.
+func (s Syncthing) Started() (time.Time, error) {
 	var status struct {
 		StartTime time.Time `json:"startTime"`
 	}
-	if err := get(home, about, "system/status", &status); err != nil {
+	if err := s.get("system/status", &status); err != nil {
 		return time.Time{}, err
 	}
 	if status.StartTime.IsZero() {
@@ -78,9 +93,9 @@ func Started(home string, about config.GUIConfiguration) (time.Time, error) {
 // mostOfAnswer is how much is read of an answer.
 const mostOfAnswer = 1 << 20
 
-// get reads what the Syncthing of a home says of itself.
-func get(home string, about config.GUIConfiguration, what string, into any) error {
-	answer, err := ask(home, about, http.MethodGet, what, atOnce)
+// get reads what Syncthing says of itself.
+func (s Syncthing) get(what string, into any) error {
+	answer, err := s.ask(http.MethodGet, what, atOnce)
 	if err != nil {
 		return err
 	}
@@ -94,30 +109,41 @@ func get(home string, about config.GUIConfiguration, what string, into any) erro
 	return fmt.Errorf("Syncthing answers %s", answer.Status)
 }
 
-// ask asks the Syncthing of a home.
-func ask(home string, about config.GUIConfiguration, method, what string, most time.Duration) (*http.Response, error) {
+// ask asks Syncthing.
+func (s Syncthing) ask(method, what string, most time.Duration) (*http.Response, error) {
 	scheme := "http"
-	if about.UseTLS() {
+	if s.GUI.UseTLS() {
 		scheme = "https"
 	}
 	asked, err := http.NewRequest(method, scheme+"://localhost/rest/"+what, nil)
 	if err != nil {
 		return nil, err
 	}
-	asked.Header.Set("X-API-Key", about.APIKey)
-	return (&http.Client{Transport: transport(home, about), Timeout: most}).Do(asked)
+	asked.Header.Set("X-API-Key", s.GUI.APIKey)
+	return (&http.Client{Transport: s.transport(), Timeout: most}).Do(asked)
 }
 
-// transport gives how the Syncthing of a home is spoken to: at its own address alone, and with its own certificate.
-func transport(home string, about config.GUIConfiguration) *http.Transport {
+// transport gives how Syncthing is spoken to: at its own address alone, and where it is seen to be this home's, with TLS by its certificate.
+func (s Syncthing) transport() *http.Transport {
 	return &http.Transport{
-		DialContext: func(ctx context.Context, _, _ string) (net.Conn, error) {
-			return (&net.Dialer{}).DialContext(ctx, about.Network(), localAddress(about))
-		},
+		DialContext: func(ctx context.Context, _, _ string) (net.Conn, error) { return s.dial(ctx) },
 		TLSClientConfig: &tls.Config{InsecureSkipVerify: true, VerifyPeerCertificate: func(raw [][]byte, _ [][]*x509.Certificate) error {
-			return checkCertificate(filepath.Join(home, "https-cert.pem"), raw)
+			return checkCertificate(filepath.Join(s.Home, "https-cert.pem"), raw)
 		}},
 	}
+}
+
+// dial connects with Syncthing.
+func (s Syncthing) dial(ctx context.Context) (net.Conn, error) {
+	made, err := (&net.Dialer{}).DialContext(ctx, s.GUI.Network(), localAddress(s.GUI))
+	if err != nil || s.GUI.UseTLS() {
+		return made, err
+	}
+	if err := s.checkFar(made); err != nil {
+		made.Close()
+		return nil, err
+	}
+	return made, nil
 }
 
 // localAddress gives the address on this machine: Syncthing may listen on all.

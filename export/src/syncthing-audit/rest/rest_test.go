@@ -62,7 +62,7 @@ func TestScan(t *testing.T) {
 		{"no certificate", true, "a b", func(home string, _ *config.GUIConfiguration) { os.Remove(filepath.Join(home, "https-cert.pem")) }, "https-cert.pem"},
 	}
 	for _, one := range cases {
-		home := t.TempDir()
+		home := homeInUse(t)
 		server, about := answering(t, one.isSecure)
 		if one.isSecure {
 			text := pem.EncodeToMemory(&pem.Block{Type: "CERTIFICATE", Bytes: server.Certificate().Raw})
@@ -71,7 +71,7 @@ func TestScan(t *testing.T) {
 			}
 		}
 		one.change(home, &about)
-		err := Scan(home, about, one.folder, "")
+		err := Syncthing{Home: home, GUI: about}.Scan(one.folder, "")
 		if (err == nil) != (one.told == "") || err != nil && !strings.Contains(err.Error(), one.told) {
 			t.Errorf("%s: %v", one.why, err)
 		}
@@ -81,17 +81,19 @@ func TestScan(t *testing.T) {
 // Where a Syncthing has its database is asked of itself. One that doesn't say it isn't taken for one that does.
 func TestDataDirectory(t *testing.T) {
 	_, about := answering(t, false)
-	if path, err := DataDirectory(t.TempDir(), about); err != nil || path != "/srv/data" {
+	home := homeInUse(t)
+	asked := func() (string, error) { return Syncthing{Home: home, GUI: about}.DataDirectory() }
+	if path, err := asked(); err != nil || path != "/srv/data" {
 		t.Errorf("%q, %v", path, err)
 	}
 	about.APIKey = "x"
-	if path, err := DataDirectory(t.TempDir(), about); err == nil || path != "" {
+	if path, err := asked(); err == nil || path != "" {
 		t.Errorf("with another key: %q, %v", path, err)
 	}
 	for _, said := range []string{"", "{}", `{"baseDir-data":"data"}`, "[]"} {
 		server := httptest.NewServer(http.HandlerFunc(func(to http.ResponseWriter, _ *http.Request) { io.WriteString(to, said) }))
 		about.RawAddress = server.Listener.Addr().String()
-		if path, err := DataDirectory(t.TempDir(), about); err == nil || path != "" {
+		if path, err := asked(); err == nil || path != "" {
 			t.Errorf("%q is taken: %q", said, path)
 		}
 		server.Close()
@@ -101,17 +103,19 @@ func TestDataDirectory(t *testing.T) {
 // When a Syncthing was started is asked of itself. One that doesn't say it isn't taken for one that does.
 func TestStarted(t *testing.T) {
 	_, about := answering(t, false)
-	if at, err := Started(t.TempDir(), about); err != nil || at.UTC().Format(time.RFC3339) != "2026-11-28T09:00:00Z" {
+	home := homeInUse(t)
+	asked := func() (time.Time, error) { return Syncthing{Home: home, GUI: about}.Started() }
+	if at, err := asked(); err != nil || at.UTC().Format(time.RFC3339) != "2026-11-28T09:00:00Z" {
 		t.Errorf("%v, %v", at, err)
 	}
 	about.APIKey = "x"
-	if at, err := Started(t.TempDir(), about); err == nil {
+	if at, err := asked(); err == nil {
 		t.Errorf("with another key: %v", at)
 	}
 	for _, said := range []string{"", "{}", `{"startTime":"soon"}`, "[]"} {
 		server := httptest.NewServer(http.HandlerFunc(func(to http.ResponseWriter, _ *http.Request) { io.WriteString(to, said) }))
 		about.RawAddress = server.Listener.Addr().String()
-		if at, err := Started(t.TempDir(), about); err == nil {
+		if at, err := asked(); err == nil {
 			t.Errorf("%q is taken: %v", said, at)
 		}
 		server.Close()

@@ -1,0 +1,180 @@
+package rest
+
+import (
+	"encoding/hex"
+	"errors"
+	"fmt"
+	"net"
+	"os"
+	"path/filepath"
+	"strconv"
+	"strings"
+	"syscall"
+
+	"golang.org/x/sys/unix"
+	"syncthing-audit/device"
+)
+
+// ErrStranger says that whoever listens isn't seen to be the Syncthing of a home.
+var ErrStranger = errors.New("the API key isn't sent")
+
+// listener is a program that listens at an address of this machine.
+type listener struct {
+	user      int
+	processes func() []int // as far as they are seen
+}
+
+// checkFar says why the far end of a connection isn't seen to be this home's own Syncthing, which alone is to have the API key. With TLS its
+// certificate shows it. Without that, the listener is to be of the home's user, and an index is to be in use: this home's, as its lock shows, or one
+// that the listener has open, as where the database is elsewhere.
+func (s Syncthing) checkFar(made net.Conn) error {
+	owner, err := ownerOf(filepath.Join(s.Home, "config.xml"))
+	if err != nil {
+		return err
+	}
+	at := made.RemoteAddr()
+	all, err := listenersOf(made)
+	if err == nil && len(all) == 0 {
+		err = errors.New("this system has none listed")
+	}
+	if err != nil {
+		return fmt.Errorf("%w to %s: it isn't seen whose program listens there: %v. Where Syncthing uses HTTPS, its certificate shows it", ErrStranger, at, err)
+	}
+	isHeld := device.IsHeld(s.data())
+	for _, one := range all {
+		if err := one.check(owner, isHeld); err != nil {
+			return fmt.Errorf("%w to %s: %v", ErrStranger, at, err)
+		}
+	}
+	return nil
+}
+
+// check says why a listener isn't seen to be the Syncthing of a home: whose that is, and whether its index is in use. Root reads each home, and may
+// listen for a container's Syncthing.
+func (l listener) check(owner int, isHeld bool) error {
+	if l.user != owner && l.user != 0 {
+		return fmt.Errorf("a program of user %d listens there, and the home is of user %d", l.user, owner)
+	}
+	if !isHeld && !l.holdsIndex() {
+		return errors.New("no Syncthing runs on the home's index, and who listens there isn't seen to have another index open")
+	}
+	return nil
+}
+
+// ownerOf gives the user whose a file is.
+func ownerOf(path string) (int, error) {
+	about, err := os.Stat(path)
+	if err != nil {
+		return 0, err
+	}
+	return int(about.Sys().(*syscall.Stat_t).Uid), nil
+}
+
+// holdsIndex says whether one of the listener's processes is seen to have an index open.
+func (l listener) holdsIndex() bool {
+	for _, one := range l.processes() {
+		if device.HoldsIndex(one) {
+			return true
+		}
+	}
+	return false
+}
+
+// listenersOf gives who listens at the far end of a connection on this machine.
+func listenersOf(made net.Conn) ([]listener, error) {
+	switch one := made.(type) {
+	case *net.UnixConn:
+		return peerOf(one)
+	case *net.TCPConn:
+		return listenersAt(one.RemoteAddr().(*net.TCPAddr))
+	}
+	return nil, fmt.Errorf("a connection of another kind: %T", made)
+}
+
+// peerOf gives who listens at a socket of the file system.
+func peerOf(made *net.UnixConn) ([]listener, error) {
+	raw, err := made.SyscallConn()
+	if err != nil {
+		return nil, err
+	}
+	var said *unix.Ucred
+	var failed error
+	err = raw.Control(func(number uintptr) {
+		said, failed = unix.GetsockoptUcred(int(number), unix.SOL_SOCKET, unix.SO_PEERCRED)
+	})
+	if err == nil {
+		err = failed
+	}
+	if err != nil {
+		return nil, err
+	}
+	return []listener{{int(said.Uid), func() []int { return []int{int(said.Pid)} }}}, nil
+}
+
+// listenersAt gives who listens at an address of this machine, by the kernel's tables of sockets.
+func listenersAt(at *net.TCPAddr) ([]listener, error) {
+	made := []listener{}
+	for _, path := range []string{"/proc/net/tcp", "/proc/net/tcp6"} {
+		table, err := os.ReadFile(path)
+		if errors.Is(err, os.ErrNotExist) {
+			continue // a machine without IPv6
+		}
+		if err != nil {
+			return nil, err
+		}
+		for _, line := range strings.Split(string(table), "\n") {
+			if user, inode, is := listensAt(line, at); is {
+				made = append(made, listener{user, func() []int { return processesWith("socket:[" + inode + "]") }})
+			}
+		}
+	}
+	return made, nil
+}
+
+// The columns of the kernel's tables of sockets, and the state of one that listens.
+const (
+	columnOfAddress = 1
+	columnOfState   = 3
+	columnOfUser    = 7
+	columnOfInode   = 9
+	stateOfListener = "0A"
+)
+
+// listensAt gives the user and the inode of a line's socket, where that listens at an address.
+func listensAt(line string, at *net.TCPAddr) (user int, inode string, is bool) {
+	columns := strings.Fields(line)
+	if len(columns) <= columnOfInode || columns[columnOfState] != stateOfListener {
+		return 0, "", false
+	}
+	host, port, _ := strings.Cut(columns[columnOfAddress], ":")
+	number, err := strconv.ParseUint(port, 16, 16)
+	address := addressIn(host)
+	if err != nil || int(number) != at.Port || !address.IsUnspecified() && !address.Equal(at.IP) {
+		return 0, "", false
+	}
+	user, err = strconv.Atoi(columns[columnOfUser])
+	return user, columns[columnOfInode], err == nil
+}
+
+// addressIn reads an address of such a table: numbers of 32 bits in the order of the machine. All for which this program is built have the lowest
+// byte first.
+func addressIn(text string) net.IP {
+	made, _ := hex.DecodeString(text)
+	for at := 0; at+4 <= len(made); at += 4 {
+		made[at], made[at+1], made[at+2], made[at+3] = made[at+3], made[at+2], made[at+1], made[at]
+	}
+	return made
+}
+
+// processesWith gives the processes that have something open, as far as they may be seen.
+func processesWith(what string) []int {
+	made := []int{}
+	found, _ := filepath.Glob("/proc/[0-9]*/fd")
+	for _, path := range found {
+		process, err := strconv.Atoi(filepath.Base(filepath.Dir(path)))
+		if err == nil && device.HasOpen(process, func(target string) bool { return target == what }) {
+			made = append(made, process)
+		}
+	}
+	return made
+}

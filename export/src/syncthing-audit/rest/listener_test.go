@@ -1,0 +1,146 @@
+package rest
+
+import (
+	"errors"
+	"net"
+	"net/http"
+	"net/http/httptest"
+	"os"
+	"path/filepath"
+	"strings"
+	"syscall"
+	"testing"
+
+	"github.com/syncthing/syncthing/lib/config"
+)
+
+// lockIn makes an index in a directory, and holds its lock as a Syncthing that runs does.
+func lockIn(t *testing.T, directory string) {
+	database := filepath.Join(directory, "index-v0.14.0.db")
+	if err := os.MkdirAll(database, 0o700); err != nil {
+		t.Fatal(err)
+	}
+	lock, err := os.Create(filepath.Join(database, "LOCK"))
+	if err != nil {
+		t.Fatal(err)
+	}
+	t.Cleanup(func() { lock.Close() })
+	if err := syscall.Flock(int(lock.Fd()), syscall.LOCK_EX|syscall.LOCK_NB); err != nil {
+		t.Fatal(err)
+	}
+}
+
+// homeOf makes a home with a configuration of which nobody reads anything.
+func homeOf(t *testing.T) string {
+	home := t.TempDir()
+	if err := os.WriteFile(filepath.Join(home, "config.xml"), nil, 0o600); err != nil {
+		t.Fatal(err)
+	}
+	return home
+}
+
+// homeInUse makes a home on which a Syncthing seems to run.
+func homeInUse(t *testing.T) string {
+	home := homeOf(t)
+	lockIn(t, home)
+	return home
+}
+
+// keysAt gives a server at an address, and how many keys it was sent.
+func keysAt(t *testing.T, network string) (config.GUIConfiguration, *int) {
+	count := 0
+	made := httptest.NewUnstartedServer(http.HandlerFunc(func(_ http.ResponseWriter, asked *http.Request) { count += len(asked.Header["X-Api-Key"]) }))
+	about := config.GUIConfiguration{APIKey: "key"}
+	if network == "unix" {
+		about.RawAddress = filepath.Join(t.TempDir(), "gui")
+		listening, err := net.Listen(network, about.RawAddress)
+		if err != nil {
+			t.Fatal(err)
+		}
+		made.Listener.Close()
+		made.Listener = listening
+	} else {
+		about.RawAddress = made.Listener.Addr().String()
+	}
+	made.Start()
+	t.Cleanup(made.Close)
+	return about, &count
+}
+
+// Without TLS the key goes to whoever listens where a lock is held, the home's or one that the listener has open, and to nobody else.
+func TestWhoIsSentTheKey(t *testing.T) {
+	for _, one := range []struct {
+		why     string
+		prepare func(t *testing.T, home string)
+		keys    int
+	}{
+		{"nobody runs", func(*testing.T, string) {}, 0},
+		{"the home's index is in use", lockIn, 1},
+		{"the listener has an index elsewhere open", func(t *testing.T, _ string) { lockIn(t, t.TempDir()) }, 1},
+	} {
+		for _, network := range []string{"tcp", "unix"} {
+			t.Run(network+": "+one.why, func(t *testing.T) {
+				home := homeOf(t)
+				about, keys := keysAt(t, network)
+				one.prepare(t, home)
+				err := Syncthing{Home: home, GUI: about}.Scan("docs", "")
+				if *keys != one.keys || (err == nil) != (one.keys == 1) || err != nil && !errors.Is(err, ErrStranger) {
+					t.Errorf("%d keys, %v", *keys, err)
+				}
+			})
+		}
+	}
+}
+
+// A listener is to be of the home's user, or root's, also where the home's index is in use.
+func TestWhoseListener(t *testing.T) {
+	for _, one := range []struct {
+		user   int
+		isHeld bool
+		told   string
+	}{
+		{1000, true, ""},
+		{0, true, ""},
+		{1001, true, "a program of user 1001 listens there, and the home is of user 1000"},
+		{1000, false, "no Syncthing runs on the home's index"},
+		{0, false, "no Syncthing runs on the home's index"},
+	} {
+		err := listener{one.user, func() []int { return nil }}.check(1000, one.isHeld)
+		if (err == nil) != (one.told == "") || err != nil && !strings.Contains(err.Error(), one.told) {
+			t.Errorf("%v: %v", one, err)
+		}
+	}
+}
+
+// What listens is read from lines of the kernel's tables, of both kinds.
+func TestLinesOfListeners(t *testing.T) {
+	const (
+		rest     = " 00000000:0000 0A 00000000:00000000 00:00000000 00000000  1000        0 4711 1 0 100 0 0 10 0"
+		ready    = " 0100007F:9999 01 00000000:00000000 00:00000000 00000000  1000        0 4711 1 0 100 0 0 10 0"
+		noOthers = "00000000000000000000000000000000"
+		loopback = "00000000000000000000000001000000"
+	)
+	at := &net.TCPAddr{IP: net.ParseIP("127.0.0.1"), Port: 0x20C0}
+	for line, is := range map[string]bool{
+		"0: 0100007F:20C0" + rest:          true,
+		"0: 00000000:20C0" + rest:          true,
+		"0: " + noOthers + ":20C0" + rest:  true,
+		"0: " + loopback + ":20C0" + rest:  false,
+		"0: 0200007F:20C0" + rest:          false,
+		"0: 0100007F:20C1" + rest:          false,
+		"0: 0100007F:20C0" + ready:         false,
+		"0: 0100007F:20C0":                 false,
+		"0: odd:20C0" + rest:               false,
+		"  sl  local_address rem_address ": false,
+		"":                                 false,
+	} {
+		user, inode, found := listensAt(line, at)
+		if found != is || is && (user != 1000 || inode != "4711") {
+			t.Errorf("%q: %d, %q, %v", line, user, inode, found)
+		}
+	}
+	at.IP = net.ParseIP("::1")
+	if _, _, found := listensAt("0: "+loopback+":20C0"+rest, at); !found {
+		t.Error("::1 isn't found")
+	}
+}
