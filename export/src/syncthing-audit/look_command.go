@@ -242,7 +242,7 @@ func lookOf(home *device.Home) (*part.Look, error) {
 
 // writeWhole writes into a file of its own first, so that nobody reads the beginning of what isn't at its end.
 func writeWhole(write writing, fill func(io.Writer) error) error {
-	file, err := leftover.File(os.TempDir(), "syncthing-audit-")
+	file, err := leftover.File(leftover.Place(), "syncthing-audit-")
 	if err != nil {
 		return err
 	}

@@ -272,8 +272,8 @@ func (h *Home) openIndex() error {
 	if h.before, err = listingOf(database); err != nil {
 		return err
 	}
-	if h.copied, err = leftover.Directory("syncthing-audit-"); err != nil {
-		return notCopied(err)
+	if h.copied, err = roomFor(database); err != nil {
+		return err
 	}
 	if err := copyFiles(database, h.copied); err != nil {
 		if isFull(err) {

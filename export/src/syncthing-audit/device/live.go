@@ -10,7 +10,6 @@ import (
 	"github.com/syncthing/syncthing/lib/db"
 	"github.com/syndtr/goleveldb/leveldb"
 	"github.com/syndtr/goleveldb/leveldb/util"
-	"syncthing-audit/leftover"
 )
 
 // OpenLive reads a home whose Syncthing may run, and opens a copy of its index as it was at one moment after the call. No
@@ -33,8 +32,8 @@ func (h *Home) openLiveIndex() error {
 		return h.noIndex()
 	}
 	var err error
-	if h.copied, err = leftover.Directory("syncthing-audit-"); err != nil {
-		return notCopied(err)
+	if h.copied, err = roomFor(database); err != nil {
+		return err
 	}
 	if h.Copied, err = copyLive(database, h.copied, checkLive); err != nil {
 		if isFull(err) {

@@ -4,33 +4,74 @@ import (
 	"errors"
 	"fmt"
 	"os"
-	"strings"
-	"syscall"
+	"path/filepath"
+
+	"golang.org/x/sys/unix"
+	"syncthing-audit/leftover"
 )
+
+// roomFor makes the temporary directory for the copy of an index, where there is room for it.
+func roomFor(database string) (string, error) {
+	needed, err := bytesFor(database)
+	if err != nil {
+		return "", err
+	}
+	free, err := freeIn(leftover.Place())
+	if err == nil && free < needed {
+		err = fmt.Errorf("it takes %.1f MB, and %.1f MB is free there", megabytes(needed), megabytes(free))
+	}
+	if err != nil {
+		return "", notCopied(err)
+	}
+	made, err := leftover.Directory("syncthing-audit-")
+	if err != nil {
+		return "", notCopied(err)
+	}
+	return made, nil
+}
+
+// bytesFor gives the bytes that a copy of an index takes. On opening it LevelDB writes what its logs have into tables, before they go.
+func bytesFor(database string) (int64, error) {
+	entries, err := os.ReadDir(database)
+	if err != nil {
+		return 0, err
+	}
+	sum := int64(0)
+	for _, one := range entries {
+		info, err := one.Info()
+		if errors.Is(err, os.ErrNotExist) {
+			continue // a running Syncthing took it away
+		}
+		if err != nil {
+			return 0, err
+		}
+		sum += info.Size()
+		if filepath.Ext(one.Name()) == ".log" {
+			sum += info.Size()
+		}
+	}
+	return sum, nil
+}
+
+// unknown is what counts as free where a file system doesn't say it.
+const unknown = 1 << 62
+
+// freeIn gives the bytes that a user may still write into a directory's file system. One without a size of its own says nothing.
+func freeIn(directory string) (int64, error) {
+	var said unix.Statfs_t
+	if err := unix.Statfs(directory, &said); err != nil {
+		return 0, &os.PathError{Op: "statfs", Path: directory, Err: err}
+	}
+	if said.Blocks == 0 {
+		return unknown, nil
+	}
+	return int64(said.Bavail) * int64(said.Bsize), nil
+}
+
+// megabytes gives bytes in a unit that a person reads.
+func megabytes(bytes int64) float64 { return float64(bytes) / 1e6 }
 
 // notCopied says what can be done where the temporary directory has no room, or isn't there.
 func notCopied(err error) error {
-	return fmt.Errorf("refused: the index can't be copied to %s (TMPDIR may name another directory): %w", os.TempDir(), err)
-}
-
-// isFull says whether a disk has no room. Syncthing's packages have the cause in a text alone.
-func isFull(err error) bool { return causeOf(err, syscall.ENOSPC, syscall.EDQUOT) != nil }
-
-// causeOf says which of these causes an error has.
-func causeOf(err error, causes ...error) error {
-	for _, cause := range causes {
-		if errors.Is(err, cause) || strings.Contains(err.Error(), cause.Error()) {
-			return cause
-		}
-	}
-	return nil
-}
-
-// notOpened says why a copy can't be opened, which also takes room. Syncthing's package guesses then that another Syncthing runs, which isn't so
-// of a copy.
-func notOpened(err error) error {
-	if cause := causeOf(err, syscall.ENOSPC, syscall.EDQUOT); cause != nil {
-		return notCopied(cause)
-	}
-	return fmt.Errorf("refused: the copy of the index can't be opened: %s", strings.TrimSuffix(err.Error(), " (is another instance of Syncthing running?)"))
+	return fmt.Errorf("refused: the index can't be copied to %s (TMPDIR may name another directory): %w", leftover.Place(), err)
 }

@@ -1,37 +1,46 @@
 package device
 
 import (
-	"errors"
-	"fmt"
 	"os"
+	"path/filepath"
 	"strings"
-	"syscall"
 	"testing"
-
-	"github.com/syncthing/syncthing/lib/db/backend"
 )
 
-// A copy that can't be opened for want of room is told as one that has none, and of no other one it is said that another Syncthing runs.
-func TestACopyThatCannotBeOpened(t *testing.T) {
-	const guess = "is another instance of Syncthing running?"
-	for _, one := range []struct {
-		err    error
-		isFull bool
-	}{
-		{fmt.Errorf("write a: %v (%s)", syscall.ENOSPC, guess), true}, {&os.PathError{Op: "write", Path: "a", Err: syscall.EDQUOT}, true},
-		{errors.New("leveldb: not found (" + guess + ")"), false},
-	} {
-		told := notOpened(one.err).Error()
-		if isFull(one.err) != one.isFull || strings.Contains(told, guess) || strings.Contains(told, "TMPDIR may name another directory") != one.isFull ||
-			!strings.HasPrefix(told, "refused: ") {
-			t.Errorf("%v: %s", one.err, told)
+// A copy takes the bytes of all files, and those of the logs once more.
+func TestBytesOfACopy(t *testing.T) {
+	database := t.TempDir()
+	for name, bytes := range map[string]int{"000001.ldb": 1000, "000002.log": 100, "CURRENT": 10} {
+		if err := os.WriteFile(filepath.Join(database, name), make([]byte, bytes), 0o600); err != nil {
+			t.Fatal(err)
 		}
 	}
-	path := t.TempDir() + "/index"
-	if err := os.WriteFile(path, nil, 0o600); err != nil {
+	if bytes, err := bytesFor(database); err != nil || bytes != 1210 {
+		t.Errorf("%d, %v", bytes, err)
+	}
+}
+
+// An index for which there is no room is refused before anything of it is copied, by the room that it takes.
+func TestNoRoomForACopy(t *testing.T) {
+	room, database := t.TempDir(), t.TempDir()
+	t.Setenv("TMPDIR", room)
+	free, err := freeIn(room)
+	if err != nil || free <= 0 {
+		t.Fatalf("%d, %v", free, err)
+	}
+	if made, err := roomFor(database); err != nil || filepath.Dir(made) != room {
+		t.Errorf("an empty index has no room: %q, %v", made, err)
+	}
+	table := filepath.Join(database, "000001.ldb")
+	if err := os.WriteFile(table, nil, 0o600); err != nil {
 		t.Fatal(err)
 	}
-	if _, err := backend.Open(path, backend.TuningAuto); err == nil || !strings.Contains(err.Error(), guess) || strings.Contains(notOpened(err).Error(), guess) {
-		t.Errorf("what the package guesses: %v", err)
+	const tenTB = 10 << 40
+	if free > tenTB || os.Truncate(table, tenTB) != nil {
+		t.Skip("no file here is larger than what is free")
+	}
+	made, err := roomFor(database)
+	if err == nil || made != "" || !strings.Contains(err.Error(), "can't be copied to "+room+" (TMPDIR may name another directory): it takes 10995116.3 MB, and ") {
+		t.Errorf("%q, %v", made, err)
 	}
 }

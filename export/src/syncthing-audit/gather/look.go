@@ -34,7 +34,7 @@ const markOfUnread = "unread"
 func (d *Device) Glance() (*Glance, error) {
 	made := &Glance{}
 	for _, one := range d.Folders {
-		file, err := leftover.File(os.TempDir(), "syncthing-audit-")
+		file, err := leftover.File(leftover.Place(), "syncthing-audit-")
 		if err != nil {
 			made.Close()
 			return nil, err

@@ -23,11 +23,22 @@ var (
 // statusOfSignal is added to a signal's number, as shells do.
 const statusOfSignal = 128
 
-// Directory makes a directory in the temporary one, to be gone in the end.
+// onDisk is where programs put what is large for a while: /tmp may be in memory, as Debian 13 has it.
+const onDisk = "/var/tmp"
+
+// Place gives the directory for what has no room in memory: $TMPDIR, or /var/tmp, or /tmp where nothing can be made there.
+func Place() string {
+	if os.Getenv("TMPDIR") == "" && unix.Access(onDisk, unix.W_OK|unix.X_OK) == nil {
+		return onDisk
+	}
+	return os.TempDir()
+}
+
+// Directory makes a directory in that place, to be gone in the end.
 func Directory(pattern string) (string, error) {
 	mutex.Lock()
 	defer mutex.Unlock()
-	path, err := os.MkdirTemp("", pattern)
+	path, err := os.MkdirTemp(Place(), pattern)
 	if err == nil {
 		paths[path] = true
 	}

@@ -165,3 +165,23 @@ func TestDirectoriesAtPaths(t *testing.T) {
 		t.Errorf("at a file: %v", err)
 	}
 }
+
+// What may be larger than memory is put where a person says, and else on a disk, where /tmp may be none.
+func TestPlace(t *testing.T) {
+	room := t.TempDir()
+	t.Setenv("TMPDIR", room)
+	if Place() != room {
+		t.Error(Place())
+	}
+	os.Unsetenv("TMPDIR")
+	probe, err := os.CreateTemp(onDisk, "syncthing-audit-test-")
+	expected := "/tmp"
+	if err == nil {
+		probe.Close()
+		os.Remove(probe.Name())
+		expected = onDisk
+	}
+	if Place() != expected {
+		t.Errorf("%q in place of %q", Place(), expected)
+	}
+}

@@ -47,7 +47,7 @@ func (l *List[T]) Add(one T) {
 
 // begin makes the file.
 func (l *List[T]) begin() {
-	file, err := leftover.File(os.TempDir(), "syncthing-audit-")
+	file, err := leftover.File(leftover.Place(), "syncthing-audit-")
 	if err != nil {
 		l.fail(err)
 		return
@@ -60,7 +60,7 @@ func (l *List[T]) begin() {
 
 func (l *List[T]) fail(err error) {
 	if err != nil && l.err == nil {
-		l.err = fmt.Errorf("refused: what was found can't be kept in %s (TMPDIR may name another directory): %w", os.TempDir(), err)
+		l.err = fmt.Errorf("refused: what was found can't be kept in %s (TMPDIR may name another directory): %w", leftover.Place(), err)
 	}
 }
 
