@@ -53,7 +53,6 @@ type Home struct {
 	written    sync.Once       // whether it is known what else writes into folders
 	writers    map[string][]string
 
-	lock    *os.File
 	before  listing // the index before it was copied
 	copied  string
 	isLive  bool
@@ -61,7 +60,7 @@ type Home struct {
 	index   *db.Lowlevel
 }
 
-// Open reads and locks a home and opens a copy of its index, which is in another directory where one is named. Nothing of the home is changed.
+// Open reads a home on which no Syncthing runs and opens a copy of its index, which is in another directory where one is named. Nothing of the home is changed.
 func Open(dir, data string) (*Home, error) {
 	return openWith(dir, data, (*Home).openIndex)
 }
@@ -260,15 +259,27 @@ func readConfig(path string, text []byte, id protocol.DeviceID) (config.Configur
 	return read, nil
 }
 
-// openIndex locks the index, copies it to a temporary folder and opens the copy.
+// openIndex copies the index to a temporary folder and opens the copy.
 func (h *Home) openIndex() error {
-	database := h.database()
-	var err error
-	if h.lock, err = lockShared(h.Dir, database); errors.Is(err, os.ErrNotExist) {
+	if err := h.copyIndex(h.database()); err != nil {
+		return err
+	}
+	if err := checkWhole(h.copied); err != nil {
+		return fmt.Errorf("refused: %s: %w", h.Dir, err)
+	}
+	return h.openCopy()
+}
+
+// copyIndex copies the index, and has it locked as long as that takes. A Syncthing that is started meanwhile fails, and after some failures nobody
+// starts it again. One that is started later opens the index, which changes its files: so it is the part that is refused then (checkUnchanged).
+func (h *Home) copyIndex(database string) error {
+	lock, err := lockShared(h.Dir, database)
+	if errors.Is(err, os.ErrNotExist) {
 		return h.noIndex()
 	} else if err != nil {
 		return err
 	}
+	defer lock.Close()
 	if h.before, err = listingOf(database); err != nil {
 		return err
 	}
@@ -281,13 +292,7 @@ func (h *Home) openIndex() error {
 		}
 		return err
 	}
-	if err := h.checkUnchanged(); err != nil {
-		return err
-	}
-	if err := checkWhole(h.copied); err != nil {
-		return fmt.Errorf("refused: %s: %w", h.Dir, err)
-	}
-	return h.openCopy()
+	return h.checkUnchanged()
 }
 
 // never says that Syncthing's package never checks a copy anew. Such a check, once a month, may give an index another id: without the ids
@@ -312,15 +317,12 @@ func (h *Home) openCopy() error {
 	return nil
 }
 
-// Close removes the copy and gives the lock back.
+// Close removes the copy.
 func (h *Home) Close() {
 	if h.backend != nil {
 		h.backend.Close()
 	}
 	if h.copied != "" {
 		leftover.Remove(h.copied)
-	}
-	if h.lock != nil {
-		h.lock.Close()
 	}
 }

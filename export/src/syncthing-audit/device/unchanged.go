@@ -25,8 +25,9 @@ func listingOf(database string) (listing, error) {
 	return made, nil
 }
 
-// checkUnchanged says which file of the home's index isn't as it was before it was copied. The lock keeps a Syncthing on
-// this machine out; over a mount it doesn't.
+// checkUnchanged says which file of the home's index isn't as it was before it was copied: Syncthing was started since. It opens the index before it
+// looks at any folder, and LevelDB then begins a manifest and a log with other numbers. So where none differs once a folder's last file was hashed,
+// no Syncthing changed the folder meanwhile.
 func (h *Home) checkUnchanged() error {
 	now, err := listingOf(h.database())
 	if err != nil {
@@ -34,11 +35,16 @@ func (h *Home) checkUnchanged() error {
 	}
 	for name, said := range h.before {
 		if now[name] != said {
-			return fmt.Errorf("refused: %s: its index changed while it was read (%s): stop Syncthing on the device", h.Dir, name)
+			return h.changed(name)
 		}
 	}
 	if len(now) != len(h.before) {
-		return fmt.Errorf("refused: %s: its index changed while it was read: stop Syncthing on the device", h.Dir)
+		return h.changed("other files")
 	}
 	return nil
+}
+
+// changed says that the index changed.
+func (h *Home) changed(what string) error {
+	return fmt.Errorf("refused: %s: its index changed while it was read (%s): Syncthing was started there. Stop it, and begin anew", h.Dir, what)
 }
