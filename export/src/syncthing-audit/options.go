@@ -51,49 +51,52 @@ var usage = fmt.Sprintf(`usage: syncthing-audit part [--home DIR [--data DIR]] [
        syncthing-audit sum DIR
        syncthing-audit --version
 
-Says whether Syncthing devices are in step, and where they aren't, which device is wrong.
+Says whether Syncthing devices are in step and, if they aren't, which device is wrong.
 
-  part    reads a stopped device's index and hashes its files, and writes what it found: no file's bytes, no private key
-  run     looks twice at devices that run, on other machines by ssh, and has syncaudit answer for what was still meanwhile
-  part --begin, --end  make the two looks one by one: begin on all, end on all, check
+  part    reads a stopped device's index, hashes its files, and writes what it found into one file, the part: no file's bytes,
+          no private key
   check   joins the parts of all devices that share a folder, and has syncaudit answer
+  run     looks twice at devices that run, on other machines by ssh, and has syncaudit answer for the names that were still
+          meanwhile
+  part --begin, --end  make the two looks one by one: begin on all devices, then end on all, then check
   export  writes the check documents of such an answer, for 'syncaudit certify' and 'syncaudit check'
   sum     joins the answers to exported documents, cut-0001.reply and so on: what 'syncaudit check', then
           'syncaudit explain' and then 'syncaudit firm' write of each
 
-  --home DIR           a device's home on this machine: config.xml, cert.pem and index-v0.14.0.db. Without it part takes the one that
-                       Syncthing takes by itself: ~/.config/syncthing or ~/.local/state/syncthing
-  --data DIR           behind a --home, of run behind a device's DIR: where its database is, if not in the home itself, as of Syncthing's
-                       own --data
-  --folder ID          only this folder (may be given more than once; all folders if it isn't). part takes those that its device has,
-                       and tells which it hasn't
+  --home DIR           a device's home on this machine: config.xml, cert.pem and index-v0.14.0.db. Without it part takes Syncthing's
+                       default: ~/.config/syncthing or ~/.local/state/syncthing
+  --data DIR           behind a --home, or with run behind a device's DIR: where its database is, if it isn't in the home, as with
+                       Syncthing's own --data
+  --folder ID          only this folder; may be given more than once. Without it, all folders. part takes those that its device has,
+                       and says which it hasn't
   --names PREFIX       only names that begin with these bytes
-  --slice K/N          only names of slice K of N, as 3/7, of at most %d: so that a slow disk is read in N parts. A name's slice is the
+  --slice K/N          only names of slice K of N, as 3/7, of at most %d. So a slow disk can be read in N nights. A name's slice is the
                        same on all devices and for ever, so slices 1/N to N/N have each name once
-  --about              of part: what the device is configured to share, as JSON; 'run' asks that of all before it looks.
-                       With --rescan it refuses what can't be scanned
-  --begin              first look at a device that may run; writes a token to standard output, or error where the part is there
-  --end                second look; needs the tokens of all
-  --tokens FILE        tokens, one on a line; - is standard input
-  --heed-input         of --begin: end without a part once standard input ends; 'run' has it so on other machines
-  --rescan             of run, and of part --begin: have Syncthing scan before the first look, by its REST API, and wait for that: what
-                       changed or is missing on a disk goes to all devices then that take changes
-  --still SECONDS      of run: how long second looks wait at least, once first ones are over (10)
-  --remote-program P   of run: how this program is called on the other machines (syncthing-audit, on PATH or in ~/.local/bin)
+  --about              of part: write what the device is configured to share, as JSON. 'run' asks this of all devices before it looks.
+                       With --rescan, refuse a folder that can't be scanned
+  --begin              of part: the first look at a device that may run. It writes a token to standard output, or to standard error
+                       if the part goes to standard output
+  --end                of part: the second look. It needs the tokens of all devices
+  --tokens FILE        of --end: the tokens, one on a line; - is standard input; may be given more than once
+  --heed-input         of --begin: end without a part once standard input ends. 'run' sets this on other machines
+  --rescan             of run, and of part --begin: have Syncthing scan before the first look, by its REST API, and wait for that. What
+                       changed or is missing on a disk then goes to all devices that take changes
+  --still SECONDS      of run: how long to wait at least, after the last first look, before the second looks (10)
+  --remote-program P   of run: how to call this program on the other machines (syncthing-audit, on PATH or in ~/.local/bin)
   --dry-run            of run: write the commands that it would run, as a script for a shell, and run none of them
-  -o FILE              where the part goes; standard output if it is - or isn't given
+  -o FILE              where the part goes. Without it, or with -, it goes to standard output
   --leave-out KINDS    leave out what can't be audited, by kinds with commas between, and say so:
                        %s
-  --lines              in place of the summary for people, the verdict and a line for each failure, in syncaudit's words
-  --json               in place of it, the summary for programs; audit.schema.json is its schema
-  --bytes              documents with the bytes of files (from homes alone), as others may want to read them
-  --into DIR           write the documents there, as cut-0001.json and so on
-  --syncaudit FILE     the program that answers; if it isn't given, $SYNCAUDIT, or syncaudit on PATH
-  --jobs N             how many of it run at once, and how many files are hashed at once (%d)
+  --lines              in place of the summary for people: the verdict and a line for each failure, in syncaudit's words
+  --json               in place of the summary for people: the summary for programs; audit.schema.json is its schema
+  --bytes              documents with the bytes of files, as others may want to read them; works only with homes
+  --into DIR           of export: write the documents there, as cut-0001.json and so on
+  --syncaudit FILE     the program that answers. Without it, $SYNCAUDIT, or syncaudit on PATH
+  --jobs N             how many syncaudit run at once, and how many files are hashed at once (%d)
 
 Exit status: 0 in step, firm or not, or written; 1 not in step; 2 refused; 3 usage; 4 syncaudit is out of memory; 5 what was asked for
-can't be written, or syncaudit has a read or write fault; 6 in step as far as audited: something was left out, or folders or
-names weren't asked for; 127 syncaudit can't be run.
+can't be written, or syncaudit has a read or write fault; 6 in step as far as audited (the man page says when that is); 127 syncaudit
+can't be run.
 `, choice.MostSlices, strings.Join(part.Kinds, ","), runtime.NumCPU())
 
 // list is a flag that may be given more than once.
