@@ -79,10 +79,10 @@ func TestWhatCannotBeKept(t *testing.T) {
 	}
 }
 
-// Details are kept as far as there is room, counted for each device, and without the views, which nobody tells.
+// Details are kept as far as there is room, counted for each device.
 func TestRoom(t *testing.T) {
 	room := &Room{}
-	row := &join.Row{Name: "a", At: []*part.Name{{Disk: &part.Node{Size: 7}, Views: []part.Seen{{}}}, nil, nil}}
+	row := &join.Row{Name: "a", At: []*part.Name{{Disk: &part.Node{Size: 7}, Own: &part.Record{}, Views: []part.Seen{{Record: &part.Record{}}}}, nil, nil}}
 	for next := 0; next < MostKept/3; next++ {
 		if kept := room.Keep(row); kept == nil || kept.Name != "a" || kept.Size() != 7 || kept.At[0].Views != nil || kept.At[1] != nil {
 			t.Fatalf("%d: %v", next, kept)

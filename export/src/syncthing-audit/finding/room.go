@@ -13,7 +13,7 @@ const MostKept = 30000
 // Room is what is left of that.
 type Room struct{ taken int }
 
-// Keep gives what the devices have of a name, but for their views; nothing where there is no room.
+// Keep gives what the devices have of a name, and of their views what is told of them; nothing where there is no room.
 func (r *Room) Keep(row *join.Row) *join.Row {
 	if r.taken+len(row.At) > MostKept {
 		return nil
@@ -23,8 +23,19 @@ func (r *Room) Keep(row *join.Row) *join.Row {
 	for place, one := range row.At {
 		if one != nil {
 			kept := *one
-			kept.Views = nil
+			kept.Views = heardOf(one)
 			made.At[place] = &kept
+		}
+	}
+	return made
+}
+
+// heardOf gives the versions that a device has heard of from others and hasn't itself.
+func heardOf(name *part.Name) []part.Seen {
+	var made []part.Seen
+	for _, one := range name.Views {
+		if name.Own == nil || !part.IsAtMost(one.Record.Version, name.Own.Version) {
+			made = append(made, part.Seen{View: one.View, Record: &part.Record{Version: one.Record.Version}})
 		}
 	}
 	return made
