@@ -56,7 +56,7 @@ class Encrypted(Exporting):
         for devices, why in ((self.devices, "the folder is encrypted there"), (self.devices[:2], "the folder is shared encrypted with it by device")):
             ran = self.check_homes(self.homes(*devices))
             self.assertEqual((ran.returncode, ran.stdout), (2, ""))
-            self.assertIn("1 refused; --leave-out encrypted leaves them out", ran.stderr)
+            self.assertIn("1 refused; --leave-out encrypted leaves it out", ran.stderr)
             status, lines = self.lines_without(*self.homes(*devices))
             self.assertEqual((status, lines[:2]), (6, ["settled as far as audited", f"folder {FOLDER}: 6 names, 1 deleted, 2 devices"]))
             left, = [line for line in lines if line.startswith("left out: ")]
@@ -71,7 +71,7 @@ class Encrypted(Exporting):
     def test_the_vault_alone_is_not_audited(self):
         ran = self.check_homes(self.homes(self.vault), "--leave-out", "encrypted")
         self.assertEqual((ran.returncode, ran.stdout), (2, ""))
-        self.assertIn("there is nothing to audit", ran.stderr)
+        self.assertRegex(ran.stderr, f"there is nothing to audit: no name of any folder is left. Left out: {FOLDER} of .*: the folder is encrypted there")
 
 
 if __name__ == "__main__":

@@ -2,7 +2,6 @@
 package audit
 
 import (
-	"errors"
 	"fmt"
 	"sync/atomic"
 
@@ -76,9 +75,6 @@ func label(one join.Refusal) string {
 	return shell.Printable(one.Name)
 }
 
-// ErrNothing says that an audit would call nothing at all settled.
-var ErrNothing = errors.New("refused: there is nothing to audit: no name of any folder is left")
-
 // collector goes through the folders.
 type collector struct {
 	plan      *join.Plan
@@ -129,7 +125,7 @@ func (c *collector) checkSomething() error {
 			return fmt.Errorf("refused: %s", one.Head.Names.None(""))
 		}
 	}
-	return ErrNothing
+	return c.nothing()
 }
 
 // folder goes through the names of a folder.

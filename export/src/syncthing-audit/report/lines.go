@@ -268,6 +268,10 @@ func Refusals(to io.Writer, answer *finding.Answer) {
 		}
 	}
 	if kinds != "" {
-		fmt.Fprintf(to, "syncthing-audit: %d refused; --leave-out %s leaves them out\n", count, kinds[1:])
+		them := "them"
+		if count == 1 {
+			them = "it"
+		}
+		fmt.Fprintf(to, "syncthing-audit: %d refused; --leave-out %s leaves %s out\n", count, kinds[1:], them)
 	}
 }
