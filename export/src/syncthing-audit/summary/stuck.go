@@ -5,6 +5,7 @@ import (
 	"strings"
 
 	"syncthing-audit/finding"
+	"syncthing-audit/join"
 	"syncthing-audit/shell"
 )
 
@@ -78,8 +79,20 @@ func replacedAt(folder *finding.Folder, directory string) *stuck {
 	if len(made.devices) == 0 {
 		return nil
 	}
+	made.isSure = made.isSure && !mayMake(folder, row)
 	sort.Strings(made.types)
 	return made
+}
+
+// mayMake says whether a device on which nothing stands may make the directory before it takes what others have in its place: it does so for what is below.
+// The next scan records that as a change, which may go before what stands in its place, since it is later.
+func mayMake(folder *finding.Folder, row *join.Row) bool {
+	for place, member := range folder.Members {
+		if at := row.At[place]; (at == nil || at.Disk == nil) && kindOf(member) != sendOnly && !isReceiver(member) {
+			return true
+		}
+	}
+	return false
 }
 
 // isStopped says whether Syncthing doesn't do with a fault what it does elsewhere, since it gets stuck there.

@@ -131,6 +131,30 @@ func TestWhereItIsNotKnownWhatComesOfADirectory(t *testing.T) {
 	}
 }
 
+// A third device that has neither may make the directory for what is below, and its scan records that later than what stands in its place. Where it tells
+// that to nobody, or takes nothing, it doesn't matter.
+func TestWhereAThirdDeviceMayMakeTheDirectory(t *testing.T) {
+	for _, one := range []struct {
+		why, kind string
+		third     *part.Name
+		isSure    bool
+	}{
+		{"deleted", "", deletedBy(3), false}, {"never there", "", nil, false}, {"missing", "", with(directory(1), absent), false}, {"there", "", directory(1), true},
+		{"deleted where it only receives", receiveOnly, deletedBy(3), true}, {"never there where it only sends", sendOnly, nil, true},
+	} {
+		text := printed(answerOf(3, func(folder *finding.Folder) {
+			if one.kind != "" {
+				folder.Members[2].About.Kind = one.kind
+			}
+			fails(folder, "d", []*part.Name{directory(1), file(2, 2), one.third}, "RecordDiffers 1", "StoreDiffers 1", "RecordDiffers 3")
+			fails(folder, "d/in", []*part.Name{changedAt(1, 1), deletedBy(2), deletedBy(3)}, "RecordDiffers 2", "RecordDiffers 3")
+		}))
+		if !strings.Contains(text, "get stuck") && !one.isSure || strings.Contains(text, "Syncthing gets stuck here") != one.isSure {
+			t.Errorf("%s: %s", one.why, text)
+		}
+	}
+}
+
 // What isn't below it isn't stuck, whatever its name begins with.
 func TestWhatIsNotBelowADirectory(t *testing.T) {
 	text := printed(answerOf(2, func(folder *finding.Folder) {
