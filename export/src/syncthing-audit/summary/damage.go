@@ -41,5 +41,5 @@ func damageAdvice(one *Fault, file *File, at string, named labels) string {
 	if one.Kind == receiveOnly {
 		return told
 	}
-	return told + file.spread(file.allDelete(one.Device, "that", named), "")
+	return told + file.spread(file.allDelete(one, "that", named), "")
 }

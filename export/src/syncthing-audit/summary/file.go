@@ -40,6 +40,7 @@ type File struct {
 	firstsBesideBytes []string
 	stuck             *stuck    // where Syncthing gets no further with it
 	isOpen            bool      // whether it depends on which devices connect first which of several changes Syncthing keeps
+	localsBelow       []string  // the devices that only receive and have local changes below it
 	blocked           []blocked // the devices that only receive and can\'t take what Syncthing keeps of it
 	unseenBelow       int64     // how many names below it no details were kept of, where what becomes of it depends on these
 	unseenAbove       string    // a directory above it of which no details were kept, where that decides
@@ -325,6 +326,7 @@ func (r *reader) add(member int, cause Cause) {
 		made.late, made.mayStay = r.lateAt(member)
 		made.isAlone, made.isDue = cause == Missing && r.isAlone(member), isSame(at.Disk, r.winner)
 		made.isTied = cause == Behind && r.isTied(at)
+		made.isGone = cause == LocalChange && made.Kind == receiveOnly && made.isDirectoryDeleted() && r.isGone(at.Own)
 		made.isPassed = cause == LocalChange && made.Kind == receiveOnly && r.isPassed(at.Own)
 	}
 	made.hasDirectory = cause == Behind && made.Recorded.isDirectory() && made.Due != nil && made.Due.Type != "directory"

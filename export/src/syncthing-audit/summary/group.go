@@ -67,7 +67,7 @@ func keyOf(file *File) string {
 			key += " directory"
 		}
 	}
-	return key + " of " + strings.Join(file.Have, " ") + fmt.Sprint(" before ", file.isOpen, file.firsts, file.mayStay, file.isNeeded, file.stuck, file.blocked, file.unseenBelow > 0, file.unseenAbove)
+	return key + " of " + strings.Join(file.Have, " ") + fmt.Sprint(" before ", file.isOpen, file.firsts, file.mayStay, file.isNeeded, file.stuck, file.blocked, file.localsBelow, file.unseenBelow > 0, file.unseenAbove)
 }
 
 // shorten keeps of each fault only its device, kind and reasons. It is for a name whose details weren't kept: so it can be
@@ -159,7 +159,7 @@ func (f *folding) end() ([]*File, []*Group) {
 func (a *alike) groupOf(named labels) *Group {
 	first := a.first[0]
 	same := &File{Faults: withoutDetails(first.Faults), Have: first.Have, Permissions: first.Permissions, isMany: true, areWide: first.areWide, isOwn: first.isOwn, isOdd: first.isOdd, isCopy: first.isCopy, rivals: first.rivals, receivers: first.receivers, sharers: first.sharers,
-		firsts: first.firsts, isOpen: first.isOpen, mayStay: first.mayStay, stuck: first.stuck, isNeeded: first.isNeeded, blocked: first.blocked,
+		firsts: first.firsts, isOpen: first.isOpen, mayStay: first.mayStay, stuck: first.stuck, isNeeded: first.isNeeded, blocked: first.blocked, localsBelow: first.localsBelow,
 		unseenBelow: first.unseenBelow, unseenAbove: first.unseenAbove}
 	made := a.group
 	made.Cause, made.Devices, made.First, made.Have, made.Modes = Permissions, []string{}, []Text{}, first.Have, first.Permissions

@@ -138,6 +138,8 @@ func lateAdvice(one *Fault, file *File, at string, named labels) string {
 		takes = "what the version there does isn't known. Syncthing 1.29 may leave what stands there as a local change. 1.19 takes"
 	}
 	switch {
+	case one.late == lateDeletion && one.Kind == receiveOnly && one.isDirectoryDeleted():
+		return told + "others deleted the directory, and Syncthing" + deletesInPlace
 	case one.late == notLate || one.late == lateDeletion && (one.Kind == receiveOnly || one.Cause == Back):
 		return ""
 	case one.late == lateChange && one.isDue:

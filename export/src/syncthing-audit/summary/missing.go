@@ -26,7 +26,7 @@ func missingAdvice(one *Fault, file *File, at string, named labels) string {
 			" there is what other devices keep, so Syncthing makes " + file.say("the directory", "the directories") + " again"
 	}
 	told := "see that the folder's disk is mounted on " + at + ", before Syncthing starts there: a scan takes " + it + " for deleted" +
-		file.spread(file.allDelete(one.Device, it, named), "") + file.orBytes(one, named) + ". To keep " + it + ", first " + copying(one, file, named, toNothing)
+		file.spread(file.allDelete(one, it, named), "") + file.orBytes(one, named) + ". To keep " + it + ", first " + copying(one, file, named, toNothing)
 	if file.lackOn(one.Device) != nil {
 		told += one.lostAlone(it, at)
 	}

@@ -15,6 +15,8 @@ func localChangeAdvice(one *Fault, file *File, at string, named labels) string {
 		return "'Revert Local Changes' on " + at + file.say(" deletes the file", " deletes the files") + noOther
 	case one.isPassed:
 		return passedAdvice(one, file, at)
+	case one.isGone:
+		return "others deleted the directory since. Once Syncthing runs on " + at + ", it" + deletesInPlace
 	case one.isKeptFromDeletion():
 		return "'Revert Local Changes' on " + at + " doesn't delete " + it + file.keptFromDeletion(at) + ". To have " + it + " " + send
 	case one.isDeletedElsewhere():

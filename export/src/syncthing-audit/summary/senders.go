@@ -109,7 +109,7 @@ func (f *File) taking(from string, keepers, locals []string, named labels) (but,
 		reasons = append(reasons, named.all(unheard)+say(unheard, " hears", " hear")+" of changes through such a device alone")
 	}
 	if len(locals) > 0 {
-		reasons = append(reasons, named.all(locals)+say(locals, " keeps its local change", " keep their local changes"))
+		reasons = append(reasons, named.all(locals)+f.keepLocal(locals))
 	}
 	if len(stopped) > 0 {
 		reasons = append(reasons, f.whyBlocked(named))
@@ -137,33 +137,6 @@ func (f *File) toAll(from string, named labels) string {
 		return "to no other device" + why
 	}
 	return "to all" + but + why
-}
-
-// allDelete says who deletes what a scan of a device takes for deleted.
-func (f *File) allDelete(from, it string, named labels) string {
-	keepers := []string{}
-	for _, one := range f.sharers.keepers(from) {
-		if !f.hasAt(one, Missing) {
-			keepers = append(keepers, one)
-		}
-	}
-	but, why, isNone := f.taking(from, keepers, f.localChanges(), named)
-	if isNone {
-		return ", and then no other device deletes " + it + why
-	}
-	return ", and then all devices" + but + " delete " + it + why + f.orStays(named) + f.orDirectories(named)
-}
-
-// localChanges gives the devices that only receive and have a change of the name, recorded or found by the next scan. It goes before another
-// one's deletion, as any change does.
-func (f *File) localChanges() []string {
-	made := []string{}
-	for place := range f.Faults {
-		if one := &f.Faults[place]; one.Kind == receiveOnly && (one.isChange() || one.Cause == LocalChange && !one.Deletion && !f.hasAt(one.Device, Missing)) {
-			made = addOnce(made, one.Device)
-		}
-	}
-	return made
 }
 
 // onAll says on which devices 'Override Changes' on one of them undoes what others changed.

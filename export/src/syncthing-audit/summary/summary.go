@@ -228,12 +228,13 @@ func folderOf(answer *finding.Answer, from *finding.Folder, named labels) *Folde
 		made.Devices = append(made.Devices, memberOf(one))
 	}
 	all := &folding{named: named, alike: map[string]*alike{}}
-	below, unseen := keptBelow(from), unseenOf(from)
+	below, unseen, locals := keptBelow(from), unseenOf(from), localsBelow(from)
 	from.EachName(func(told *finding.Told) {
 		one := fileOf(from, told)
 		one.noteStuck(from, below)
 		one.noteBlocked(from)
 		one.noteUnseen(unseen)
+		one.localsBelow = locals[string(one.Name)]
 		all.take(one)
 	})
 	made.Files, made.Groups = all.end()
