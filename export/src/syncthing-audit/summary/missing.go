@@ -44,7 +44,7 @@ func lateMissing(one *Fault, file *File, at string, named labels) string {
 	if one.Kind != sendOnly {
 		told += ", and Syncthing brings what they have to " + at
 	}
-	told += file.takenBefore(one, at)
+	told += file.takenBefore(one, at) + file.orTakenOver(one, it, named)
 	if one.Kind == sendOnly {
 		return told + ". 'Override Changes' there would then delete " + it + " " + file.onAll(one.Device, named)
 	}
@@ -93,4 +93,19 @@ func (f *Fault) lostAlone(it, at string) string {
 	}
 	return ". What " + at + " recorded last of " + it + " no other device has: to keep that, too, look for it among old versions and backups, " +
 		"and put it back there (cp -a, or rsync -a) before Syncthing starts"
+}
+
+// orTakenOver says that all may delete what is missing on a device, where the change that goes before that is what others recorded: a scan that finds just
+// that records no change. It does find one where its device hasn't heard of what the others recorded.
+func (f *File) orTakenOver(one *Fault, it string, named labels) string {
+	on := []string{}
+	for place := range f.Faults {
+		if other := &f.Faults[place]; other.Device != one.Device && other.isDue && other.isRecordedByScan() {
+			on = addOnce(on, other.Device)
+		}
+	}
+	if len(on) == 0 || one.Kind == receiveOnly {
+		return ""
+	}
+	return ". Or all devices delete " + it + ": what stands on " + named.all(on) + " is what others recorded, so a scan there may find no change"
 }

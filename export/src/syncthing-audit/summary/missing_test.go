@@ -86,3 +86,18 @@ func TestMissingWhereOthersMayDeleteIt(t *testing.T) {
 		t.Error(told)
 	}
 }
+
+// What someone copied to a device by hand may be no change there. Nobody is just told that it goes before a deletion.
+func TestMissingWhereAnotherDeviceHasACopy(t *testing.T) {
+	for _, isSame := range []bool{true, false} {
+		copy := &part.Name{Disk: file(2, 2).Disk}
+		if !isSame {
+			copy.Disk = file(2, 3).Disk
+		}
+		text := toldOf([]*part.Name{with(file(2, 2), absent), copy}, "StoreDiffers 1,RecordMissing 2,StoreDiffers 2", 0, 1, func(*finding.Folder) {})
+		const has = ". Or all devices delete it: what stands on server is what others recorded, so a scan there may find no change"
+		if !strings.Contains(text, "the other devices keep it") || strings.Contains(text, has) != isSame {
+			t.Error(text)
+		}
+	}
+}
