@@ -160,7 +160,7 @@ class AttributesOfAMendedFile(Synchronised):
         (self.two.files / LOST).unlink()
         text = " ".join(self.answer()[1].split())
         self.assertIn("with its time alone, into the file that stands there (cp --preserve=timestamps, or", text)
-        self.assertIn("as it is (cp -a, or rsync -aX) while Syncthing is stopped there", text)
+        self.assertIn("as it is (cp -a, or rsync -aIX, as the user who runs Syncthing there) while Syncthing is stopped there", text)
         for name, how in ((KEPT, "--preserve=timestamps"), (LOST, "-a")):
             subprocess.run(["cp", how, self.one.files / name, self.two.files / name], check=True)
         self.assertEqual(self.verdict(), "settled")

@@ -62,8 +62,9 @@ class RotThatIsFetched(LateRot):
         for name in (KEPT, LOST):
             entry, _ = self.entry(name)
             self.assertIn(f"to do: before Syncthing starts there (another device may fetch it from {self.label(self.two)}, and then these "
-                          f"bytes go to all), copy it from {self.label(self.one)} to {self.label(self.two)} with its time (cp -p, ", entry)
-        self.mend(KEPT, "-p")
+                          f"bytes go to all), copy it from {self.label(self.one)} to {self.label(self.two)} with its time alone "
+                          "(cp --preserve=timestamps, ", entry)
+        self.mend(KEPT, "--preserve=timestamps")
         for device in (self.two, self.three):
             device.start()
         wait_until("the third device has both", lambda: text_of(self.three.files / LOST) and text_of(self.three.files / KEPT))
@@ -178,9 +179,9 @@ class RotThatAnOldChangeMeets(LateRot):
         """A person reads what to do before the scan; gives how it is to be copied."""
         entry, first = self.entry(name)
         self.assertIn("to do: before Syncthing scans there (the scan takes these bytes for a change, in conflict with what the others have), "
-                      f"copy it from {self.label(self.one)} to {self.label(self.two)} with its time (cp -p, ", entry)
+                      f"copy it from {self.label(self.one)} to {self.label(self.two)} as it is (cp -a, ", entry)
         self.assertTrue(first.startswith(self.label(self.two)))
-        return "-p"
+        return "-a"
 
     def test_they_are_in_conflict_but_where_they_were_mended(self):
         for name in (KEPT, LOST):

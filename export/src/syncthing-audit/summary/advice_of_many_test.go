@@ -20,7 +20,7 @@ var ofMany = []struct {
 	have   []string
 	has    string
 }{
-	{faultsOf("send-receive", OtherBytes), []string{laptop}, "copy them from laptop to server with their times"},
+	{faultsOf("send-receive", OtherBytes), []string{laptop}, "copy them from laptop to server with their times alone (cp"},
 	{append(faultsOf("send-receive", OtherBytes), Fault{Device: phone, Kind: "send-receive", Cause: OtherBytes}), []string{laptop}, "'touch' the files on that one"},
 	{faultsOf(receiveOnly, OtherBytes), []string{laptop}, "won't repair them: copy them"},
 	{faultsOf("send-receive", Missing), []string{laptop}, "a scan takes them for deleted, and then all devices delete them. To keep them, first copy them from laptop"},
@@ -32,7 +32,7 @@ var ofMany = []struct {
 	{faultsOf("send-receive", Behind), nil, "a device that has them"},
 	{faultsOf("send-receive", OtherBlocks), nil, "one of the records of each"},
 	{faultsOf("send-receive", Differs), nil, "audit some of them by themselves"},
-	{faultsOf("send-receive", Damaged), []string{laptop}, "with their times"},
+	{faultsOf("send-receive", Damaged), []string{laptop}, "copy what is lost from laptop to server as they are (cp -a"},
 	{faultsOf(receiveOnly, LocalChange), []string{laptop}, "To have the changes everywhere"},
 	{faultsOf("send-receive", Back), nil, "delete them on server"},
 	{faultsOf("send-receive", Changed), []string{laptop}, "the changes then go to all. If they aren't wanted, first copy them from laptop to server as they are"},

@@ -134,7 +134,7 @@ func TestAdviceOnOtherTypes(t *testing.T) {
 		recorded, found string
 		has             string
 	}{
-		{Changed, "file", "file", "cp -p"}, {Changed, "symlink", "symlink", "moved away"}, {Changed, "file", "symlink", "moved away"},
+		{Changed, "file", "file", intoFile}, {Changed, "symlink", "symlink", "moved away"}, {Changed, "file", "symlink", "moved away"},
 		{Changed, "symlink", "file", "moved away"}, {Changed, "directory", "file", "moved away"}, {Changed, "file", "directory", "moved away"},
 		{Missing, "symlink", "", "cp -a"}, {Missing, "directory", "", "cp -a"}, {Missing, "file", "", "cp -a"},
 	}
@@ -145,7 +145,7 @@ func TestAdviceOnOtherTypes(t *testing.T) {
 			faults[0].Found = &State{Type: one.found}
 		}
 		told := strings.Join(adviceOf(&File{Faults: faults, Have: []string{laptop}}, labels{laptop: "laptop", server: "server"}), ". ")
-		if !strings.Contains(told, one.has) || strings.Contains(told, "cp -p") != (one.has == "cp -p") {
+		if !strings.Contains(told, one.has) || strings.Contains(told, intoFile) != (one.has == intoFile) {
 			t.Errorf("%s, a %s recorded, a %s found: %s", one.cause, one.recorded, one.found, told)
 		}
 	}
@@ -161,8 +161,8 @@ func TestAdviceKeepsAttributes(t *testing.T) {
 	}{
 		{OtherBytes, "file", "file", "cp --preserve=timestamps, or rsync --inplace --times --ignore-times", false},
 		{Changed, "file", "file", "cp --preserve=timestamps, or rsync --inplace --times --ignore-times", false},
-		{Changed, "directory", "file", "cp -a, or rsync -aX", true}, {Missing, "file", "", "cp -a, or rsync -aX", true},
-		{Missing, "directory", "", "cp -a, or rsync -aX", true}, {Damaged, "file", "", "cp -a, or rsync -aX", true},
+		{Changed, "directory", "file", "cp -a, or rsync -aIX, as the user who runs Syncthing there", true}, {Missing, "file", "", "cp -a, or rsync -aIX, as the user who runs Syncthing there", true},
+		{Missing, "directory", "", "cp -a, or rsync -aIX, as the user who runs Syncthing there", true}, {Damaged, "file", "", "cp -a, or rsync -aIX, as the user who runs Syncthing there", true},
 	}
 	named := labels{laptop: "laptop", phone: "phone", server: "server"}
 	for _, one := range cases {

@@ -39,28 +39,32 @@ func (f *File) sourceFor(one *Fault) string {
 	return f.Have[0]
 }
 
-// manner says how something is copied. Into a file that stands there its bytes alone are written where scans look at owners and
-// attributes: so it keeps its own, which the source may have otherwise.
+// manner says how something is copied. Into a file that stands there its bytes and time alone are written: so it keeps its owner, mode and attributes,
+// also where root copies it.
 func (f *File) manner(one *Fault, to way) string {
-	whole := "rsync -a"
-	if one.isWide {
-		whole = "rsync -aX"
-	}
 	const stopped = " while Syncthing is stopped there"
-	switch {
-	case to == toNothing || to == afterLoss && one.isWide:
-		return f.asItIs(whole) + stopped
-	case to == overAnother:
-		return f.asItIs(whole) + ", once what stands there is moved away," + stopped
-	case one.isWide:
-		return f.say(" with its time alone, into the file that stands there", " with their times alone, into the files that stand there") +
-			" (cp --preserve=timestamps, or rsync --inplace --times --ignore-times)" + stopped + f.say(": that file keeps its owner and attributes",
-			": those files keep their owners and attributes")
+	switch to {
+	case toNothing, afterLoss:
+		return f.asItIs(one) + stopped
+	case overAnother:
+		return f.asItIs(one) + ", once what stands there is moved away," + stopped
 	}
-	return " with " + f.say("its time", "their times") + " (cp -p, or rsync --times --ignore-times)" + stopped
+	told := f.say(" with its time alone", " with their times alone")
+	if !one.isWide {
+		return told + intoFile + stopped
+	}
+	return told + f.say(", into the file that stands there", ", into the files that stand there") + intoFile + stopped +
+		f.say(": that file keeps its owner and attributes", ": those files keep their owners and attributes")
 }
 
-// asItIs says how something is copied whole, with this command in place of cp.
-func (f *File) asItIs(whole string) string {
-	return " as " + f.say("it is", "they are") + " (cp -a, or " + whole + ")"
+// intoFile are the commands that write into a file that stands there.
+const intoFile = " (cp --preserve=timestamps, or rsync --inplace --times --ignore-times)"
+
+// asItIs says how something is copied whole. Syncthing can't give a mode to what belongs to another user.
+func (f *File) asItIs(one *Fault) string {
+	whole := "rsync -aI"
+	if one.isWide {
+		whole = "rsync -aIX"
+	}
+	return " as " + f.say("it is", "they are") + " (cp -a, or " + whole + ", as the user who runs Syncthing there)"
 }

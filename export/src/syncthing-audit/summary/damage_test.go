@@ -19,8 +19,8 @@ const (
 	damageOfServer = `  to do: see the system's log on server (journalctl -k, smartctl -a): its disk fails there, and may
          soon fail elsewhere. Save what that disk has and no other device has, and replace it.`
 	copyOfServer = ` Then
-         copy what is lost from laptop to server with its time (cp -p, or rsync --times
-         --ignore-times) while Syncthing is stopped there. Don't delete what is damaged, and don't
+         copy what is lost from laptop to server as it is (cp -a, or rsync -aI, as the user who runs
+         Syncthing there) while Syncthing is stopped there. Don't delete what is damaged, and don't
          start Syncthing there, before that is done: a scan takes what is missing for deleted, and
          then all devices delete that.
 `

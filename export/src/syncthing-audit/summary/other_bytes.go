@@ -78,13 +78,10 @@ func lateBytesAdvice(one, lack *Fault, file *File, at string, named labels) stri
 		return "once " + at + " takes what is newest, these bytes are gone, without a conflict copy: copy elsewhere first what is to stay"
 	}
 	told := "before Syncthing scans there (the scan " + whatAScanTakes(one, lack) + "), "
-	switch {
-	case lack.Deletion:
+	if lack.Deletion {
 		return told + "delete " + file.say("it", "them") + " there while Syncthing is stopped"
-	case one.isWide:
-		return told + copying(one, file, named, toNothing)
 	}
-	return told + copying(one, file, named, overFile)
+	return told + copying(one, file, named, toNothing) // so its mode is the one that is due, too
 }
 
 // whatAScanTakes says for what a scan takes other bytes on a device that is behind with the file.

@@ -44,7 +44,7 @@ func TestAdviceOnOtherBytesOfADeviceThatIsBehind(t *testing.T) {
 	}{
 		{kind: "send-receive", first: replaced, last: "let Syncthing run"},
 		{kind: receiveOnly, isWide: true, first: replaced, last: "let Syncthing run"},
-		{kind: "send-receive", isSeen: true, first: "(the scan takes these bytes for a change, in conflict with what the others have), copy it from laptop to server with its time (cp -p",
+		{kind: "send-receive", isSeen: true, first: "(the scan takes these bytes for a change, in conflict with what the others have), copy it from laptop to server as it is (cp -a",
 			last: "let Syncthing run"},
 		{kind: "send-receive", isWide: true, first: "(the scan may take these bytes for a change, in conflict with what the others have), copy it from laptop to server as it is (cp -a",
 			last: "let Syncthing run"},

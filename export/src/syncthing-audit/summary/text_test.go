@@ -113,9 +113,10 @@ var textsForAPerson = []struct {
     the first of them: SHA-256 abcd0000.. recorded, 12000000.. on the disk
   as recorded on: laptop
   to do: Syncthing won't repair it, and sends these bytes to all once another device fetches the
-         file from server. Before that, copy it from laptop to server with its time (cp -p, or rsync
-         --times --ignore-times) while Syncthing is stopped there. If instead the bytes on server
-         are the right ones, 'touch' the file there and let Syncthing scan: it sends them to all.
+         file from server. Before that, copy it from laptop to server with its time alone (cp
+         --preserve=timestamps, or rsync --inplace --times --ignore-times) while Syncthing is
+         stopped there. If instead the bytes on server are the right ones, 'touch' the file there
+         and let Syncthing scan: it sends them to all.
 ` + lastLine},
 	{"a file of other bytes where scans look at attributes", 2, func(folder *finding.Folder) {
 		folder.Members[1].About.ScansAttributes = true
@@ -146,11 +147,13 @@ a  (in docs, 300.0 kB)
   the same other bytes on: phone, server
   as recorded on: laptop
   to do: Syncthing won't repair it, and sends these bytes to all once another device fetches the
-         file from phone. Before that, copy it from laptop to phone with its time (cp -p, or rsync
-         --times --ignore-times) while Syncthing is stopped there.
+         file from phone. Before that, copy it from laptop to phone with its time alone (cp
+         --preserve=timestamps, or rsync --inplace --times --ignore-times) while Syncthing is
+         stopped there.
   to do: Syncthing won't repair it, and sends these bytes to all once another device fetches the
-         file from server. Before that, copy it from laptop to server with its time (cp -p, or rsync
-         --times --ignore-times) while Syncthing is stopped there.
+         file from server. Before that, copy it from laptop to server with its time alone (cp
+         --preserve=timestamps, or rsync --inplace --times --ignore-times) while Syncthing is
+         stopped there.
   to do: if instead the bytes on phone, server are the right ones, which are the same, 'touch' the
          file on phone alone and let Syncthing scan: it sends them to all.
 ` + lastLine},
@@ -186,7 +189,8 @@ a  (in docs, 300.0 kB)
   as recorded on: laptop
   to do: see that the folder's disk is mounted on server, before Syncthing starts there: a scan
          takes it for deleted, and then all devices delete it. To keep it, first copy it from laptop
-         to server as it is (cp -a, or rsync -a) while Syncthing is stopped there.
+         to server as it is (cp -a, or rsync -aI, as the user who runs Syncthing there) while
+         Syncthing is stopped there.
 ` + lastLine},
 	{"a device that took one of two changes, and lacks the other one", 2, func(folder *finding.Folder) {
 		fails(folder, "a", []*part.Name{file(1, 1), with(file(1, 2), func(one *part.Name) { one.Own.Version = [][2]uint64{{2, 1}} })}, "RecordDiffers 2",
@@ -259,9 +263,9 @@ a  (in docs, 300.0 kB)
   permissions differ (they don't count for the verdict): laptop 0644; server 0644 recorded, 0600 on the disk
   as recorded on: laptop
   to do: before Syncthing scans there (the scan sends these bytes to all), copy it from laptop to
-         server with its time (cp -p, or rsync --times --ignore-times) while Syncthing is stopped
-         there. If instead the bytes on server are the right ones, 'touch' the file there and let
-         Syncthing scan: it sends them to all.
+         server with its time alone (cp --preserve=timestamps, or rsync --inplace --times
+         --ignore-times) while Syncthing is stopped there. If instead the bytes on server are the
+         right ones, 'touch' the file there and let Syncthing scan: it sends them to all.
   to do: on server, 'chmod 0644' it if that is the right mode, before Syncthing scans there: the
          scan may send 0600 to all; or choose 'Ignore Permissions' for the folder.
 ` + lastLine},

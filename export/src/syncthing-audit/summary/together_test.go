@@ -30,10 +30,10 @@ func TestManyNamesOfOtherBytes(t *testing.T) {
   the first: photos/00 photos/01 photos/02 photos/03 photos/04, and 35 more (--lines has all)
   as recorded on: laptop, phone
   to do: Syncthing won't repair them, and sends these bytes to all once another device fetches the
-         files from server. Before that, copy them from laptop to server with their times (cp -p, or
-         rsync --times --ignore-times) while Syncthing is stopped there. If instead the bytes on
-         server are the right ones, 'touch' the files there and let Syncthing scan: it sends them to
-         all.
+         files from server. Before that, copy them from laptop to server with their times alone (cp
+         --preserve=timestamps, or rsync --inplace --times --ignore-times) while Syncthing is
+         stopped there. If instead the bytes on server are the right ones, 'touch' the files there
+         and let Syncthing scan: it sends them to all.
 `
 	for names, entries := range map[int]int{mostAlone: mostAlone, 40: 0} {
 		answer := answerOf(3, fill(names))
