@@ -63,16 +63,26 @@ class BelowWhatIsReplaced(Behind):
                 self.assertNotIn("goes to all", self.told[entry])
         self.assertIn("a scan takes it for deleted. Below it there is what other devices keep, so Syncthing makes the directory again", self.told["missing"])
         self.assertNotIn("all devices delete", self.told["missing"])
+        for entry in ("recorded", "found", "linked"):
+            self.assertIn("nothing in place of a directory that has more than Syncthing's temporary files and what .stignore marks with (?d): these it deletes.", self.told[entry])
+        self.put_what_is_deleted()
         self.start()
         wait_until("both are stuck", lambda: {"recorded", "found", "linked"} <= self.failed(self.one).keys()
                    and {"recorded/in", "found/in", "linked/new"} <= self.failed(self.two).keys())
         self.assertIn("not empty", self.failed(self.one)["recorded"])
         self.assertIn("not a directory", self.failed(self.two)["recorded/in"])
+        self.assertEqual([path.name for path in (self.one.files / "recorded").iterdir()], ["in"])
         for device in self.devices:
             wait_until("what is kept is there, and its directory", lambda: text_of(device.files / "missing/in") == NEW)
         self.mend()
         wait_until("all is as it was decided", lambda: all(self.is_mended(device) for device in self.devices))
         self.stop()
+
+    def put_what_is_deleted(self):
+        """Puts into a directory what Syncthing deletes there, though it doesn't replace the directory."""
+        (self.one.files / ".stignore").write_text("(?d)*.cache\n")
+        for name in ("a.cache", ".syncthing.b.tmp"):
+            (self.one.files / "recorded" / name).write_text("")
 
     def is_mended(self, device):
         """Whether a device has what was to stay, and nothing that it still lacks."""
