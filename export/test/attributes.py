@@ -88,18 +88,13 @@ class RotThatAScanDrops(WhereAttributesAreScanned):
 class RotWithAttributesThatAnOldChangeMeets(late_rot.RotThatAnOldChangeMeets, WhereAttributesAreScanned):
     """A device that is behind with the rotten files."""
 
+    takes = "may take"
+
     def rot(self, name):
         late_rot.LateRot.rot(self, name)
 
     def show(self, name):
         """The inode has changed. That is enough."""
-
-    def assert_told(self, name):
-        entry, first = self.entry(name)
-        self.assertIn("to do: before Syncthing scans there (the scan may take these bytes for a change, in conflict with what the others have), "
-                      f"copy it from {self.label(self.one)} to {self.label(self.two)} as it is (cp -a, ", entry)
-        self.assertTrue(first.startswith(self.label(self.two)))
-        return "-a"
 
 
 class Synchronised(WhereAttributesAreScanned):

@@ -155,6 +155,8 @@ class RotThatAnOldChangeMeets(LateRot):
     """Another mode shows the scan that the files changed, while the device is behind with them. Their change has an old time, so that the
     rotten bytes win."""
 
+    takes = "takes"
+
     def change(self):
         """The first device puts files of an old time into place, of which the second one hears later."""
         for name in (KEPT, LOST):
@@ -176,12 +178,11 @@ class RotThatAnOldChangeMeets(LateRot):
         (self.two.files / name).chmod(0o600)
 
     def assert_told(self, name):
-        """A person reads what to do before the scan; gives how it is to be copied."""
+        """A person reads what to do before the scan."""
         entry, first = self.entry(name)
-        self.assertIn("to do: before Syncthing scans there (the scan takes these bytes for a change, in conflict with what the others have), "
+        self.assertIn(f"to do: before Syncthing scans there (the scan {self.takes} these bytes for a change, in conflict with what the others have), "
                       f"copy it from {self.label(self.one)} to {self.label(self.two)} as it is (cp -a, ", entry)
         self.assertTrue(first.startswith(self.label(self.two)))
-        return "-a"
 
     def test_they_are_in_conflict_but_where_they_were_mended(self):
         for name in (KEPT, LOST):
@@ -189,8 +190,8 @@ class RotThatAnOldChangeMeets(LateRot):
             self.show(name)
         self.change()
         for name in (KEPT, LOST):
-            how = self.assert_told(name)
-        self.mend(KEPT, how)
+            self.assert_told(name)
+        self.mend(KEPT, "-a")
         self.start()
         wait_until("the rotten bytes are on the first device", lambda: text_of(self.one.files / LOST) == "rotten " + LOST)
         wait_until("both devices are in step", lambda: self.one.is_in_step_with(self.two) and self.two.is_in_step_with(self.one))
