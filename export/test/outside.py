@@ -1,5 +1,6 @@
 #!/usr/bin/env python3
-"""The audit of real devices that have names which Syncthing doesn't take for the folder's: names of Syncthing's temporary files.
+"""The audit of real devices that have names which Syncthing doesn't take for the folder's: a whitelist in .stignore, and names of Syncthing's
+temporary files.
 
     export/test/outside.py
 """
@@ -10,7 +11,84 @@ import time
 from exporting import Exporting, main, run
 from syncthing import FOLDER, wait_until
 
+WHITELIST = "!/keep/*.bin\n*\n"
 SECONDS_OF_A_DAY = 86400
+
+
+class Whitelist(Exporting):
+    """Two devices whose .stignore takes in some files below a directory, and ignores all else, the directory, too."""
+
+    @classmethod
+    def synchronise(cls):
+        for one in cls.devices:
+            (one.files / ".stignore").write_text(WHITELIST)
+            (one.files / "other").mkdir()
+            (one.files / "other" / "scratch").write_text("scratch")
+        (cls.one.files / "keep").mkdir()
+        (cls.one.files / "keep" / "1.bin").write_text("hello")
+        cls.scan_and_wait()
+        (cls.two.files / "keep" / "notes").write_text("notes")
+        cls.two.scan()
+
+    def told(self, names):
+        """What is told where nothing fails; so many names aren't the folder's."""
+        return ["settled", f"folder {FOLDER}: 2 names, 0 deleted, 2 devices", f"ignored: {FOLDER} {names} names, 12 bytes, on no device's index"]
+
+    def test_the_directory_is_the_folder_s(self):
+        """Syncthing has a record of it, as of what is taken in below it."""
+        self.assertEqual(self.report(), self.told(3))
+        self.assertEqual(self.check_parts([self.part(one) for one in self.devices]).returncode, 0)
+
+    def test_a_directory_with_nothing_that_is_taken_in_is_outside(self):
+        path = self.one.files / "keep.bin"
+        path.mkdir()
+        self.addCleanup(path.rmdir)
+        self.assertEqual(self.report(), self.told(4))
+
+    def test_faults_of_what_is_taken_in(self):
+        path = self.two.files / "keep" / "1.bin"
+        times = path.stat()
+        path.write_text("hallo")
+        os.utime(path, ns=(times.st_atime_ns, times.st_mtime_ns))
+        self.assertEqual(self.verdict(), self.fault("StoreDiffers", "keep/1.bin", self.two))
+        path.write_text("hello")
+        os.utime(path, ns=(times.st_atime_ns, times.st_mtime_ns))
+        path.parent.chmod(0o700)
+        self.addCleanup(path.parent.chmod, 0o755)
+        (line,) = (line for line in self.report() if line.startswith("permissions: "))
+        self.assertIn(f" {self.number(self.two)} index 0755 disk 0700", line)
+
+    def test_devices_that_run(self):
+        """The directory is still, as what is below it is."""
+        self.start()
+        self.addCleanup(self.stop)
+        wait_until("the devices are in step", lambda: are_in_step(self))
+        ran = run([self.program, "run", self.one.home, self.two.home, "--still", "0", "--lines", "--syncaudit", self.auditor])
+        self.assertEqual((ran.returncode, ran.stdout.splitlines()[:2]), (0, self.told(3)[:2]), ran.stdout + ran.stderr)
+        self.assertIn("in motion: 0 names\n", ran.stdout)
+
+
+class WhitelistOnOneDevice(Exporting):
+    """Two devices, of which the second one has such a whitelist."""
+
+    @classmethod
+    def synchronise(cls):
+        (cls.two.files / ".stignore").write_text(WHITELIST)
+        (cls.one.files / "keep").mkdir()
+        (cls.one.files / "keep" / "1.bin").write_text("hello")
+        (cls.one.files / "keep" / "2.txt").write_text("text")
+        cls.one.scan()
+        wait_until("the file is on both", lambda: (cls.two.files / "keep" / "1.bin").exists() and are_in_step(cls))
+        cls.two.scan()
+        wait_until("both know that", lambda: are_in_step(cls) and cls.one.knows_all_of(cls.two))
+
+    def test_what_is_ignored_is_left_out_and_the_directory_is_not(self):
+        refused = self.refused()
+        self.assertIn("name keep/2.txt: it is ignored there by .stignore", refused)
+        self.assertNotIn("name keep:", refused)
+        lines = self.report("--leave-out", "ignored")
+        self.assertEqual(lines[:2], ["settled as far as audited", f"folder {FOLDER}: 2 names, 0 deleted, 2 devices"])
+        self.assertEqual({line.split(" on ")[0] for line in lines[2:]}, {f"left out: {FOLDER} keep/2.txt"})
 
 
 class TemporaryNames(Exporting):

@@ -6,7 +6,9 @@ import (
 	"io"
 	"os"
 	"strconv"
+	"strings"
 
+	"github.com/syncthing/syncthing/lib/protocol"
 	"syncthing-audit/disk"
 	"syncthing-audit/leftover"
 	"syncthing-audit/part"
@@ -29,6 +31,9 @@ type Glance struct {
 
 // markOfUnread is that of a name of which nothing can be told.
 const markOfUnread = "unread"
+
+// beforeIgnored stands before the mark of a directory that .stignore ignores. The index says whether the folder has it all the same.
+const beforeIgnored = "ignored "
 
 // Glance walks all folders.
 func (d *Device) Glance() (*Glance, error) {
@@ -58,12 +63,15 @@ func (d *Device) walkInto(file *os.File, folder Folder) error {
 	to := bufio.NewWriter(file)
 	walker := d.walker(folder)
 	walker.Take = func(one disk.Found) error {
-		if patterns.Match(one.Name).IsIgnored() {
-			return nil
-		}
 		mark := one.Node.Mark()
 		if one.Node == nil {
 			mark = markOfUnread
+		}
+		if patterns.Match(one.Name).IsIgnored() {
+			if patterns.SkipIgnoredDirs() || one.Node == nil || one.Node.Type != int(protocol.FileInfoTypeDirectory) {
+				return nil
+			}
+			mark = beforeIgnored + mark
 		}
 		_, err := to.WriteString(strconv.Quote(one.Name) + "\n" + strconv.Quote(mark) + "\n")
 		return err
@@ -148,12 +156,15 @@ func (c *comparing) read() error {
 	return nil
 }
 
-// gone gives on names of the glance that stand before this one, or all where it is empty.
+// gone gives on names of the glance that stand before this one, or all where it is empty. A directory that is ignored and gone, and that no index
+// has, isn't the folder's.
 func (c *comparing) gone(before string) error {
 	for c.next != nil && (before == "" || c.next.name < before) {
-		c.added++
-		if err := c.sink(part.Line{Name: &part.Name{Name: part.Bytes(c.next.name), Moved: []string{part.MovedDisk}}}); err != nil {
-			return err
+		if !strings.HasPrefix(c.next.mark, beforeIgnored) {
+			c.added++
+			if err := c.sink(part.Line{Name: &part.Name{Name: part.Bytes(c.next.name), Moved: []string{part.MovedDisk}}}); err != nil {
+				return err
+			}
 		}
 		if err := c.read(); err != nil {
 			return err
@@ -166,7 +177,7 @@ func (c *comparing) gone(before string) error {
 func (c *comparing) name(line part.Line) error {
 	mark := ""
 	if c.next != nil && c.next.name == string(line.Name.Name) {
-		mark = c.next.mark
+		mark = strings.TrimPrefix(c.next.mark, beforeIgnored)
 		if err := c.read(); err != nil {
 			return err
 		}

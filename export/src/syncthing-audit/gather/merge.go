@@ -134,10 +134,17 @@ func (m *merge) put(name string) bool {
 	if m.device.Look != nil {
 		line.Receiving = disk.Stamp(m.walker.PathOf(fs.TempName(name)))
 	}
-	if m.patterns.Match(name).IsIgnored() {
+	if m.isIgnored(name, line.Own) {
 		line.Out = append(line.Out, part.LeftOut{Kind: part.Ignored, Why: "it is ignored there by .stignore", Bytes: sizeOf(line)})
 	}
 	return m.send(line, recorded, stamp)
+}
+
+// isIgnored says whether .stignore keeps a name out of the folder. Where a pattern takes in what is below a directory that another pattern ignores,
+// Syncthing takes the directory, too, once something below it is taken: the index has a record of it then.
+func (m *merge) isIgnored(name string, own *part.Record) bool {
+	isTaken := own != nil && !own.Deleted && own.Type == int(protocol.FileInfoTypeDirectory) && !m.patterns.SkipIgnoredDirs()
+	return m.patterns.Match(name).IsIgnored() && !isTaken
 }
 
 // addRecord adds a record to a name: the own one, or one of a view.
