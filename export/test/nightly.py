@@ -27,12 +27,14 @@ from syncthing import wait_until
 
 CONTRIB = Path(__file__).resolve().parents[2] / "contrib"
 SERVICE = CONTRIB / "systemd" / "syncthing-audit.service"
-# It notes what it is asked, and a unit runs where 'running' is there; 'stop' and 'start' fail where 'stuck' is there.
+# It notes what it is asked. A unit runs where 'running' is there, and is enabled where 'enabled' is; 'stop' and 'start' fail where 'stuck' is
+# there.
 SYSTEMCTL = '''#!/bin/sh
 cd "$(dirname "$0")" || exit
 echo "$*" >> asked
 case "$*" in
   *is-active*) test -e running ;;
+  *is-enabled*) test -e enabled ;;
   *) test ! -e stuck ;;
 esac
 '''
@@ -91,17 +93,17 @@ class Audited(unittest.TestCase):
         """Has the second device's part come."""
         run([self.programs / PROGRAM, "part", "--home", self.homes[1], "-o", self.parts / "other.part", *words], check=True)
 
-    def service(self, **settings):
+    def service(self, line="ExecStart", **settings):
         """The command of the unit, and what systemd would put into its environment, %h being the user's home."""
-        command, = re.findall(r"^ExecStart=(.*)$", SERVICE.read_text(), re.MULTILINE)
+        command, = re.findall(rf"^{line}=(.*)$", SERVICE.read_text(), re.MULTILINE)
         path, = re.findall(r"^Environment=PATH=(.*)$", SERVICE.read_text(), re.MULTILINE)
         environment = {"HOME": str(self.user), "PATH": path.replace("%h", str(self.user)), "SYNCAUDIT": auditor(),
                        "SYNCTHING_HOME": str(self.homes[0]), "MAIL_TO": "me@example.org", "METRICS": str(self.metrics), **settings}
-        return [command.replace("%h", str(self.user))], environment
+        return command.replace("%h", str(self.user)).split(), environment
 
-    def run_service(self, **settings):
-        """Runs the command of the unit, as systemd would; gives its status and what it prints."""
-        command, environment = self.service(**settings)
+    def run_service(self, line="ExecStart", **settings):
+        """Runs a command of the unit, as systemd would; gives its status and what it prints."""
+        command, environment = self.service(line, **settings)
         ran = run(command, env=environment)
         return ran.returncode, ran.stdout
 
@@ -110,6 +112,9 @@ class Audited(unittest.TestCase):
         path = self.tools / name
         return path.read_text() if path.exists() else ""
 
+    def asked(self):
+        """What systemd was asked."""
+        return [line.split()[2] for line in self.told("asked").splitlines()]
 
 
 class Nightly(Audited):
@@ -215,7 +220,7 @@ class Nightly(Audited):
         (self.tools / "running").unlink()
         self.part_of_the_other()
         self.assertEqual(self.run_service()[0], 0)
-        self.assertEqual([line.split()[2] for line in self.told("asked").splitlines()], ["is-active"])
+        self.assertEqual(self.asked(), ["is-active", "is-enabled"])
 
     def test_syncthing_that_cannot_be_stopped(self):
         (self.tools / "stuck").touch()
