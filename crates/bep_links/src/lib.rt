@@ -12,7 +12,7 @@ mod link;
 mod queue;
 mod side;
 
-pub use bep_machine::{Announced, Code, Message, Request, Response};
+pub use bep_machine::{Announced, Bytes, Code, Message, Request, Response};
 pub use error::LinkError;
 pub use link::Link;
 pub use side::Side;

@@ -3,6 +3,7 @@
 //! Nearly all of this crate is definitions, in `specs/`, and the laws that follow from them.
 #![tactic(auto)]
 
+mod bytes;
 mod calm;
 mod determined;
 mod effects;
@@ -23,6 +24,7 @@ mod sound;
 mod step;
 mod undone;
 
+pub use bytes::Bytes;
 pub use calm::{quiet_steps_keep_calm, quiet_steps_keep_records};
 pub use determined::{replays_are_determined, runs_are_determined, steps_are_determined};
 pub use effects::{

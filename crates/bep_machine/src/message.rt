@@ -1,6 +1,7 @@
 //! What devices send each other over a link.
 ghost use Rattle.std.specs.Prelude.{◌≡◌, IfOk};
 
+use crate::Bytes;
 use bep_index::Batch;
 use bep_record::{Duplicate, FolderName, Items, Name};
 use std::alloc::{AllocError, Global};
@@ -130,7 +131,7 @@ pub struct Response {
     /// Whether it was answered.
     pub code: Code,
     /// The block's bytes; none unless the code is `NoError`.
-    pub bytes: Items<u8>,
+    pub bytes: Bytes,
 }
 
 // By hand: a caller's proof then sees one call where it lets go of one, and not each field (docs/developing.md).

@@ -28,9 +28,7 @@ impl Same for Request {
 
 impl Same for Response {
     fn same(&self, other: &Response) -> bool {
-        self.id == other.id
-            && self.code == other.code
-            && self.bytes.as_slice() == other.bytes.as_slice()
+        self.id == other.id && self.code == other.code && self.bytes.same(&other.bytes)
     }
 }
 

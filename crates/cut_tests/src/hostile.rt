@@ -1,7 +1,7 @@
 //! What a hostile device may put on a link: messages that break the protocol lose it, and leave all that was known.
 use crate::made::{cluster, docs, name};
 use bep_index::Batch;
-use bep_links::{Announced, Code, Link, Message, Response, Side};
+use bep_links::{Announced, Bytes, Code, Link, Message, Response, Side};
 use bep_machine::Moved;
 use bep_peer::{Peer, PeerError};
 use bep_record::{DeviceId, Entry, FolderName, Items, Kind, Record, Target, Version};
@@ -62,7 +62,7 @@ fn message(alloc: Global, letter: u8) -> Option<Message> {
         _ => Some(Message::Response(Response {
             id: 9,
             code: Code::NoError,
-            bytes: Items::new(Vec::new(alloc)),
+            bytes: Bytes::none(),
         })),
     }
 }

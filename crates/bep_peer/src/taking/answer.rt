@@ -7,21 +7,21 @@ ghost use Rattle.bep_machine.specs.declared.message.Code.TheVariants.{NoError};
 ghost use Rattle.bep_machine.specs.Exchange.{Answers, HasBytes, HasRange, bytes_asked, refusing};
 
 use bep_blocks::matches;
-use bep_machine::{Code, Request, Response};
-use bep_record::{Block, Items, Node};
+use bep_machine::{Bytes, Code, Request, Response};
+use bep_record::{Block, Node};
 use bep_store::range_of;
 use std::alloc::{AllocError, Global};
 
 /// The answer without bytes, and the reason why it has none. It takes no memory.
 ///
 /// BEP v1, 'Response', field 'code'.
-pub fn refuse(alloc: Global, request: &Request, code: Code) -> Response
+pub fn refuse(request: &Request, code: Code) -> Response
     ensures { result ≡ refusing request.now code }
 {
     Response {
         id: request.id,
         code,
-        bytes: Items::new(Vec::new(alloc)),
+        bytes: Bytes::none(),
     }
 }
 
@@ -38,10 +38,10 @@ pub fn answer_to(
     ensures { IfOk result (λ response. Answers request.now None (option_copied node.entry) response) }
 {
     let Some(bytes) = asked_bytes(request, node) else {
-        return Ok(refuse(alloc, request, Code::NoSuchFile));
+        return Ok(refuse(request, Code::NoSuchFile));
     };
     if !has_hash(bytes, &request.hash) {
-        return Ok(refuse(alloc, request, Code::InvalidFile));
+        return Ok(refuse(request, Code::InvalidFile));
     }
     bringing(alloc, request, bytes)
 }
@@ -60,7 +60,7 @@ pub(crate) fn answer_known(
         unreachable!();
     };
     if *hash != request.hash {
-        return Ok(refuse(alloc, request, Code::InvalidFile));
+        return Ok(refuse(request, Code::InvalidFile));
     }
     bringing(alloc, request, bytes)
 }
@@ -72,7 +72,7 @@ fn bringing(alloc: Global, request: &Request, bytes: &[u8]) -> Result<Response, 
     Ok(Response {
         id: request.id,
         code: Code::NoError,
-        bytes: Items::new(Vec::from_slice(alloc, bytes)?),
+        bytes: Bytes::of(Vec::from_slice(alloc, bytes)?)?,
     })
 }
 

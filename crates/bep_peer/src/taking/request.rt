@@ -188,7 +188,7 @@ fn answer_read(
 {
     match read {
         Ok(node) => Ok(answer_to(alloc, request, node.as_ref())?),
-        Err(FolderError::StoreFault) => Ok(refuse(alloc, request, Code::Generic)),
+        Err(FolderError::StoreFault) => Ok(refuse(request, Code::Generic)),
         Err(_) => Err(PeerError::Memory),
     }
 }

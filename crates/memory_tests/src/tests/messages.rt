@@ -1,7 +1,7 @@
 //! `bep_machine`, `bep_fit` and `bep_links`.
 use super::made::{HELLO, batch, docs, name, node};
 use bep_fit::Stamped;
-use bep_links::{Announced, Code, Link, Message, Request, Response};
+use bep_links::{Announced, Bytes, Code, Link, Message, Request, Response};
 use bep_machine::{Exchanged, Logged, Step, Traffic};
 use bep_record::{DeviceId, HASH_OF_NOTHING, Items};
 use std::alloc::Global;
@@ -33,17 +33,18 @@ fn response(alloc: Global) -> Option<Response> {
     Some(Response {
         id: 1,
         code: Code::NoError,
-        bytes: Items::new(bytes),
+        bytes: Bytes::of(bytes).ok()?,
     })
 }
 
-fn parts(alloc: Global) -> Option<[bool; 3]> {
+fn parts(alloc: Global) -> Option<[bool; 4]> {
     let (announced, request) = (announced(alloc)?, request(alloc)?);
     let response = response(alloc)?;
     Some([
         Announced::copy(&announced, alloc).is_ok(),
         Request::copy(&request, alloc).is_ok(),
         Response::copy(&response, alloc).is_ok(),
+        Bytes::copy(&response.bytes, alloc).is_ok(),
     ])
 }
 
@@ -116,7 +117,7 @@ fn entries(alloc: Global) -> Option<[bool; 2]> {
 #[test]
 fn messages_find_memory(rt: HostRuntime) {
     let alloc = rt.alloc();
-    assert!(rt; parts(alloc) == Some([true; 3]));
+    assert!(rt; parts(alloc) == Some([true; 4]));
     assert!(rt; is_copied(alloc, config(alloc)));
     assert!(rt; is_copied(alloc, index(alloc)));
     assert!(rt; lost(alloc) == Some([true; 2]));
