@@ -1,2 +1,3 @@
+pub mod Legible
 pub mod Lines
 pub mod Text

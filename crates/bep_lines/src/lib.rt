@@ -7,11 +7,13 @@
 #![tactic(auto)]
 
 mod form;
+mod laws;
 mod lines;
 mod text;
 mod words;
 
 pub use form::Form;
+pub use laws::lines_tell_verdicts;
 pub use lines::{
     push_failure, push_firm, push_folder, push_not_firm, push_not_settled, push_reason,
     push_refused, push_settled, push_step,
