@@ -19,7 +19,7 @@ mod WithinFacts
 mod Steady
 mod ScanFacts
 mod ContentsFacts
-mod CopyFacts
+pub mod CopyFacts
 mod RestartFacts
 mod ResetFacts
 mod ViewTaken

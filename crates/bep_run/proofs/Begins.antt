@@ -1,18 +1,10 @@
 -- What is known of how a cluster began, of its devices and links behind their locks.
 use Rattle.std.proofs.Common.{◌≡◌, ◌++◌, ◌+◌, ℕ, List, [], ◌∷◌, map, length, Option, Some, None, refl, sym, ap, subst, ◌∙◌}
-use Rattle.std.proofs.Common.{option_map}
-use Rattle.std.specs.Cmp.Lexicographic.{nat_list_cmp_total}
-use Rattle.std.specs.FinMap.{get, same_map}
 use Rattle.std.proofs.lemmas.List.{length-map, map-append}
-use Rattle.std.proofs.lemmas.Map.Lookups.{exact_bytes}
-use Rattle.bep_map.specs.NameMap.{ByName}
-use Rattle.bep_machine.specs.Replica.{Replica}
-use Rattle.bep_folder.specs.Contents.{copied_out}
-use Rattle.bep_folder.specs.Held.{Held}
-use Rattle.bep_peer.specs.Copied.{folders_copied, member_copied}
-use Rattle.bep_peer.specs.Member.{Member, tables_in, tables_of}
+use Rattle.bep_peer.specs.Copied.{member_copied}
+use Rattle.bep_peer.specs.Member.{Member, tables_of}
 use Rattle.bep_peer.specs.network.Network.{Network, cluster_of}
-use Rattle.bep_peer.proofs.Mapped.{get-changed}
+use Rattle.bep_peer.proofs.CopyFacts.{copied_tables}
 use Rattle.bep_log.specs.LoggedLink.{LoggedBetween}
 use Rattle.bep_log.specs.Copies.{IsCopied}
 use Rattle.bep_log.specs.LoggedPeer.{IsBegun, LoggedMember}
@@ -25,24 +17,6 @@ use Rattle.bep_run.specs.Based.{base_seen, began_as}
 use Rattle.bep_run.proofs.Places.{AreLeft, fewer_left, first_are_all, first_with, next_stands, none_left}
 
 -- ---- one device
-
-abbrev tables : Held → Replica
-tables held = held.tables
-
--- copies have the tables
-tables_copied : (held : Option Held) → option_map tables (option_map copied_out held) ≡ option_map tables held
-tables_copied None = refl
-tables_copied (Some held) = refl
-
-folders_same : (folders : ByName Held) → tables_in (folders_copied folders) ≡ tables_in folders
-folders_same folders = same_map nat_list_cmp_total exact_bytes _ _ (λ folder.
-    get-changed nat_list_cmp_total exact_bytes tables (folders_copied folders) folder
-    ∙ ap (option_map tables) (get-changed nat_list_cmp_total exact_bytes copied_out folders folder)
-    ∙ tables_copied (get folders folder)
-    ∙ sym (get-changed nat_list_cmp_total exact_bytes tables folders folder))
-
-copied_tables : (member : Member) → tables_of (member_copied member) ≡ tables_of member
-copied_tables member = ap (λ (replicas : ByName Replica). record { replicas = replicas; sessions = member.sessions }) (folders_same member.folders)
 
 -- what stands at a place stands there, however it is named
 pub stands_as : {A : Type 0} (known : Option (List A)) (place : ℕ) (one other : A) → one ≡ other → at_place known place other ≡ Some other → at_place known place one ≡ Some one
