@@ -2,32 +2,24 @@
 use Rattle.std.specs.Prelude.{◌≡◌, ◌++◌, ℕ, List, Option}
 use Rattle.bep_answer.specs.Answer.{fault_text}
 use Rattle.bep_answer.specs.Beside.{AreLines, IsHintOfRefused, IsHintOn}
-use Rattle.bep_answer.specs.Certified.{IsCertificate}
 use Rattle.bep_answer.specs.declared.outcome.Certified.{Certified}
 use Rattle.bep_answer.specs.declared.outcome.Certified.TheVariants as certificates
 use Rattle.bep_answer.specs.declared.exchanging.Beside.{Beside}
 use Rattle.bep_document.specs.Reading.{Reading, Read, Refused}
-use Rattle.bep_fit.specs.declared.verdict.RunVerdict.{RunVerdict}
 use Rattle.bep_hints.specs.declared.members.Expected.TheVariants.{Scenario}
-use Rattle.bep_run_cut.specs.RunCut.{RunState}
 use Rattle.bep_scenario.specs.Scenario.{Said, scenario_of}
 use Rattle.bep_live.specs.Lines.{run_line}
-use Rattle.bep_live.specs.Lived.{IsJudged, LeadsOn, cut_in}
+use Rattle.bep_live.specs.Lived.{IsLivedTo}
 
 -- beside the report nothing is told, and a hint where the scenario is refused
 abbrev pub TellsOfLive : List ℕ → Option Beside → Type 0
 TellsOfLive bytes = IsHintOfRefused Scenario (scenario_of bytes)
 
--- The steps of the scenario are made and a run cut is taken. This is the document of its cut, and these are the lines of the
--- steps that are refused, and of the verdict on its logs.
+-- The document of a run cut's cut is written as `IsLivedTo` says. Beside it stand the lines of the steps that are refused, and of
+-- the verdict on the logs of that very run cut.
 pub record IsLivedBeside (scenario : Said) (outcome : Certified) (text : List ℕ) (beside : Option Beside) : Type 0 where
-  pub told : List ℕ
-  pub run : RunState
-  pub leads : LeadsOn scenario run told
-  pub verdict : RunVerdict
-  pub judged : IsJudged run verdict
-  pub certificate : IsCertificate scenario.version (cut_in run) outcome text
-  pub lines : AreLines (told ++ run_line verdict) beside
+  pub lived : IsLivedTo scenario outcome text
+  pub lines : AreLines (lived.told ++ run_line lived.verdict) beside
 
 -- the document with these lines beside it; or the fault for which the scenario is refused, with a hint
 abbrev pub IsLiveEndBeside : Reading Said → Certified → List ℕ → Option Beside → Type 0
