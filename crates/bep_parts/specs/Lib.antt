@@ -1,0 +1,4 @@
+pub mod Parts
+pub mod FirstVerdict
+pub mod Document
+pub mod Laws
