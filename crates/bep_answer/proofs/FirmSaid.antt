@@ -7,6 +7,7 @@ use Rattle.bep_model.specs.FirmVerdict as verdicts
 use Rattle.bep_model.specs.Laws.{FirmStaysFirm}
 use Rattle.bep_machine.specs.FreeLaws.{FirmCutsStayPut}
 use Rattle.bep_machine.specs.Laws.{SettledStaysPut, SettledStaysSettled}
+use Rattle.bep_origin.specs.FromCut.{HasCluster}
 use Rattle.bep_tables.specs.declared.cut.CutParts.{CutParts}
 use Rattle.bep_tables.specs.Cut.{tables_of}
 use Rattle.bep_cut_document.specs.Written.{check_of}
@@ -23,20 +24,20 @@ firm_judged cut rows (verdicts.Loose reason folder name device) judged told = ab
 
 module _ (firmly : FirmStaysFirm) (own : FirmCutsStayPut) (put : SettledStaysPut) (again : SettledStaysSettled) where
   -- firm tables stay, so a reading that has them tells so
-  pub firm_tells : (cut : CutParts) (rows : List Row) → IsFirm (tables_of cut) rows → TellsFirm (Read (cut, rows))
-  firm_tells cut rows firm = record {
+  pub firm_tells : (cut : CutParts) (rows : List Row) → HasCluster cut → IsFirm (tables_of cut) rows → TellsFirm (Read (cut, rows))
+  firm_tells cut rows from firm = record {
     cut = cut;
     rows = rows;
     says = refl;
     firm = firm;
     stays_firm = firmly (tables_of cut) rows firm;
     stays_put = own (tables_of cut) rows firm;
-    settled = settled_tells put again cut rows firm.settled;
+    settled = settled_tells put again cut rows from firm.settled;
   }
 
   firm_reading : (reading : Reading (CutParts × List Row)) (outcome : Firmness) (text : List ℕ) → IsFirmAnswer reading outcome text → outcome ≡ outcomes.Firm → TellsFirm reading
   firm_reading (Read check) outcome text answer is =
-      firm_tells check.0 check.1 (firm_judged check.0 check.1 answer.verdict answer.judged (cc))
+      firm_tells check.0 check.1 answer.from (firm_judged check.0 check.1 answer.verdict answer.judged (cc))
   firm_reading (Refused fault) outcome text answer is = let e = answer.0 in absurd (cc)
 
   pub firm_answer : (unread left held now : Option (List ℕ)) (outcome : Firmness) → IsWhole IsFirmAnswerOfBytes unread left held now outcome → outcome ≡ outcomes.Firm → SaysFirm unread left

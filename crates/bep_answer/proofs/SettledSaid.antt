@@ -5,6 +5,7 @@ use Rattle.bep_model.specs.declared.row.Row.{Row}
 use Rattle.bep_model.specs.Settled.{IsSettled}
 use Rattle.bep_model.specs.Verdict as verdicts
 use Rattle.bep_machine.specs.Laws.{SettledStaysPut, SettledStaysSettled}
+use Rattle.bep_origin.specs.FromCut.{HasCluster}
 use Rattle.bep_tables.specs.declared.cut.CutParts.{CutParts}
 use Rattle.bep_tables.specs.Cut.{tables_of}
 use Rattle.bep_answer.specs.declared.outcome.Outcome.{Outcome}
@@ -18,11 +19,12 @@ settled_verdict cut rows verdicts.Settled judged told = judged
 settled_verdict cut rows (verdicts.Not reason folder name device) judged told = absurd (cc)
 
 -- settled tables stay, so a reading that has them tells so
-pub settled_tells : SettledStaysPut → SettledStaysSettled → (cut : CutParts) (rows : List Row) → IsSettled (tables_of cut) rows → TellsSettled (Read (cut, rows))
-settled_tells put again cut rows settled = record {
+pub settled_tells : SettledStaysPut → SettledStaysSettled → (cut : CutParts) (rows : List Row) → HasCluster cut → IsSettled (tables_of cut) rows → TellsSettled (Read (cut, rows))
+settled_tells put again cut rows from settled = record {
   cut = cut;
   rows = rows;
   says = refl;
+  from = from;
   settled = settled;
   stays_put = put (tables_of cut) rows settled;
   stays_settled = again (tables_of cut) rows settled;
@@ -30,7 +32,7 @@ settled_tells put again cut rows settled = record {
 
 settled_reading : SettledStaysPut → SettledStaysSettled → (reading : Reading (CutParts × List Row)) (outcome : Outcome) (text : List ℕ) → IsAnswer reading outcome text → outcome ≡ outcomes.Settled → TellsSettled reading
 settled_reading put again (Read check) outcome text answer is =
-    settled_tells put again check.0 check.1 (settled_verdict check.0 check.1 answer.verdict answer.judged (cc))
+    settled_tells put again check.0 check.1 answer.from (settled_verdict check.0 check.1 answer.verdict answer.judged (cc))
 settled_reading put again (Refused fault) outcome text answer is = let e = answer.0 in absurd (cc)
 
 pub settled_answer : SettledStaysPut → SettledStaysSettled → (unread left held now : Option (List ℕ)) (outcome : Outcome) → IsWhole IsAnswerOfBytes unread left held now outcome → outcome ≡ outcomes.Settled → SaysSettled unread left

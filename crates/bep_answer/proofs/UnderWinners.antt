@@ -17,6 +17,7 @@ use Rattle.bep_model.specs.declared.reason.Reason.TheVariants.{NotWinner}
 use Rattle.bep_model.specs.declared.row.Row.{Row}
 use Rattle.bep_report.specs.Report.{firm_report_text, report_text}
 use Rattle.bep_tables.specs.Cut.{tables_of}
+use Rattle.bep_origin.specs.FromCut.{HasCluster}
 use Rattle.bep_tables.specs.declared.cut.CutParts.{CutParts}
 use Rattle.bep_cut_document.specs.Room.{CutsOfDocumentsHaveRoom, HasRoom}
 use Rattle.bep_cut_document.specs.Trees.{check_document_text}
@@ -128,15 +129,15 @@ firm_answers_so room bytes json outcome text = answers_firm_so (cut_of_document 
 
 -- a report that says settled is of a cut that is settled under its winners
 pub settled_under : (cut : CutParts) (rows : Option (List Row)) (outcome : Outcome) (text : List ℕ) → IsReportUnder cut rows outcome text → outcome ≡ outcomes.Settled
-    → (won : List Row) × IsListOfWinners (tables_of cut) won × IsSettled (tables_of cut) won
+    → (won : List Row) × IsListOfWinners (tables_of cut) won × IsSettled (tables_of cut) won × HasCluster cut
 settled_under cut (Some rows) outcome text report is =
-    (rows, report.winners, settled_verdict cut rows report.report.verdict report.report.judged (sym is ∙ report.report.told))
+    (rows, report.winners, settled_verdict cut rows report.report.verdict report.report.judged (sym is ∙ report.report.told), report.report.from)
 settled_under cut None outcome text report is = let other = sym is ∙ report.told in absurd (cc)
 
 settled_reading : SettledStaysPut → SettledStaysSettled → (reading : Reading (DocVersion × CutParts)) (outcome : Outcome) (text : List ℕ) → IsAnswerUnderWinners reading outcome text → outcome ≡ outcomes.Settled → TellsSettledUnderWinners reading
 settled_reading put again (Read said) outcome text answer is =
     let found = settled_under said.1 answer.0 outcome text answer.1 is in
-    record { version = said.0; cut = said.1; rows = found.0; says = refl; winners = found.1; settled = settled_tells put again said.1 found.0 found.2 }
+    record { version = said.0; cut = said.1; rows = found.0; says = refl; winners = found.1; settled = settled_tells put again said.1 found.0 found.3 found.2 }
 settled_reading put again (Refused fault) outcome text answer is = let e = sym answer.0 ∙ is in absurd (cc)
 
 pub settled_answer_under : SettledStaysPut → SettledStaysSettled → (unread left held now : Option (List ℕ)) (outcome : Outcome) → IsWhole IsAnswerUnderWinnersOfBytes unread left held now outcome → outcome ≡ outcomes.Settled
@@ -149,16 +150,16 @@ settled_answer_under put again unread left held now outcome whole is = record {
 
 -- and one that says firm is of a cut that is firm under them
 firm_under : (cut : CutParts) (outcome : Firmness) (text : List ℕ) → IsFirmReportUnder cut outcome text → outcome ≡ firmness.Firm
-    → (won : List Row) × IsListOfWinners (tables_of cut) won × IsFirm (tables_of cut) won
+    → (won : List Row) × IsListOfWinners (tables_of cut) won × IsFirm (tables_of cut) won × HasCluster cut
 firm_under cut outcome text (inl report) is =
-    (report.rows, report.winners, firm_judged cut report.rows report.report.verdict report.report.judged (sym is ∙ report.report.told))
+    (report.rows, report.winners, firm_judged cut report.rows report.report.verdict report.report.judged (sym is ∙ report.report.told), report.report.from)
 firm_under cut outcome text (inr report) is = let other = sym is ∙ report.told in absurd (cc)
 
 module _ (firmly : FirmStaysFirm) (own : FirmCutsStayPut) (put : SettledStaysPut) (again : SettledStaysSettled) where
   firm_reading : (reading : Reading (DocVersion × CutParts)) (outcome : Firmness) (text : List ℕ) → IsFirmAnswerUnderWinners reading outcome text → outcome ≡ firmness.Firm → TellsFirmUnderWinners reading
   firm_reading (Read said) outcome text answer is =
       let found = firm_under said.1 outcome text answer is in
-      record { version = said.0; cut = said.1; rows = found.0; says = refl; winners = found.1; firm = firm_tells firmly own put again said.1 found.0 found.2 }
+      record { version = said.0; cut = said.1; rows = found.0; says = refl; winners = found.1; firm = firm_tells firmly own put again said.1 found.0 found.3 found.2 }
   firm_reading (Refused fault) outcome text answer is = let e = sym answer.0 ∙ is in absurd (cc)
 
   pub firm_answer_under : (unread left held now : Option (List ℕ)) (outcome : Firmness) → IsWhole IsFirmAnswerUnderWinnersOfBytes unread left held now outcome → outcome ≡ firmness.Firm → SaysFirmUnderWinners unread left

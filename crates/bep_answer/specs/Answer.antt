@@ -7,6 +7,7 @@ use Rattle.bep_model.specs.declared.row.Row.{Row}
 use Rattle.bep_model.specs.Settled.{IsSettled}
 use Rattle.bep_model.specs.Verdict as verdicts
 use Rattle.bep_machine.specs.Laws.{StaysPut, StaysSettled}
+use Rattle.bep_origin.specs.FromCut.{HasCluster}
 use Rattle.bep_tables.specs.declared.cut.CutParts.{CutParts}
 use Rattle.bep_tables.specs.Cut.{tables_of}
 use Rattle.bep_cut_document.specs.Written.{check_of}
@@ -25,8 +26,9 @@ outcome_of (verdicts.Not reason folder name device) = outcomes.NotSettled
 abbrev pub fault_text : DocFault → List ℕ
 fault_text fault = refused_line (number_of fault.fault) (name_of fault.fault) fault.folder fault.device fault.name
 
--- the cut and the rows of a document have this verdict, and it is told
+-- The cut and the rows of a document have this verdict, and it is told. There is a sound cluster that has the cut's tables.
 pub record IsReport (cut : CutParts) (rows : List Row) (outcome : Outcome) (text : List ℕ) : Type 0 where
+  pub from : HasCluster cut
   pub verdict : verdicts.Verdict
   pub judged : verdicts.IsVerdict (tables_of cut) rows verdict
   pub told : outcome ≡ outcome_of verdict
@@ -41,12 +43,13 @@ IsAnswer (Refused fault) outcome text = (outcome ≡ outcomes.Refused) × (text 
 abbrev pub IsAnswerOfBytes : List ℕ → Outcome → List ℕ → Type 0
 IsAnswerOfBytes bytes outcome text = IsAnswer (check_of bytes) outcome text
 
--- it says a cut and a certificate, and these are settled: so they stay, after every list of further steps without local
--- edits
+-- It says a cut and a certificate, and these are settled: so they stay, after every list of further steps without local
+-- edits. That is said of every sound cluster with the cut's tables, and there is one.
 pub record TellsSettled (reading : Reading (CutParts × List Row)) : Type 0 where
   pub cut : CutParts
   pub rows : List Row
   pub says : reading ≡ Read (cut, rows)
+  pub from : HasCluster cut
   pub settled : IsSettled (tables_of cut) rows
   pub stays_put : StaysPut (tables_of cut) rows
   pub stays_settled : StaysSettled (tables_of cut) rows

@@ -5,6 +5,7 @@ use Rattle.bep_model.specs.declared.row.Row.{Row}
 use Rattle.bep_model.specs.Firm.{IsFirm, StaysFirm}
 use Rattle.bep_model.specs.FirmVerdict as verdicts
 use Rattle.bep_machine.specs.FreeLaws.{FirmStaysPut}
+use Rattle.bep_origin.specs.FromCut.{HasCluster}
 use Rattle.bep_tables.specs.declared.cut.CutParts.{CutParts}
 use Rattle.bep_tables.specs.Cut.{tables_of}
 use Rattle.bep_cut_document.specs.Written.{check_of}
@@ -20,8 +21,9 @@ firmness_of verdicts.Firm = outcomes.Firm
 firmness_of (verdicts.Unsettled reason folder name device) = outcomes.NotFirm
 firmness_of (verdicts.Loose reason folder name device) = outcomes.NotFirm
 
--- the cut and the rows of a document have this verdict, and it is told
+-- The cut and the rows of a document have this verdict, and it is told. There is a sound cluster that has the cut's tables.
 pub record IsFirmReport (cut : CutParts) (rows : List Row) (outcome : Firmness) (text : List ℕ) : Type 0 where
+  pub from : HasCluster cut
   pub verdict : verdicts.FirmVerdict
   pub judged : verdicts.IsFirmVerdict (tables_of cut) rows verdict
   pub told : outcome ≡ firmness_of verdict

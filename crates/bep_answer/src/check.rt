@@ -13,6 +13,7 @@ use crate::refusing::{hint_for, refusal};
 use bep_audit::{Certificate, Verdict, check_grouped};
 use bep_cut_document::{DocError, read_check};
 use bep_hints::Expected;
+use bep_origin::cut_has_cluster;
 use bep_report::push_report_by;
 use bep_tables::{Cut, Table};
 use std::alloc::{AllocError, Global};
@@ -67,6 +68,8 @@ pub(crate) fn report_by(
     requires { IsGrouped (cut_listed cut.now) table.now }
     ensures { IfOk result (λ answer. IsReport cut.now certificate.now answer.0 answer.1.items) }
 {
+    // called for its clause: the answer speaks of some cluster
+    cut_has_cluster(cut);
     let verdict = check_grouped(cut, table, certificate);
     report_of(alloc, cut, table, &verdict)
 }
