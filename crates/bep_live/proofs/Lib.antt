@@ -1,1 +1,2 @@
 mod LineText
+mod SettledLife

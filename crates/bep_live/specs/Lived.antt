@@ -1,5 +1,5 @@
 -- What the program answers to a scenario whose cluster goes on in threads (this project's profile).
-use Rattle.std.specs.Prelude.{◌≡◌, ◌++◌, ℕ, List}
+use Rattle.std.specs.Prelude.{◌≡◌, ◌++◌, ℕ, List, Option}
 use Rattle.bep_answer.specs.Answer.{fault_text}
 use Rattle.bep_answer.specs.Certified.{IsCertificate}
 use Rattle.bep_answer.specs.declared.outcome.Certified.{Certified}
@@ -12,11 +12,17 @@ use Rattle.bep_document.specs.Reading.{Reading, Read, Refused}
 use Rattle.bep_fit.specs.Fit.{IsRunVerdict}
 use Rattle.bep_fit.specs.declared.verdict.RunVerdict.{RunVerdict}
 use Rattle.bep_fit.specs.declared.verdict.RunVerdict.TheVariants.{Fits}
+use Rattle.bep_machine.specs.Laws.{StaysSettled}
+use Rattle.bep_machine.specs.Laws as laws
+use Rattle.bep_model.specs.Settled.{IsSettled}
+use Rattle.bep_model.specs.declared.row.Row.{Row}
 use Rattle.bep_peer.specs.network.Network.{Network, cluster_of}
 use Rattle.bep_play.specs.Played.{EndsAt, IsEnd}
+use Rattle.bep_report.specs.Input.{IsRead}
 use Rattle.bep_run_cut.specs.OneRun.{IsRunOf, StaysPut}
 use Rattle.bep_run_cut.specs.RunCut.{AreTheSame, IsRunCut, RunState}
 use Rattle.bep_scenario.specs.Scenario.{Said, scenario_of}
+use Rattle.bep_tables.specs.Cut.{tables_of}
 use Rattle.bep_tables.specs.declared.cut.CutParts.{CutParts}
 use Rattle.bep_live.specs.Lines.{run_line}
 
@@ -81,3 +87,26 @@ IsLiveEndOf (Refused fault) outcome text = (outcome ≡ certificates.Refused) ×
 -- the same of the bytes of a document
 abbrev pub IsLiveEndOfBytes : List ℕ → Certified → List ℕ → Type 0
 IsLiveEndOfBytes bytes outcome text = IsLiveEndOf (scenario_of bytes) outcome text
+
+-- ---- a settled end
+
+-- The scenario's steps are made. There is a run cut whose logs begin at the cluster to which they lead, and its cut is settled
+-- under its winners: so that stays, after every list of further steps without local edits.
+pub record LivesSettled (reading : Reading Said) : Type 0 where
+  pub scenario : Said
+  pub says : reading ≡ Read scenario
+  pub told : List ℕ
+  pub run : RunState
+  pub leads : LeadsOn scenario run told
+  pub verdict : RunVerdict
+  pub judged : IsJudged run verdict
+  pub rows : List Row
+  pub settled : IsSettled (tables_of (cut_in run)) rows
+  pub stays_put : laws.StaysPut (tables_of (cut_in run)) rows
+  pub stays_settled : StaysSettled (tables_of (cut_in run)) rows
+
+-- a document was read, and threads ran its scenario's cluster to such a cut
+pub record EndsLived (unread left : Option (List ℕ)) : Type 0 where
+  pub bytes : List ℕ
+  pub read : IsRead unread left bytes
+  pub end : LivesSettled (scenario_of bytes)

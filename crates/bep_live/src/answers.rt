@@ -1,11 +1,13 @@
 //! What is answered of a scenario whose cluster goes on in threads, from the bytes that come in to the bytes that go out.
 ghost use Rattle.std.specs.Prelude.{◌≡◌, ◌<◌, IfErr, IfOk};
 ghost use Rattle.bep_answer.specs.Exchange.{IsEndedEarly, IsWhole};
-ghost use Rattle.bep_play.specs.Played.{IsRunOfBytes};
-ghost use Rattle.bep_live.specs.Lived.{IsLiveOfBytes};
+ghost use Rattle.bep_answer.specs.declared.outcome.Outcome.TheVariants as outcomes;
+ghost use Rattle.bep_play.specs.Played.{EndsSettled, IsRunOfBytes};
+ghost use Rattle.bep_live.specs.Lived.{EndsLived, IsLiveOfBytes};
 
 use crate::report::exchange_report;
 use bep_answer::Outcome;
+use bep_machine::{settled_stays_put, settled_stays_settled};
 use bep_play::run_text;
 use bep_report::ReportError;
 use std::io::{Read, Write};
@@ -30,10 +32,14 @@ pub fn live_text<P: AllocGlobal + Threads + Wait + Sync, R: Read, W: Write>(
     ensures ok { 0 < turns → IfOk result (IsWhole IsLiveOfBytes (R.remaining reader.old) (R.remaining reader.new) (W.contents writer.old) (W.contents writer.new)) }
     ensures at_rest_err { turns ≡ 0 → IfErr result (IsEndedEarly IsRunOfBytes (R.remaining reader.old) (R.remaining reader.new) (W.contents writer.old) (W.contents writer.new)) }
     ensures err { 0 < turns → IfErr result (IsEndedEarly IsLiveOfBytes (R.remaining reader.old) (R.remaining reader.new) (W.contents writer.old) (W.contents writer.new)) }
+    ensures at_rest_settled { turns ≡ 0 → IfOk result (λ outcome. outcome ≡ outcomes.Settled → EndsSettled (R.remaining reader.old) (R.remaining reader.new)) }
+    ensures settled { 0 < turns → IfOk result (λ outcome. outcome ≡ outcomes.Settled → EndsLived (R.remaining reader.old) (R.remaining reader.new)) }
 {
     if turns == 0 {
         return run_text(rt.alloc(), reader, writer);
     }
+    settled_stays_put();
+    settled_stays_settled();
     let (outcome, _) = exchange_report(rt, reader, writer, turns)?;
     Ok(outcome)
 }

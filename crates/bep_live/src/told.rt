@@ -1,10 +1,13 @@
 //! What is told on standard error beside the answer to a scenario whose cluster goes on in threads, and the exit status that
 //! says which answer it was.
+ghost use Rattle.std.specs.Prelude.{◌≡◌};
+ghost use Rattle.bep_live.specs.Lived.{EndsLived};
 ghost use Rattle.bep_live.specs.Told.{IsLiveEndTold, IsLiveTold};
 
 use crate::document::exchange_document;
 use crate::report::exchange_report;
 use bep_answer::{end, end_certified};
+use bep_machine::{settled_stays_put, settled_stays_settled};
 use std::io::{Read, Write};
 use std::sync::Wait;
 use std::thread::Threads;
@@ -18,8 +21,11 @@ pub fn live_and_tell<P: AllocGlobal + Eprint + Threads + Wait + Sync, R: Read, W
     writer: &mut W,
     turns: u32,
 ) -> u8
-    ensures { IsLiveTold (R.remaining reader.old) (R.remaining reader.new) (W.contents writer.old) (W.contents writer.new) result }
+    ensures told { IsLiveTold (R.remaining reader.old) (R.remaining reader.new) (W.contents writer.old) (W.contents writer.new) result }
+    ensures settled { result ≡ 0 → EndsLived (R.remaining reader.old) (R.remaining reader.new) }
 {
+    settled_stays_put();
+    settled_stays_settled();
     end(rt, exchange_report(rt, reader, writer, turns))
 }
 

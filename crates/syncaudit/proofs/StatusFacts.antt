@@ -53,4 +53,5 @@ run_without_memory ask words unread held status told =
       firm = λ asks zero. absurd (isnt zero);
       firm_under_winners = λ asks zero. absurd (isnt zero);
       ends_settled = λ asks zero. absurd (isnt zero);
+      lives_settled = λ turns asks some zero. absurd (isnt zero);
     }

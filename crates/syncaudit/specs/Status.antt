@@ -8,6 +8,7 @@ use Rattle.bep_answer.specs.Firm.{SaysFirm}
 use Rattle.bep_answer.specs.Status.{IsCertificateTold, IsFirmTold, IsFirmToldUnderWinners, IsPartTold, IsTold, IsToldUnderWinners, status_of, usage}
 use Rattle.bep_answer.specs.UnderWinners.{SaysFirmUnderWinners, SaysSettledUnderWinners}
 use Rattle.bep_lines.specs.declared.form.Form.{Form}
+use Rattle.bep_live.specs.Lived.{EndsLived}
 use Rattle.bep_live.specs.Told.{IsLiveEndTold, IsLiveTold}
 use Rattle.bep_play.specs.Played.{EndsSettled}
 use Rattle.bep_play.specs.Told.{IsEndTold, IsRunTold}
@@ -106,6 +107,7 @@ pub record IsProgramRun (words : List Text) (unread left held now : Option (List
   pub firm : Asks words (Firm Given) → status ≡ 0 → SaysFirm unread left
   pub firm_under_winners : Asks words (Firm Winners) → status ≡ 0 → SaysFirmUnderWinners unread left
   pub ends_settled : Asks words (Run Report 0) → status ≡ 0 → EndsSettled unread left
+  pub lives_settled : (turns : ℕ) → Asks words (Run Report turns) → 0 < turns → status ≡ 0 → EndsLived unread left
 
 -- the status where the system gave the program no words, by the kind of its error
 abbrev pub status_without : ErrorKind → ℕ

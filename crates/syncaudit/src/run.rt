@@ -1,5 +1,5 @@
 //! From the words of the command line to the exit status.
-ghost use Rattle.std.specs.Prelude.{◌≡◌, ◌≢◌, [], IfErr, IfOk, map};
+ghost use Rattle.std.specs.Prelude.{◌≡◌, ◌≢◌, ◌<◌, ℕ, [], IfErr, IfOk, map};
 ghost use Rattle.std.specs.IoError.{error_kind};
 ghost use Rattle.std.specs.String.{string_bytes};
 ghost use Rattle.std.specs.Vec.Iter.{into_iter_items};
@@ -7,6 +7,7 @@ ghost use Rattle.clap.specs.Words.{fault_of};
 ghost use Rattle.bep_answer.specs.Answer.{SaysSettled};
 ghost use Rattle.bep_answer.specs.Firm.{SaysFirm};
 ghost use Rattle.bep_answer.specs.UnderWinners.{SaysFirmUnderWinners, SaysSettledUnderWinners};
+ghost use Rattle.bep_live.specs.Lived.{EndsLived};
 ghost use Rattle.bep_play.specs.Played.{EndsSettled};
 ghost use Rattle.bep_words.specs.Mode.{Asks, program};
 ghost use Rattle.syncaudit.specs.Status.{IsCertifying, IsChecking, IsEnd, IsEnding, IsExplaining, IsExplainingGiven, IsExplainingUnderWinners, IsFirming, IsFollowed, IsLiveEnding, IsProgramRun, IsRunning, IsUnfollowed, IsWithoutWords, status_without};
@@ -93,6 +94,8 @@ pub fn run<P: AllocGlobal + Eprint + Threads + Wait + Sync, R: Read, W: Write, S
         → result ≡ 0 → SaysFirmUnderWinners (R.remaining reader.old) (R.remaining reader.new) }
     ensures ends_settled { Asks (map S.text words.entry.now) (Run Report 0)
         → result ≡ 0 → EndsSettled (R.remaining reader.old) (R.remaining reader.new) }
+    ensures lives_settled { (turns : ℕ) → Asks (map S.text words.entry.now) (Run Report turns) → 0 < turns
+        → result ≡ 0 → EndsLived (R.remaining reader.old) (R.remaining reader.new) }
 {
     faultless_words_ask();
     match mode_told(rt, words) {
@@ -235,6 +238,7 @@ fn run_scenario<P: AllocGlobal + Eprint + Threads + Wait + Sync, R: Read, W: Wri
 ) -> u8
     ensures told { IsRunning ending turns (R.remaining reader.old) (R.remaining reader.new) (W.contents writer.old) (W.contents writer.new) result }
     ensures settled { ending ≡ Report → turns ≡ 0 → result ≡ 0 → EndsSettled (R.remaining reader.old) (R.remaining reader.new) }
+    ensures lives_settled { ending ≡ Report → 0 < turns → result ≡ 0 → EndsLived (R.remaining reader.old) (R.remaining reader.new) }
 {
     if turns == 0 {
         make_steps(rt, ending, reader, writer)
@@ -267,7 +271,8 @@ fn run_on<P: AllocGlobal + Eprint + Threads + Wait + Sync, R: Read, W: Write>(
     reader: &mut R,
     writer: &mut W,
 ) -> u8
-    ensures { IsLiveEnding ending (R.remaining reader.old) (R.remaining reader.new) (W.contents writer.old) (W.contents writer.new) result }
+    ensures told { IsLiveEnding ending (R.remaining reader.old) (R.remaining reader.new) (W.contents writer.old) (W.contents writer.new) result }
+    ensures settled { ending ≡ Report → result ≡ 0 → EndsLived (R.remaining reader.old) (R.remaining reader.new) }
 {
     match ending {
         Ending::Report => live_and_tell(rt, reader, writer, turns),

@@ -1,0 +1,11 @@
+use Rattle.std.proofs.Common.{sym, ◌∙◌}
+use Rattle.std.proofs.lemmas.Result.{IfOk-weaker}
+use Rattle.bep_answer.proofs.Statuses.{settled_by_status}
+use Rattle.bep_live.proofs.SettledLife.{settled_life}
+use Rattle.bep_live.proofs.told.live_and_tell.Goals as goal
+
+pub returns-clause-settled : goal.returns-clause-settled
+returns-clause-settled g c = λ zero.
+    settled_by_status c.exchange_report.result
+    (IfOk-weaker c.exchange_report.result _ _ (λ told whole. settled_life c.settled_stays_put.ensures c.settled_stays_settled.ensures _ _ _ _ told.0 whole) c.exchange_report.ensures.ok)
+    (sym c.end.ensures ∙ zero)
