@@ -11,11 +11,15 @@ of the kit, its standard library and its `sha2`; these and all else that is trus
 [trust.md](../trust.md#what-is-trusted). Lines are those of the definitions named, without comments and imports.
 """
 
+CHECKERS, FIRM, ANSWERS = "bep_audit/src/checkers.rt", "bep_audit/src/firm.rt", "bep_answer/src/answers.rt"
 FULL = [
-    ("What is settled stays put", "checkers.rt", ["check", "check_plain"], ["stays_put", "stays_settled"]),
-    ("What is firm stays firm", "firm.rt", ["firm_verdict"], ["stays_firm"]),
+    ("What is settled stays put", CHECKERS, ["check", "check_plain"], ["stays_put", "stays_settled"]),
+    ("What is firm stays firm", FIRM, ["firm_verdict"], ["stays_firm"]),
 ]
-BEYOND = ("What is firm stays put, beyond both", "firm.rt", ["firm_verdict"], ["stays_put"])
+BEYOND = [
+    ("What is firm stays put, beyond both", FIRM, ["firm_verdict"], ["stays_put"]),
+    ("From a document's bytes to its cut, beyond all of these", ANSWERS, ["check_text"], ["settled"]),
+]
 
 
 def quoted(names, between=", "):
@@ -39,7 +43,7 @@ class Page:
 
     def section(self, title, file, functions, clauses, told=()):
         """A headline with its table, of what wasn't told yet."""
-        source = self.crates / "bep_audit/src" / file
+        source = self.crates / file
         text = source.read_text()
         start = [name for function in functions for one in clauses for name in clause(text, function, one)]
         found, types = self.specs.closure(start)
@@ -56,4 +60,5 @@ class Page:
 
     def text(self):
         full = [self.section(*one) for one in FULL]
-        return "\n".join([INTRODUCTION, *full, self.section(*BEYOND, self.told)])
+        beyond = [self.section(*one, self.told) for one in BEYOND]
+        return "\n".join([INTRODUCTION, *full, *beyond])
