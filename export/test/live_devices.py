@@ -64,6 +64,19 @@ class LiveDevices(Live):
         ran = run([self.program, "sum", documents, "--lines"])
         self.assertEqual((ran.returncode, self.without_times(ran)), (status, lines))
 
+    def test_what_each_device_ignores_is_outside_the_folder(self):
+        """Both looks have a hash of its name."""
+        paths = [device.files / name for device in self.devices for name in (".stignore", "scratch")]
+        for path in paths:
+            path.write_text("scratch\n")
+        try:
+            status, lines = self.look()
+        finally:
+            for path in paths:
+                path.unlink()
+        self.assertEqual((status, self.moving(lines)), (0, set()), lines)
+        self.assertIn(f"ignored: {FOLDER} 1 names, 8 bytes, on no device's index", lines)
+
     def test_what_waits_for_a_scan_is_in_motion(self):
         path = self.one.files / "waits"
         path.write_text("waits")

@@ -17,7 +17,7 @@ from contextlib import contextmanager
 from pathlib import Path
 
 from answers import Answers
-from exporting import Exporting, main, run
+from exporting import Exporting, main, run, without_firmness
 from syncthing import FOLDER, files_of, version_of, wait_until_in_step
 
 
@@ -316,6 +316,11 @@ class TwoDevices(Answers, Exporting):
         try:
             lines = self.report()
             self.assertEqual((lines[0], lines[2]), ("settled", f"ignored: {FOLDER} 1 names, 8 bytes, on no device's index"))
+            parts = [self.part(one) for one in self.devices]
+            self.assertEqual(without_firmness(self.check_parts(parts).stdout.splitlines())[:3], lines[:3])
+            for path in parts:
+                with gzip.open(path, "rt") as part:
+                    self.assertNotIn("scratch", part.read())
         finally:
             for path in paths:
                 path.unlink()

@@ -42,6 +42,16 @@ func aDirectory(t *testing.T) string {
 	return room
 }
 
+// readable gives a name, or in brackets the one for which a hash stands.
+func readable(name part.Bytes) string {
+	for _, one := range []string{"a.log", "c.log", "e.log", "e/f.log"} {
+		if part.HiddenName("docs", one).Bytes() == name {
+			return "[" + one + "]"
+		}
+	}
+	return string(name)
+}
+
 // movedSinceGlance gives the names that a directory has after a change behind the glance, those that moved in brackets.
 func movedSinceGlance(t *testing.T, change func(path func(string) string) error) string {
 	t.Setenv("TMPDIR", t.TempDir())
@@ -63,7 +73,7 @@ func movedSinceGlance(t *testing.T, change func(path func(string) string) error)
 		if line.Name != nil && len(line.Name.Moved) > 0 {
 			told = append(told, "("+string(line.Name.Name)+")")
 		} else if line.Name != nil {
-			told = append(told, string(line.Name.Name))
+			told = append(told, readable(line.Name.Name))
 		}
 		if line.End != nil {
 			count = line.End.Names
@@ -82,11 +92,11 @@ var changesSinceAGlance = []struct {
 	change func(path func(string) string) error
 	told   string
 }{
-	{"nothing", func(func(string) string) error { return nil }, "a.log b d e"},
-	{"a new file", func(path func(string) string) error { return os.WriteFile(path("a"), nil, 0o600) }, "(a) a.log b d e"},
-	{"the first one is gone", func(path func(string) string) error { return os.Remove(path("b")) }, "a.log (b) d e"},
-	{"the last one is gone", func(path func(string) string) error { return os.Remove(path("d")) }, "a.log b (d) e"},
-	{"longer", func(path func(string) string) error { return os.WriteFile(path("b"), []byte("longer"), 0o600) }, "a.log (b) d e"},
+	{"nothing", func(func(string) string) error { return nil }, "b d e [a.log]"},
+	{"a new file", func(path func(string) string) error { return os.WriteFile(path("a"), nil, 0o600) }, "(a) b d e [a.log]"},
+	{"the first one is gone", func(path func(string) string) error { return os.Remove(path("b")) }, "(b) d e [a.log]"},
+	{"the last one is gone", func(path func(string) string) error { return os.Remove(path("d")) }, "b (d) e [a.log]"},
+	{"longer", func(path func(string) string) error { return os.WriteFile(path("b"), []byte("longer"), 0o600) }, "(b) d e [a.log]"},
 	{"with its time put back", func(path func(string) string) error {
 		about, err := os.Stat(path("b"))
 		if err == nil {
@@ -96,7 +106,7 @@ var changesSinceAGlance = []struct {
 			err = os.Chtimes(path("b"), about.ModTime(), about.ModTime())
 		}
 		return err
-	}, "a.log (b) d e"},
+	}, "(b) d e [a.log]"},
 	{"another file of the same bytes and time", func(path func(string) string) error {
 		about, err := os.Stat(path("b"))
 		if err == nil {
@@ -109,30 +119,30 @@ var changesSinceAGlance = []struct {
 			err = os.Rename(path(".syncthing.b.tmp"), path("b"))
 		}
 		return err
-	}, "a.log (b) d e"},
-	{"other permissions", func(path func(string) string) error { return os.Chmod(path("d"), 0o640) }, "a.log b (d) e"},
+	}, "(b) d e [a.log]"},
+	{"other permissions", func(path func(string) string) error { return os.Chmod(path("d"), 0o640) }, "b (d) e [a.log]"},
 	{"a directory in its place", func(path func(string) string) error {
 		if err := os.Remove(path("d")); err != nil {
 			return err
 		}
 		return os.Mkdir(path("d"), 0o755)
-	}, "a.log b (d) e"},
-	{"what is ignored changes", func(path func(string) string) error { return os.WriteFile(path("a.log"), []byte("more"), 0o600) }, "a.log b d e"},
+	}, "b (d) e [a.log]"},
+	{"what is ignored changes", func(path func(string) string) error { return os.WriteFile(path("a.log"), []byte("more"), 0o600) }, "b d e [a.log]"},
 	{"what is ignored goes and comes", func(path func(string) string) error {
 		if err := os.Remove(path("a.log")); err != nil {
 			return err
 		}
 		return os.WriteFile(path("c.log"), nil, 0o600)
-	}, "b c.log d e"},
+	}, "b d e [c.log]"},
 	{"another directory of the same name", func(path func(string) string) error {
 		if err := os.Rename(path("e"), path("e.log")); err != nil {
 			return err
 		}
 		return os.Mkdir(path("e"), 0o755)
-	}, "a.log b d (e) e.log"},
+	}, "b d (e) [a.log] [e.log]"},
 	{"what stands in a directory", func(path func(string) string) error { return os.WriteFile(path("e/f.log"), nil, 0o600) },
-		"a.log b d e e/f.log"},
-	{"an odd name", func(path func(string) string) error { return os.WriteFile(path("a\xff\n\""), nil, 0o600) }, "a.log a\xff\n\" b d e"},
+		"b d e [e/f.log] [a.log]"},
+	{"an odd name", func(path func(string) string) error { return os.WriteFile(path("a\xff\n\""), nil, 0o600) }, "a\xff\n\" b d e [a.log]"},
 }
 
 // What changes between the glance and the hashing moved; what .stignore keeps out may change.

@@ -26,6 +26,8 @@ type merge struct {
 	views    []*puller[device.Entry]
 	nodes    *puller[disk.Found]
 	to       *queue
+	folder   string
+	hidden   []hidden
 }
 
 // errStopped says that nobody wants the names any more.
@@ -33,7 +35,7 @@ var errStopped = errors.New("stopped")
 
 // newMerge begins to read a folder.
 func newMerge(of *Device, folder Folder, about *part.Folder, patterns *ignore.Matcher, to *queue) *merge {
-	made := &merge{device: of, patterns: patterns, to: to, walker: of.walker(folder)}
+	made := &merge{device: of, patterns: patterns, to: to, walker: of.walker(folder), folder: about.ID}
 	made.own = pull(func(take func(device.Entry) bool) error { return folder.Own(of.Names, take) })
 	for _, view := range about.Views {
 		view := view
@@ -62,6 +64,9 @@ func (m *merge) run() error {
 	for {
 		name, is := m.least()
 		if !is {
+			if m.err() == nil && !m.sendHidden() {
+				return errStopped
+			}
 			return m.err()
 		}
 		if !m.put(name) {
@@ -135,7 +140,7 @@ func (m *merge) put(name string) bool {
 		line.Receiving = disk.Stamp(m.walker.PathOf(fs.TempName(name)))
 	}
 	if m.isIgnored(name, line.Own) {
-		line.Out = append(line.Out, part.LeftOut{Kind: part.Ignored, Why: "it is ignored there by .stignore", Bytes: sizeOf(line)})
+		line.Out = append(line.Out, ignored(line))
 	}
 	return m.send(line, recorded, stamp)
 }
@@ -185,6 +190,10 @@ func sizeOf(line *part.Name) int64 {
 
 // send puts a name into the queue, and has its file hashed. The file had this stamp when it was found.
 func (m *merge) send(line *part.Name, recorded [][32]byte, stamp string) bool {
+	if isHidden(line) {
+		m.hide(line)
+		return true
+	}
 	node := line.Disk
 	if node != nil && m.device.Bytes && node.Size > limits.MostFileBytes && len(line.Out) == 0 {
 		line.Out = append(line.Out, tooLarge(node.Size))
