@@ -1,7 +1,6 @@
 -- What is known of how a cluster began, of its devices and links behind their locks.
 use Rattle.std.proofs.Common.{◌≡◌, ◌++◌, ◌+◌, ℕ, List, [], ◌∷◌, map, length, Option, Some, None, refl, sym, ap, subst, ◌∙◌}
 use Rattle.std.proofs.lemmas.List.{length-map, map-append}
-use Rattle.bep_peer.specs.Copied.{member_copied}
 use Rattle.bep_peer.specs.Member.{Member, tables_of}
 use Rattle.bep_peer.specs.network.Network.{Network, cluster_of}
 use Rattle.bep_peer.proofs.CopyFacts.{copied_tables}

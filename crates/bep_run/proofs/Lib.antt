@@ -1,2 +1,4 @@
 mod Begins
 mod Places
+mod StayQuiet
+mod Still

@@ -1,3 +1,4 @@
 pub mod Based
 pub mod Origin
+pub mod Quiet
 pub mod inner

@@ -4,7 +4,7 @@
 //! refuses that it makes.
 
 use crate::kept_link::KeptLink;
-use crate::{Locked, Origin};
+use crate::{Anywhere, Locked, Origin};
 use bep_index::IndexId;
 use bep_log::LogError;
 use bep_machine::Moved;
@@ -13,6 +13,52 @@ use bep_store::Store;
 use std::sync::{MutexGuard, Wait};
 
 impl<S: Store, O: Origin> Locked<S, O> {
+    /// The link between the two devices, the smaller first, comes up.
+    pub fn connect<R: Wait>(
+        &self,
+        rt: &R,
+        lower: DeviceId,
+        upper: DeviceId,
+    ) -> Result<(), LogError> {
+        let mut link = self.link(lower, upper)?.link.lock(rt);
+        link.logged.connect(self.draw())
+    }
+
+    /// The link between the two devices, the smaller first, goes down.
+    pub fn lose<R: Wait>(&self, rt: &R, lower: DeviceId, upper: DeviceId) -> Result<(), LogError> {
+        let mut link = self.link(lower, upper)?.link.lock(rt);
+        link.logged.lose(self.draw())
+    }
+
+    /// The device starts again, and each of its links is lost, under one ticket and all of their guards. Where a part is
+    /// refused, for want of memory or of room in its log, those before it were made all the same.
+    pub fn restart<R: Wait>(&self, rt: &R, device: DeviceId) -> Result<(), LogError> {
+        let mut peer = self.device(device)?.peer.lock(rt);
+        let mut links = self.guards_of(rt, device)?;
+        let ticket = self.draw();
+        peer.logged.restart(ticket)?;
+        for link in links.iter_mut() {
+            link.logged.restart(ticket, device)?;
+        }
+        Ok(())
+    }
+
+    // The guards of the device's links, rising.
+    fn guards_of<R: Wait>(
+        &self,
+        rt: &R,
+        device: DeviceId,
+    ) -> Result<Vec<MutexGuard<'_, KeptLink<O>>>, LogError> {
+        let mut guards = Vec::with_capacity(self.alloc, self.links.len())?;
+        for joint in self.links.iter().filter(|joint| joint.is_of(device)) {
+            guards.push(joint.link.lock(rt))?;
+        }
+        Ok(guards)
+    }
+}
+
+// What no turn does: local steps and resets. Only where nothing is known of how a cluster began may they be made.
+impl<S: Store> Locked<S, Anywhere> {
     /// Gives the name this node in the device's folder, as `LoggedPeer::edit` does.
     pub fn edit<R: Wait>(
         &self,
@@ -62,36 +108,6 @@ impl<S: Store, O: Origin> Locked<S, O> {
         peer.logged.revert_one(self.draw(), folder, name)
     }
 
-    /// The link between the two devices, the smaller first, comes up.
-    pub fn connect<R: Wait>(
-        &self,
-        rt: &R,
-        lower: DeviceId,
-        upper: DeviceId,
-    ) -> Result<(), LogError> {
-        let mut link = self.link(lower, upper)?.link.lock(rt);
-        link.logged.connect(self.draw())
-    }
-
-    /// The link between the two devices, the smaller first, goes down.
-    pub fn lose<R: Wait>(&self, rt: &R, lower: DeviceId, upper: DeviceId) -> Result<(), LogError> {
-        let mut link = self.link(lower, upper)?.link.lock(rt);
-        link.logged.lose(self.draw())
-    }
-
-    /// The device starts again, and each of its links is lost, under one ticket and all of their guards. Where a part is
-    /// refused, for want of memory or of room in its log, those before it were made all the same.
-    pub fn restart<R: Wait>(&self, rt: &R, device: DeviceId) -> Result<(), LogError> {
-        let mut peer = self.device(device)?.peer.lock(rt);
-        let mut links = self.guards_of(rt, device)?;
-        let ticket = self.draw();
-        peer.logged.restart(ticket)?;
-        for link in links.iter_mut() {
-            link.logged.restart(ticket, device)?;
-        }
-        Ok(())
-    }
-
     /// The device starts over with empty indexes under this id, and each of its links is lost, under one ticket and all of
     /// their guards. The device's part is the first, and where it is refused, nothing was made: so it is for an id that isn't
     /// above that of each of its indexes. Where a link's part is refused, for want of memory or of room in its log, those
@@ -105,18 +121,5 @@ impl<S: Store, O: Origin> Locked<S, O> {
             link.logged.reset(ticket, device, id)?;
         }
         Ok(())
-    }
-
-    // The guards of the device's links, rising.
-    fn guards_of<R: Wait>(
-        &self,
-        rt: &R,
-        device: DeviceId,
-    ) -> Result<Vec<MutexGuard<'_, KeptLink<O>>>, LogError> {
-        let mut guards = Vec::with_capacity(self.alloc, self.links.len())?;
-        for joint in self.links.iter().filter(|joint| joint.is_of(device)) {
-            guards.push(joint.link.lock(rt))?;
-        }
-        Ok(guards)
     }
 }

@@ -1,8 +1,9 @@
 //! Cuts of the running cluster, and logs that begin anew: under all guards, by rising device and then by rising link.
-ghost use Rattle.std.specs.Prelude.{◌≡◌, ◌+◌, IfOk, OnOk, length, map, min};
+ghost use Rattle.std.specs.Prelude.{◌≡◌, ◌+◌, IfOk, OnOk, length, map, min, true};
 ghost use Rattle.bep_blocks.specs.declared.gate.Place.TheVariants.{Guarded};
 ghost use Rattle.bep_run.specs.Origin.{AreFirst, BeginsAs, IsAll, devices_in, links_in};
 ghost use Rattle.bep_run.specs.Based.{base_seen};
+ghost use Rattle.bep_run.specs.Quiet.{AreStill, device_logs, link_logs, quiet_logs};
 ghost use Rattle.bep_run_cut.specs.RunCut.{links_base};
 
 use crate::kept_link::KeptLink;
@@ -23,11 +24,12 @@ impl<S: Store, O: Origin> Locked<S, O> {
     /// Copies of all devices and links with their logs, made under all guards; the gate is passed at `Guarded` after each
     /// guard, with the number of those held. Refuses `StoreFault` where a store fails to list its names or to read one, and
     /// `NotShared` where these aren't one copy of each device and link that the devices know; else only for want of memory.
-    /// Nothing changes, and afterwards all guards are free. What devices and links were when their logs began is the cluster
-    /// with which all began, where that is known. May wait.
-    #[tactic(auto, using(crate::proofs::Begins::begins_so))]
+    /// Nothing changes, and afterwards all guards are free. Where it is known with which cluster all began, the devices and
+    /// links were that cluster when their logs began, and no event in the logs is a local step or a reset. May wait.
+    #[tactic(auto, using(crate::proofs::Begins::begins_so, crate::proofs::Still::still_so))]
     pub fn take_cut<R: Wait, G: Gate>(&self, rt: &R, gate: &G) -> Result<RunCut, LogError>
-        ensures { IfOk result (λ run. BeginsAs O.start run.bases) }
+        ensures begins { IfOk result (λ run. BeginsAs O.start run.bases) }
+        ensures still { IfOk result (λ run. AreStill O.start run.logs) }
     {
         let (peers, links) = self.copies(rt, gate)?;
         match RunCut::of(self.alloc, peers, links)? {
@@ -41,6 +43,8 @@ impl<S: Store, O: Origin> Locked<S, O> {
     fn copies<R: Wait, G: Gate>(&self, rt: &R, gate: &G) -> Result<Copies, LogError>
         ensures devices { IfOk result (λ copies. IsAll (devices_in O.start) (map base_seen copies.0.items)) }
         ensures links { IfOk result (λ copies. IsAll (links_in O.start) (links_base copies.1.items)) }
+        ensures quiet { IfOk result (λ copies. quiet_logs O.start (device_logs copies.0.items) ≡ true) }
+        ensures quiet_links { IfOk result (λ copies. quiet_logs O.start (link_logs copies.1.items) ≡ true) }
     {
         let mut peers = self.peer_guards(rt, gate)?;
         let links = self.link_guards(rt, gate, peers.len())?;
@@ -108,6 +112,7 @@ fn copy_peers<S: Store, O: Origin>(
 ) -> Result<Vec<PeerCopy>, LogError>
     ensures first { IfOk result (λ copies. AreFirst (devices_in O.start) (map base_seen copies.items)) }
     ensures all { IfOk result (λ copies. length copies.items ≡ length peers.old) }
+    ensures quiet { IfOk result (λ copies. quiet_logs O.start (device_logs copies.items) ≡ true) }
 {
     let mut copies = Vec::with_capacity(alloc, peers.len())?;
     for peer in peers.iter_mut() {
@@ -117,14 +122,16 @@ fn copy_peers<S: Store, O: Origin>(
 }
 
 // Adds a copy of the device that stands behind those of which there are copies.
-#[tactic(auto, using(crate::proofs::Begins::copied_with))]
+#[tactic(auto, using(crate::proofs::Begins::copied_with, crate::proofs::Still::quiet_with))]
 fn copy_peer<S: Store, O: Origin>(
     copies: &mut Vec<PeerCopy>,
     peer: &mut KeptPeer<S, O>,
 ) -> Result<(), LogError>
-    requires { AreFirst (devices_in O.start) (map base_seen copies.old.items) }
+    requires first { AreFirst (devices_in O.start) (map base_seen copies.old.items) }
+    requires quiet { quiet_logs O.start (device_logs copies.old.items) ≡ true }
     ensures first { OnOk result (AreFirst (devices_in O.start) (map base_seen copies.new.items)) }
     ensures one_more { OnOk result (length copies.new.items ≡ length copies.old.items + 1) }
+    ensures quiet { OnOk result (quiet_logs O.start (device_logs copies.new.items) ≡ true) }
 {
     let copy = peer.copy(copies.len())?;
     copies.push(copy)?;
@@ -139,6 +146,7 @@ fn copy_links<O: Origin>(
 ) -> Result<Vec<LinkCopy>, LogError>
     ensures first { IfOk result (λ copies. AreFirst (links_in O.start) (links_base copies.items)) }
     ensures all { IfOk result (λ copies. length copies.items ≡ length links.now) }
+    ensures quiet { IfOk result (λ copies. quiet_logs O.start (link_logs copies.items) ≡ true) }
 {
     let mut copies = Vec::with_capacity(alloc, links.len())?;
     for link in links.iter() {
@@ -148,11 +156,13 @@ fn copy_links<O: Origin>(
 }
 
 // Adds a copy of the link that stands behind those of which there are copies.
-#[tactic(auto, using(crate::proofs::Begins::copied_with))]
+#[tactic(auto, using(crate::proofs::Begins::copied_with, crate::proofs::Still::quiet_with))]
 fn copy_link<O: Origin>(copies: &mut Vec<LinkCopy>, link: &KeptLink<O>) -> Result<(), LogError>
-    requires { AreFirst (links_in O.start) (links_base copies.old.items) }
+    requires first { AreFirst (links_in O.start) (links_base copies.old.items) }
+    requires quiet { quiet_logs O.start (link_logs copies.old.items) ≡ true }
     ensures first { OnOk result (AreFirst (links_in O.start) (links_base copies.new.items)) }
     ensures one_more { OnOk result (length copies.new.items ≡ length copies.old.items + 1) }
+    ensures quiet { OnOk result (quiet_logs O.start (link_logs copies.new.items) ≡ true) }
 {
     let copy = link.copy(copies.len())?;
     copies.push(copy)?;

@@ -1,5 +1,5 @@
 //! A device behind its lock.
-ghost use Rattle.std.specs.Prelude.{◌≡◌, IfOk, Some};
+ghost use Rattle.std.specs.Prelude.{◌≡◌, IfOk, Some, true};
 ghost use Rattle.std.specs.Coded.{Coded-set, coded_option};
 ghost use Rattle.bep_record.specs.contracts.folder_kind.FolderKind as folder_kind;
 ghost use Rattle.bep_record.specs.contracts.entry.Entry as entry;
@@ -11,6 +11,7 @@ ghost use Rattle.bep_peer.specs.Session.{session_code};
 ghost use Rattle.bep_cut.specs.Cut.{seen};
 ghost use Rattle.bep_run.specs.Origin.{at_place, devices_in};
 ghost use Rattle.bep_run.specs.Based.{began_as, seen_code};
+ghost use Rattle.bep_run.specs.Quiet.{quiet_log};
 
 use crate::Origin;
 use bep_log::{LogError, LoggedPeer, PeerCopy};
@@ -20,13 +21,14 @@ use bep_store::Store;
 use std::alloc::Global;
 use std::marker::PhantomData;
 
-/// A device with its log, and its place among the devices of its cluster. What it was when its log began is what stood at
-/// that place, where that is known.
+/// A device with its log, and its place among the devices of its cluster. Where it is known how the cluster began, what the
+/// device was when its log began is what stood at that place, and no event is a local step or a reset.
 pub(crate) struct KeptPeer<S: Store, O: Origin> {
     place: usize,
     pub(crate) logged: LoggedPeer<S>,
     of: PhantomData<O>,
     ghost began: { at_place (devices_in O.start) place (began_as logged) ≡ Some (began_as logged) } by { Coded-set (coded_option (seen_code (tables_code folder_kind.the_row.coded entry.the_row.coded parts.the_row.coded) (session_code plan.the_row.coded request.the_row.coded))) (at_place (devices_in O.start) place (began_as logged)) (Some (began_as logged)) },
+    ghost quiet: { quiet_log O.start logged.log ≡ true },
 }
 
 // By hand: a caller's proof then sees one call where it lets go of one, and not each field (docs/developing.md).
@@ -64,7 +66,8 @@ impl<S: Store, O: Origin> KeptPeer<S, O> {
     // A copy of it, as `LoggedPeer::copy` makes it; or `NotShared` if it stands at another place.
     #[tactic(auto, using(crate::proofs::Begins::copy_stands, crate::proofs::Begins::still_stands))]
     pub(crate) fn copy(&mut self, place: usize) -> Result<PeerCopy, LogError>
-        ensures { IfOk result (λ copy. at_place (devices_in O.start) place (seen copy.base) ≡ Some (seen copy.base)) }
+        ensures began { IfOk result (λ copy. at_place (devices_in O.start) place (seen copy.base) ≡ Some (seen copy.base)) }
+        ensures quiet { IfOk result (λ copy. quiet_log O.start copy.log ≡ true) }
     {
         if self.place != place {
             return Err(LogError::Refused(Refusal::NotShared));

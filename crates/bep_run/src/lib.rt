@@ -2,8 +2,8 @@
 //! turns.
 //!
 //! What a call does under a lock is a call of `bep_log`, and what it decides is decided by functions that take no lock. No
-//! contract here says what happened under a lock: the logs do, and tests show it. What the logs begin at is known where a
-//! cluster is handed to `run_turns`.
+//! contract here says what happened under a lock: the logs do, and tests show it. Where a cluster is handed to `run_turns`, it
+//! is known what the logs begin at, and that no event in them is a local step or a reset.
 //!
 //! ```rust
 //! let shared = Shared::new(alloc, cluster)?;

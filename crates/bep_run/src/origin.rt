@@ -11,7 +11,7 @@ pub trait Origin: Send + Sync {
     ghost start: { Option Network };
 }
 
-/// Nothing is known of what they were. So their logs may begin anew.
+/// Nothing is known of what they were. So their logs may begin anew, and local steps and resets may be made.
 #[derive(Clone, Copy, Debug)]
 pub struct Anywhere;
 

@@ -18,7 +18,8 @@ use std::sync::Mutex;
 use std::sync::atomic::{AtomicU64, Ordering};
 
 /// A cluster whose devices and links may be used by many threads at once: one lock round each device with its log, one
-/// round each link with its log, and one counter of tickets. Each lock keeps what is known of how its device or link began.
+/// round each link with its log, and one counter of tickets. Each lock keeps what is known of how its device or link began,
+/// and then of its events, too: none is a local step or a reset.
 ///
 /// A call takes the guards of the device that it names, then those of the links, by rising device and then rising link; it
 /// draws its ticket under all of them. This project's profile.

@@ -1,5 +1,6 @@
 //! Threads that make turns.
-ghost use Rattle.std.specs.Prelude.{◌≡◌, IfOk, Some};
+ghost use Rattle.std.specs.Prelude.{◌≡◌, [], IfOk, Some};
+ghost use Rattle.bep_fit.specs.Replayed.{AreQuietLogs, AreResetOf};
 ghost use Rattle.bep_peer.specs.network.Network.{cluster_of};
 ghost use Rattle.bep_run_cut.specs.RunCut.{AreTheSame};
 
@@ -43,9 +44,9 @@ pub fn run_workers<R: Threads + Wait + Sync, S: Store + Send, O: Origin, G: Gate
 }
 
 /// Runs the cluster by threads, each for so many turns, as `run_workers` does, and answers a cut of it then, as `take_cut`
-/// does: what its devices and links were when their logs began is the cluster that was handed over. The cluster is used up,
-/// after a refusal too. Refuses what `Locked::new` and `take_cut` refuse; else only for want of memory, which may be that of
-/// one worker. May wait.
+/// does: what its devices and links were when their logs began is the cluster that was handed over, and no event in the logs
+/// is a local step or a reset. The cluster is used up, after a refusal too. Refuses what `Locked::new` and `take_cut` refuse;
+/// else only for want of memory, which may be that of one worker. May wait.
 #[tactic(auto, using(crate::proofs::Begins::same_cluster_of))]
 pub fn run_turns<R: Threads + Wait + Sync, S: Store + Send, G: Gate + Sync>(
     rt: &R,
@@ -56,11 +57,14 @@ pub fn run_turns<R: Threads + Wait + Sync, S: Store + Send, G: Gate + Sync>(
 ) -> Result<RunCut, LogError>
     ensures begins { IfOk result (λ run. AreTheSame run.bases cluster.members cluster.links) }
     ensures from { IfOk result (λ run. cluster_of run.bases ≡ cluster_of cluster) }
+    ensures quiet { IfOk result (λ run. AreQuietLogs run.logs) }
+    ensures no_reset { IfOk result (λ run. AreResetOf run.logs []) }
 {
     run_from::<R, S, Brand, G>(rt, alloc, cluster, gate, turns)
 }
 
 // The same, where the type `O` says that all began as this cluster.
+#[tactic(auto, using(crate::proofs::Still::still_where_known))]
 fn run_from<R: Threads + Wait + Sync, S: Store + Send, O: Origin, G: Gate + Sync>(
     rt: &R,
     alloc: Global,
@@ -69,7 +73,9 @@ fn run_from<R: Threads + Wait + Sync, S: Store + Send, O: Origin, G: Gate + Sync
     turns: u32,
 ) -> Result<RunCut, LogError>
     requires { O.start ≡ Some cluster }
-    ensures { IfOk result (λ run. AreTheSame run.bases cluster.members cluster.links) }
+    ensures begins { IfOk result (λ run. AreTheSame run.bases cluster.members cluster.links) }
+    ensures quiet { IfOk result (λ run. AreQuietLogs run.logs) }
+    ensures no_reset { IfOk result (λ run. AreResetOf run.logs []) }
 {
     let shared = Locked::<S, O>::new(alloc, cluster)?;
     run_workers(rt, &shared, gate, turns)?;

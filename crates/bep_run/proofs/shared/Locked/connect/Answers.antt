@@ -1,0 +1,10 @@
+use Rattle.std.proofs.Common.{rules, refl}
+use Rattle.bep_machine.specs.declared.step.Step.TheVariants as steps
+use Rattle.bep_machine.specs.Steps.{ConnectRow}
+use Rattle.bep_run.proofs.StayQuiet.{quiet_link}
+use Rattle.bep_run.proofs.shared.Locked.connect.Goals as goal
+
+pub invariant_of-deref_mut-clause-quiet : goal.invariant_of-deref_mut-clause-quiet
+invariant_of-deref_mut-clause-quiet g c =
+    let old = c.deref_mut.result.now.logged in
+    quiet_link g.O.Origin.start (steps.Connect old.now.ends.0 old.now.ends.1) ConnectRow c.draw.result old c.connect.new.self c.connect.result c.connect.ensures.logs refl (search rules)
