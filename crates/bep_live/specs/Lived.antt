@@ -1,5 +1,5 @@
 -- What the program answers to a scenario whose cluster goes on in threads (this project's profile).
-use Rattle.std.specs.Prelude.{◌≡◌, ◌++◌, ℕ, List, Option}
+use Rattle.std.specs.Prelude.{◌≡◌, ◌++◌, ℕ, List, [], Option}
 use Rattle.bep_answer.specs.Answer.{fault_text}
 use Rattle.bep_answer.specs.Certified.{IsCertificate}
 use Rattle.bep_answer.specs.declared.outcome.Certified.{Certified}
@@ -10,43 +10,52 @@ use Rattle.bep_cut.specs.Cut.{cut_at}
 use Rattle.bep_cut.specs.Says.{Says}
 use Rattle.bep_document.specs.Reading.{Reading, Read, Refused}
 use Rattle.bep_fit.specs.Fit.{IsRunVerdict}
+use Rattle.bep_fit.specs.Replayed.{AreQuietLogs, AreResetOf}
 use Rattle.bep_fit.specs.declared.verdict.RunVerdict.{RunVerdict}
 use Rattle.bep_fit.specs.declared.verdict.RunVerdict.TheVariants.{Fits}
 use Rattle.bep_machine.specs.Laws.{StaysSettled}
 use Rattle.bep_machine.specs.Laws as laws
 use Rattle.bep_model.specs.Settled.{IsSettled}
+use Rattle.bep_model.specs.Stays.{Stays}
 use Rattle.bep_model.specs.declared.row.Row.{Row}
 use Rattle.bep_peer.specs.network.Network.{Network, cluster_of}
 use Rattle.bep_play.specs.Played.{EndsAt, IsEnd}
 use Rattle.bep_report.specs.Input.{IsRead}
-use Rattle.bep_run_cut.specs.OneRun.{IsRunOf, StaysPut}
-use Rattle.bep_run_cut.specs.RunCut.{AreTheSame, IsRunCut, RunState}
+use Rattle.bep_run_cut.specs.OneRun.{IsRunOf}
+use Rattle.bep_run_cut.specs.RunCut.{AreTheSame, IsCutOf, IsRunCut, RunState}
 use Rattle.bep_scenario.specs.Scenario.{Said, scenario_of}
 use Rattle.bep_tables.specs.Cut.{tables_of}
 use Rattle.bep_tables.specs.declared.cut.CutParts.{CutParts}
 use Rattle.bep_live.specs.Lines.{run_line}
 
 -- The scenario's steps were made, and this is told of them. The run's logs begin at the cluster to which they lead: at its
--- devices, by their tables and sessions, and at its links.
+-- devices, by their tables and sessions, and at its links. No event in them is a local step, and none a reset.
 pub record LeadsOn (scenario : Said) (run : RunState) (told : List ℕ) : Type 0 where
   pub last : Network
   pub leads : EndsAt scenario last told
   pub begins : AreTheSame run.bases last.members last.links
   pub from : cluster_of run.bases ≡ cluster_of last
+  pub quiet : AreQuietLogs run.logs
+  pub no_reset : AreResetOf run.logs []
 
 -- the cut of the devices and links of a run cut as they are
 abbrev pub cut_in : RunState → CutParts
 cut_in run = cut_at run.present.members run.present.links
 
+-- Let the cut of the cluster as it was be settled for some rows. Then each store of the cut of the cluster as it is holds byte for
+-- byte what it held. Each row's name has its certified content, in stores and in own records; one of these is missing only where
+-- that content is Deleted.
+abbrev pub StoresStay : RunState → Type 0
+StoresStay run = (base cut : CutParts) → IsCutOf run.bases base → IsCutOf run.present cut → (rows : List Row) → IsSettled (tables_of base) rows → Stays (tables_of base) rows [] (tables_of cut)
+
 -- A run cut, whose cut says what its devices and links as they are do, and the verdict on its logs. Where they fit, they are one
--- run of so many events, which leads from the bases to that cut; and if the bases' cut is settled and no event is a local step,
--- every store holds what it held.
+-- run of so many events, which leads from the bases to that cut; and if the bases' cut is settled, every store holds what it held.
 pub record IsJudged (run : RunState) (verdict : RunVerdict) : Type 0 where
   pub a_run_cut : IsRunCut run
   pub says : Says (cluster_of run.present) (cut_in run)
   pub judged : IsRunVerdict run.logs verdict
   pub one_run : (count : ℕ) → verdict ≡ Fits count → IsRunOf run count
-  pub stays : (count : ℕ) → verdict ≡ Fits count → StaysPut run
+  pub stays : (count : ℕ) → verdict ≡ Fits count → StoresStay run
 
 -- The steps are made. There is a run cut whose logs begin at the cluster to which they lead, and its cut is reported as the cut
 -- of a scenario's end is. The last line is the verdict on its logs.

@@ -1,5 +1,6 @@
 //! From a scenario to a cut of its cluster, once threads have run it.
-ghost use Rattle.std.specs.Prelude.{IfOk, IsUtf8};
+ghost use Rattle.std.specs.Prelude.{[], IfOk, IsUtf8};
+ghost use Rattle.bep_fit.specs.Replayed.{AreQuietLogs, AreResetOf};
 ghost use Rattle.bep_scenario.specs.Scenario.{said_lazily};
 ghost use Rattle.bep_live.specs.Lived.{IsJudged, LeadsOn};
 
@@ -32,8 +33,10 @@ pub(crate) fn lived<R: Threads + Wait + Sync>(
     }
 }
 
-/// The verdict on the logs of a run cut.
+/// The verdict on the logs of a run cut, in which no event is a local step or a reset.
 pub(crate) fn judge(run: &RunCut) -> RunVerdict
+    requires quiet { AreQuietLogs run.now.logs }
+    requires no_reset { AreResetOf run.now.logs [] }
     ensures { IsJudged run.now result }
 {
     // these two are called for what their clauses say of the run cut
