@@ -57,7 +57,7 @@ class Strangers(Exporting):
         """Nothing of it is asked, with an index beside its configuration and without. A scan is refused."""
         index = self.one.home / "index-v0.14.0.db"
         with stranger(self.one.api_port) as asked:
-            look, scan, first = self.begin(), self.begin("--rescan"), run([self.program, "run", self.one.home, self.two.home, "--rescan"])
+            look, scan, first = self.begin(), self.begin("--rescan"), run([self.program, "run", self.one.home, self.two.home, "--rescan", "--syncaudit", self.auditor])
             index.rename(self.room / "away")
             try:
                 without = self.begin()
