@@ -53,13 +53,14 @@ class ADeviceThatOnlySends(Behind):
             self.assertIn(f"start Syncthing on {one} and 'Rescan': {goes} {three}{keeps}", self.told[name])
         self.assertIn(f"a scan takes it for deleted, and then all devices but {three} delete it{keeps}", self.told["missing"])
         for name in ("earlier", "later"):
-            self.assertIn(f"{three} only sends: it keeps what stands there in any case. Where that was modified earlier, the others keep theirs, without a copy",
+            self.assertIn(f"{three} only sends: it keeps what stands there in any case. Where that was modified earlier, the others keep theirs, and may have no copy of it",
                           self.told[name])
         self.run_both(self.have_taken)
         wait_until("the third device has heard of all", lambda: self.three.knows_all_of(self.one) and self.three.knows_all_of(self.two))
         self.assert_taken()
         status = self.three.api("GET", "db/status?folder=docs")
-        self.assertEqual(status["needTotalItems"], len(("touched", "changed", "missing", "new", "later", "earlier.sync-conflict")))
+        copies = ("later", True) in self.texts_of(self.two)
+        self.assertEqual(status["needTotalItems"], len(("touched", "changed", "missing", "new", "later", "earlier.sync-conflict")) + copies)
         self.three.api("POST", "db/override?folder=docs")
         wait_until("all is as on the third device", lambda: all(self.has_old(device) for device in (self.one, self.two)))
         self.stop()
@@ -72,9 +73,11 @@ class ADeviceThatOnlySends(Behind):
                 and self.texts_of(self.one).get(("earlier", False)) == OLD)
 
     def assert_taken(self):
-        """The third device has what it had, and no conflict copy."""
+        """The third device has what it had, and no conflict copy. The second one has a copy of the third one's if it took that first."""
         for device in (self.one, self.two):
-            self.assert_texts(device, touched=[OLD], changed=[NEW], missing=[], new=[NEW], earlier=[OLD, NEW], later=[NEW])
+            self.assert_texts(device, touched=[OLD], changed=[NEW], missing=[], new=[NEW], earlier=[OLD, NEW])
+            self.assertEqual(self.texts_of(device)["later", False], NEW)
+            self.assertIn(self.texts_of(device).get(("later", True)), (None, OLD))
         self.assert_texts(self.three, touched=[OLD], changed=[OLD], missing=[OLD], new=[], earlier=[OLD], later=[OLD])
         self.assertEqual((self.three.files / "touched").stat().st_mtime, self.now - 1000)
 

@@ -53,7 +53,7 @@ func TestThreeChangesOfWhichOneIsOnTopOfAnother(t *testing.T) {
 func TestThreeChangesOfWhichOneIsOnlySent(t *testing.T) {
 	row := []*part.Name{modified(3, changedAt(1, 1)), modified(1, onTopOf()), modified(2, changedAt(3, 1))}
 	text := toldOf(row, "RecordDiffers 1,RecordDiffers 3", 0, 1, func(folder *finding.Folder) { folder.Members[1].About.Kind = sendOnly })
-	if !strings.Contains(text, "server only sends: it keeps what stands there in any case. Where the others keep theirs, they have no copy of that") {
+	if !strings.Contains(text, "server only sends: it keeps what stands there in any case. Where the others keep theirs, they may have no copy of that") {
 		t.Error(text)
 	}
 }

@@ -46,7 +46,7 @@ var ofOneTime = []struct {
 		"in conflict with what the others have. Syncthing keeps that of server" + versionsDecide},
 	{"a local change of another time", receiveOnly, []*part.Name{file(1, 1), local(changedAt(2, 2))}, "LocalOnly 2", 0, "Syncthing keeps the one that was modified later, and"},
 	{"recorded where it is only sent", sendOnly, []*part.Name{file(1, 1), by(2, file(1, 2))}, "RecordDiffers 1", 0,
-		"server only sends: it keeps what stands there in any case. The others keep theirs, without a copy"},
+		"server only sends: it keeps what stands there in any case. The others keep theirs, and may have no copy of it"},
 	{"recorded where it is only sent, and goes first", sendOnly, []*part.Name{by(5, file(1, 1)), by(2, file(1, 2))}, "RecordDiffers 1", 0,
 		"server only sends: it keeps what stands there in any case. not compared"},
 	{"recorded where it is only sent, and goes first against the row", sendOnly, []*part.Name{by(5, file(1, 1)), by(2, file(1, 2))}, "RecordDiffers 2", 0,

@@ -163,18 +163,19 @@ func (f *File) sendAndReceive(from string, named labels) string {
 // sendsAll says what else a device sends once it doesn't only receive. The record of a deletion has a version above that of what was deleted.
 const sendsAll = " (that sends all local changes of the folder, deletions too: put back first what is to stay)"
 
-// keepOwn says what devices that only send have of a conflict. Where such a device alone has the one change, nobody makes a copy of that.
+// keepOwn says what devices that only send have of a conflict. Where such a device alone has the one change, only a device that takes that
+// first makes a copy of it, once the other change comes.
 func (f *File) keepOwn(isAlone func(device string) bool, named labels) string {
 	told := ""
 	for _, one := range f.sharers.keepers("") {
 		told += ". " + named.of(one) + " only sends: it keeps what stands there in any case"
 		switch isFirst := slices.Contains(f.firsts, one); {
 		case isAlone(one) && f.isOpen:
-			told += ". Where the others keep theirs, they have no copy of that"
+			told += ". Where the others keep theirs, they may have no copy of that"
 		case isAlone(one) && len(f.firsts) == 0:
-			told += ". Where that was modified earlier, the others keep theirs, without a copy"
+			told += ". Where that was modified earlier, the others keep theirs, and may have no copy of it"
 		case isAlone(one) && !isFirst:
-			told += ". The others keep theirs, without a copy"
+			told += ". The others keep theirs, and may have no copy of it"
 		}
 	}
 	return told

@@ -40,13 +40,13 @@ var besideASender = []struct {
 	{"another mode there", []*part.Name{file(1, 1), file(1, 1), file(1, 1)}, "", 3, "the scan may send 0600 to all; or"},
 	{"another mode there, and changed", []*part.Name{changedTo(7), file(1, 1), file(1, 1)}, "StoreDiffers 1", 3,
 		"on laptop, phone and 'Rescan': what they have there is then in conflict. Syncthing keeps the one that was modified later, and the other one as a conflict copy" + noCopies +
-			". phone only sends: it keeps what stands there in any case. Where that was modified earlier, the others keep theirs, without a copy"},
+			". phone only sends: it keeps what stands there in any case. Where that was modified earlier, the others keep theirs, and may have no copy of it"},
 	{"another mode there, and changed, of the mode", []*part.Name{changedTo(7), file(1, 1), file(1, 1)}, "StoreDiffers 1", 3,
 		"the scan takes what stands there for a change, in conflict with what the others have"},
 	{"changed on two", []*part.Name{changedTo(7), changedTo(8), file(1, 1)}, "StoreDiffers 1,StoreDiffers 2", 0, noCopies + ". phone only sends: it keeps what stands there in any case."},
 	{"recorded on two", []*part.Name{changedAt(1, 1), changedAt(2, 1), file(1, 1)}, "RecordDiffers 2,RecordDiffers 3", 0, noCopies + ". phone only sends: it keeps what stands there in any case."},
 	{"recorded there alone, and elsewhere", []*part.Name{changedAt(1, 1), file(1, 1), changedAt(2, 1)}, "RecordDiffers 1,RecordDiffers 2", 0,
-		noCopies + ". phone only sends: it keeps what stands there in any case. Where that was modified earlier, the others keep theirs, without a copy"},
+		noCopies + ". phone only sends: it keeps what stands there in any case. Where that was modified earlier, the others keep theirs, and may have no copy of it"},
 	{"changed there", []*part.Name{file(1, 1), file(1, 1), changedTo(7)}, "StoreDiffers 3", 0, "the change then goes to all. If the change"},
 	{"missing there", []*part.Name{file(1, 1), file(1, 1), with(file(1, 1), absent)}, "StoreDiffers 3", 0, "and then all devices delete it. To keep it"},
 }
