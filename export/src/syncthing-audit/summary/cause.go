@@ -58,6 +58,7 @@ type Fault struct {
 	isUntold     bool     // of Behind: its view goes beyond what it lacks, so nobody tells it of that again
 	isBefore     bool     // of a device that only receives: the version of what is due counts a change of it from before
 	isLast       bool     // and no change of another device
+	isSameBytes  bool     // whether a local change of a file is of its time or mode alone
 	isGone       bool     // of LocalChange: others deleted the directory after that, so Syncthing deletes what stands there
 	isPassed     bool     // of LocalChange: others changed the name after that, so Syncthing takes theirs by itself
 	firsts       []string // of LocalChange: the devices whose change goes first of those of one time, once that one is sent, too

@@ -328,6 +328,7 @@ func (r *reader) add(member int, cause Cause) {
 		made.isTied = cause == Behind && r.isTied(at)
 		made.isGone = cause == LocalChange && made.Kind == receiveOnly && made.isDirectoryDeleted() && r.isGone(at.Own)
 		made.isPassed = cause == LocalChange && made.Kind == receiveOnly && r.isPassed(at.Own)
+		made.isSameBytes = cause == LocalChange && hasBytesOf(at.Own, r.winner)
 	}
 	made.hasDirectory = cause == Behind && made.Recorded.isDirectory() && made.Due != nil && made.Due.Type != "directory"
 	made.isUntold = cause == Behind && !made.isTied && r.isUntold(member)

@@ -53,6 +53,8 @@ var changedAfterLocal = []struct {
 	{"changed again on 1.29, on top of nothing", "v1.29.5", receiveOnly, []*part.Name{file(1, 1), local(changedTo(7), onNone...)}, isTaken, "as a local one"},
 	{"changed again on 1.29, made to send", "v1.29.5", "send-receive", []*part.Name{file(1, 1), local(changedTo(7), onFirst...)},
 		"is then in conflict with what the others have", "goes to all"},
+	{"another time alone, made to send", "v1.29.5", "send-receive", []*part.Name{file(1, 1), local(file(2, 1), onFirst...)},
+		"so Syncthing keeps no conflict copy. The time and mode of one side go to all", "as a conflict copy"},
 	{"changed again on 1.19 after its own last change", "v1.19.2", receiveOnly, []*part.Name{by(2, file(1, 1)), local(changedTo(7), onNone...)}, stays, "takes what"},
 	{"changed again on 1.29 after its own last change", "v1.29.5", receiveOnly, []*part.Name{by(2, file(1, 1)), local(changedTo(7), onNone...)}, stays, "takes what"},
 	{"changed again on 1.27 after its own last change", "v1.27.0", receiveOnly, []*part.Name{by(2, file(1, 1)), local(changedTo(7), onNone...)}, stays, "takes what"},

@@ -30,8 +30,19 @@ func localChangeAdvice(one *Fault, file *File, at string, named labels) string {
 		return told
 	case one.isLast: // so a scan records the change on top of what they have
 		return told + ": " + file.say("it then goes", "they then go") + " to all, since no other device ever changed " + it
+	case one.isSameBytes:
+		return told + sameBytes
 	}
 	return told + ": " + file.say("it is", "they are") + " then in conflict with what the others have. Syncthing " + file.conflicting(one.hasNoCopy, one.firsts, named)
+}
+
+// sameBytes says what becomes of a change of a file's time or mode that is in conflict with the same bytes elsewhere (processNeeded, shortcutFile).
+const sameBytes = ". The bytes are the same on all, so Syncthing keeps no conflict copy. The time and mode of one side go to all: of the one that was " +
+	"modified later, or, where both have one time, of the one whose version goes first"
+
+// hasBytesOf says whether a record is of a file with the bytes of another one's, which isn't deleted.
+func hasBytesOf(own, due *part.Record) bool {
+	return own != nil && due != nil && own.Content != nil && due.Content != nil && *own.Content == *due.Content
 }
 
 // isPassed says whether others changed a name after a local change of it, or beside that. Of an older part that isn't known.
