@@ -291,6 +291,32 @@ class ReceiveOnlyThatSendsItsDeletion(Exporting):
         self.assertEqual(self.verdict(), "settled")
 
 
+class ReceiveOnlyThatSendsTimeAndMode(Exporting):
+    """A device that only receives, on which a file has another mode, and another file a later time; then its folder is made to send, too."""
+
+    kinds = {"two": "receiveonly"}
+
+    def test_no_copy_is_made(self):
+        """The answer says so. The later time goes to all; of the mode, which has the time of the others, one goes to all."""
+        (self.two.files / "text").chmod(0o600)
+        os.utime(self.two.files / "folder/large", (1800000000, 1800000000))
+        self.two.start()
+        self.two.scan()
+        self.two.stop()
+        told = " ".join(self.on_homes("check", [device.home for device in self.devices], "--syncaudit", self.auditor).stdout.split())
+        self.assertEqual(told.count("The bytes are the same on all, so Syncthing keeps no conflict copy."), 2, told)
+        self.assertNotIn("as a conflict copy", told)
+        self.two.configure(self.devices)
+        self.start()
+        self.two.scan()
+        wait_until("the later time is there", lambda: (self.one.files / "folder/large").stat().st_mtime == 1800000000)
+        wait_until_in_step(self.one, self.two)
+        self.stop()
+        self.assertEqual(len({(device.files / "text").stat().st_mode for device in (self.one, self.two)}), 1)
+        self.assertEqual([path for device in (self.one, self.two) for path in device.files.rglob("*.sync-conflict-*")], [])
+        self.assertEqual(self.verdict(), "settled")
+
+
 class SendOnly(Exporting):
     """A device that only sends, and another that changed a file."""
 
