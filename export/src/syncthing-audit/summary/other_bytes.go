@@ -28,7 +28,7 @@ func otherBytesAdvice(one *Fault, file *File, at string, named labels) string {
 		return told
 	}
 	mend := whenToMend(one, file, at, named) + copying(one, file, named, overFile)
-	if one.Kind == receiveOnly || len(file.sendersOfOtherBytes()) > 1 {
+	if one.Kind == receiveOnly || len(file.sendersOfOtherBytes()) > 1 || file.isReplacedAt(one) {
 		return mend
 	}
 	return mend + ". If instead the bytes on " + at + " are the right ones, 'touch' the " + file.say("file", "files") +
@@ -51,6 +51,10 @@ func whenToMend(one *Fault, file *File, at string, named labels) string {
 	case one.mayShow():
 		return "before Syncthing scans there (the scan may " +
 			file.asChange(one, file.spread("send these bytes "+file.toAll(one.Device, named), "record these bytes"), "take these bytes for a change", named) + "), "
+	}
+	if on := file.replacers(one); len(on) > 0 {
+		return "once " + at + " takes what a scan on " + named.all(on) + " finds, these bytes are gone, without a conflict copy: copy elsewhere first what is " +
+			"to stay. To mend " + it + " before that, "
 	}
 	but, why, isNone := file.taking(one.Device, file.sharers.keepers(one.Device), nil, named)
 	if one.Kind == receiveOnly || file.isOwn || isNone {
@@ -97,4 +101,23 @@ func whatAScanTakes(one, lack *Fault) string {
 		return takes + "change, which goes before the deletion"
 	}
 	return takes + "change, in conflict with what the others have"
+}
+
+// replacers gives the devices whose next scans find other contents of the file, on top of what all have recorded. These then go over the other
+// bytes of a device. A change of the time alone doesn't: Syncthing takes that, and leaves the bytes that stand there.
+func (f *File) replacers(one *Fault) []string {
+	made := []string{}
+	for place := range f.Faults {
+		other := &f.Faults[place]
+		if one.Kind != sendOnly && other.Device != one.Device && other.Cause == Changed && other.Kind != receiveOnly && !other.isRival &&
+			f.lackOn(other.Device) == nil {
+			made = addOnce(made, other.Device)
+		}
+	}
+	return made
+}
+
+// isReplacedAt says whether other bytes, which no scan sees and nobody fetches, are gone once such contents come.
+func (f *File) isReplacedAt(one *Fault) bool {
+	return !one.isSeen && !one.isFetched && !one.mayShow() && len(f.replacers(one)) > 0
 }

@@ -4,6 +4,7 @@ import (
 	"fmt"
 	"strings"
 	"testing"
+	"time"
 
 	"syncthing-audit/finding"
 	"syncthing-audit/part"
@@ -116,6 +117,23 @@ func TestAdviceOnTouchingWithoutAttributes(t *testing.T) {
 		advice := strings.Join(Of(answer).Folders[0].Files[0].Advice, ". ")
 		if one.told == "" && strings.Contains(advice, "loses") || !strings.HasSuffix(advice, one.told) {
 			t.Errorf("%s: %s", one.why, advice)
+		}
+	}
+}
+
+// Other bytes that no scan sees go away without a copy once another device's unscanned change comes, but not on a device that only sends. The
+// answer doesn't say to touch them then: that would be in conflict with the change.
+func TestOtherBytesBesideAChangeThatComes(t *testing.T) {
+	const comes, touched = "once server takes what a scan on laptop finds, these bytes are gone, without a conflict copy: copy elsewhere first", "'touch' the file there"
+	for kind, isTold := range map[string]bool{"send-receive": true, sendOnly: false} {
+		var written strings.Builder
+		Of(answerOf(2, func(folder *finding.Folder) {
+			folder.Members[1].About.Kind = kind
+			fails(folder, "a", []*part.Name{changedTo(7), with(file(1, 1), rotten)}, "StoreDiffers 1", "StoreDiffers 2")
+		})).Print(&written, time.UTC, time.Time{})
+		text := strings.Join(strings.Fields(written.String()), " ")
+		if strings.Contains(text, comes) != isTold || isTold && strings.Contains(text, touched) {
+			t.Errorf("%s:\n%s", kind, written.String())
 		}
 	}
 }
