@@ -9,6 +9,7 @@ import (
 	"path/filepath"
 	"strings"
 	"testing"
+	"time"
 
 	"github.com/syncthing/syncthing/lib/config"
 	"github.com/syncthing/syncthing/lib/protocol"
@@ -182,7 +183,8 @@ func TestProgramsThatLackAFlag(t *testing.T) {
 	}{
 		{"there is no flag --slice", 7, "", "--slice", true, false}, {"flag provided but not defined: -about", 7, "", "--slice", true, true},
 		{"flag provided but not defined: -about", 0, "", "", false, true}, {"no home is at ~", 7, "data", "", true, false},
-		{"there is no flag --data", 7, "data", "--data", true, false}, {"flag provided but not defined: -about", 0, "data", "--data", true, true},
+		{"part has no flag --data", 7, "data", "--data", true, false}, {"there is no flag --data", 7, "data", "--data", true, false},
+		{"flag provided but not defined: -about", 0, "data", "--data", true, true},
 	} {
 		self := filepath.Join(room, fmt.Sprint("audit", at))
 		if err := os.WriteFile(self, []byte("#!/bin/sh\necho 'syncthing-audit: "+one.says+"' >&2\nexit 3\n"), 0o700); err != nil {
@@ -198,6 +200,20 @@ func TestProgramsThatLackAFlag(t *testing.T) {
 		if err != nil && strings.HasPrefix(err.Error(), told) != (one.lacking != "") {
 			t.Errorf("%s: %v", one.says, err)
 		}
+	}
+}
+
+// Where devices don't say what they share, it is told what they were asked.
+func TestWhatDevicesWereAsked(t *testing.T) {
+	self := filepath.Join(t.TempDir(), "audit")
+	if err := os.WriteFile(self, []byte("#!/bin/sh\necho 'syncthing-audit: it is off' >&2\nexit 2\n"), 0o700); err != nil {
+		t.Fatal(err)
+	}
+	var log strings.Builder
+	places := []*place{{given: "one", home: "one", self: self}, {given: "two", home: "two", self: self}}
+	run := &running{places: places, room: t.TempDir(), log: &log, progress: io.Discard, patience: time.Hour}
+	if err := run.ask(); err == nil || !strings.HasPrefix(log.String(), "syncthing-audit: asking what is shared: ") || !strings.Contains(log.String(), "it is off") {
+		t.Errorf("%v, %s", err, log.String())
 	}
 }
 

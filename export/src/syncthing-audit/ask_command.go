@@ -16,7 +16,7 @@ import (
 // isn't named, say, or can't be reached.
 func (r *running) ask() error {
 	r.tellStep("asking %s what is shared", countOf(len(r.places), "device"))
-	if err := r.all("question", r.about); err != nil {
+	if err := r.all("asking what is shared", r.about); err != nil {
 		return err
 	}
 	devices := []*join.Device{}

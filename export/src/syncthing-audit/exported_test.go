@@ -115,3 +115,18 @@ func TestAnExportOfAnOlderProgram(t *testing.T) {
 		}
 	}
 }
+
+// A sum has no details of what a document tells. It says that 'check' has them: it refuses parts of all names where it is asked for some.
+func TestASumOfWhatFails(t *testing.T) {
+	room := exportedPart(t)
+	reply := []byte("not settled: LocalOnly docs a on 1\nfolder docs: 1 names, 0 deleted, 1 devices\nLocalOnly docs a on 1\n")
+	if err := os.WriteFile(filepath.Join(room, "cut-0001.reply"), reply, 0o600); err != nil {
+		t.Fatal(err)
+	}
+	var output, log strings.Builder
+	status := run([]string{"sum", room}, &output, &log)
+	text := strings.Join(strings.Fields(output.String()), " ")
+	if status != statusNotSettled || !strings.Contains(text, "to do: 'syncthing-audit check' of the same parts or homes tells the details.") || strings.Contains(text, "--names") {
+		t.Errorf("%d: %s%s", status, output.String(), log.String())
+	}
+}

@@ -51,6 +51,12 @@ func namedAs(path string, err error) error {
 	return err
 }
 
+// isOfFile says whether an error names this file itself.
+func isOfFile(err error, path string) bool {
+	var at *fs.PathError
+	return errors.As(err, &at) && at.Path == path
+}
+
 // temporary is a file of the temporary directory. Its errors say how another directory is chosen.
 type temporary struct{ to io.Writer }
 

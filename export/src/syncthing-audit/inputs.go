@@ -165,7 +165,9 @@ func (i *inputs) checkNames(wanted choice.Names) error {
 func (i *inputs) openParts(paths []string) error {
 	opening := &lookInputs{inputs: i, first: map[string]opened{}, second: map[string]opened{}}
 	for _, path := range paths {
-		if err := opening.openPart(path); err != nil {
+		if err := opening.openPart(path); isOfFile(err, path) {
+			return err
+		} else if err != nil {
 			return fmt.Errorf("%s: %w", path, err)
 		}
 	}

@@ -37,7 +37,7 @@ func (o *options) checkLooks() error {
 	case !o.begin && o.heeds:
 		return &wrongUsage{"--heed-input is for --begin"}
 	case !o.end && len(o.leaveOut) > 0:
-		return &wrongUsage{"--leave-out is for 'check', and for 'part --end' with a device that has no token"}
+		return &wrongUsage{"--leave-out is for 'check', 'run' and 'export', and for 'part --end' with a device that has no token"}
 	}
 	return nil
 }

@@ -180,7 +180,7 @@ func readOptions(name string, words []string, flagsOf func(*flag.FlagSet, *optio
 		if err := flags.Parse(words); errors.Is(err, flag.ErrHelp) {
 			return options{}, errHelp
 		} else if err != nil {
-			return options{}, wrongFlag(err)
+			return options{}, wrongFlag(name, err)
 		}
 		if flags.NArg() == 0 {
 			break
@@ -198,10 +198,28 @@ func readOptions(name string, words []string, flagsOf func(*flag.FlagSet, *optio
 // flagOfGo is a flag as Go's package names it: with one dash, however it was written.
 var flagOfGo = regexp.MustCompile(`(^|\s)-([a-z][a-z-]+)`)
 
-// wrongFlag says what is wrong with a flag, which is named as the help does.
-func wrongFlag(err error) error {
+// flagOfHelp is a flag that the help tells of.
+var flagOfHelp = regexp.MustCompile(`(?m)^  (--?[a-z-]+) `)
+
+// isInHelp says whether a command has a flag.
+func isInHelp(named string) bool {
+	for _, one := range flagOfHelp.FindAllStringSubmatch(usage, -1) {
+		if one[1] == named {
+			return true
+		}
+	}
+	return false
+}
+
+// wrongFlag says what is wrong with a flag of a command, which is named as the help does.
+func wrongFlag(command string, err error) error {
 	text := flagOfGo.ReplaceAllString(err.Error(), "$1--$2")
-	text = strings.Replace(text, "flag provided but not defined: ", "there is no flag ", 1)
+	if named := strings.TrimPrefix(text, "flag provided but not defined: "); named != text {
+		text = "there is no flag " + named
+		if isInHelp(named) {
+			text = command + " has no flag " + named
+		}
+	}
 	if named := strings.TrimPrefix(text, "flag needs an argument: "); named != text {
 		text = named + " needs a word behind it"
 	}

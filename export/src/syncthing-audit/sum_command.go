@@ -52,6 +52,7 @@ func sumOf(directory string) (*finding.Answer, error) {
 		}
 		replies.Take(&document.Document{Folder: one.Folder, Own: one.Own}, reply)
 	}
+	read.Answer.IsSum = true
 	return read.Answer, replies.AddTo(read.Answer)
 }
 

@@ -10,24 +10,35 @@ import (
 // What is wrong with a flag is told by its name in the help, however it was written.
 func TestWrongFlags(t *testing.T) {
 	for words, told := range map[string]string{
-		"check --folder":            "--folder needs a word behind it",
-		"part -o":                   "-o needs a word behind it",
-		"check --fold docs x":       "there is no flag --fold",
-		"run x: --still soon":       "invalid value \"soon\" for flag --still: parse error",
-		"check --leave-out all x":   "invalid value \"all\" for flag --leave-out: \"all\" is none of ",
-		"check --lines=often x":     "invalid boolean value \"often\" for --lines: ",
-		"check --folder  x":         "invalid value \"\" for flag --folder: empty",
-		"part -o x --slice 0/7":     "invalid value \"0/7\" for flag --slice: a slice is K/N",
-		"check --slice 8/7 x":       "invalid value \"8/7\" for flag --slice: there is no slice 8 of 7",
-		"run x: --slice 3":          "invalid value \"3\" for flag --slice: a slice is K/N",
-		"export --slice a/b x":      "invalid value \"a/b\" for flag --slice: a slice is K/N",
-		"part --begin --slice 1/0":  "invalid value \"1/0\" for flag --slice: a slice is K/N",
-		"part --end --slice":        "--slice needs a word behind it",
-		"part --home a --jobs none": "invalid value \"none\" for flag --jobs: ",
-		"part --data d -o x":        "invalid value \"d\" for flag --data: it stands behind the --home whose database is there",
-		"check --data d --home a":   "invalid value \"d\" for flag --data: it stands behind the --home whose database is there",
-		"check p --data d":          "invalid value \"d\" for flag --data: it stands behind the --home whose database is there",
-		"check --home a --data ":    "invalid value \"\" for flag --data: empty",
+		"check --folder":                   "--folder needs a word behind it",
+		"part -o":                          "-o needs a word behind it",
+		"check --fold docs x":              "there is no flag --fold",
+		"check --rescan x":                 "check has no flag --rescan\n",
+		"check -o a x":                     "check has no flag -o\n",
+		"check -tokens=a x":                "check has no flag --tokens\n",
+		"part --lines":                     "part has no flag --lines\n",
+		"part -o x --still 3":              "part has no flag --still\n",
+		"export --syncaudit x":             "export has no flag --syncaudit\n",
+		"run x: --begin":                   "run has no flag --begin\n",
+		"sum --leave-out none x":           "sum has no flag --leave-out\n",
+		"part --line":                      "there is no flag --line\n",
+		"part -x":                          "there is no flag -x\n",
+		"part --about --leave-out ignored": "--leave-out is for 'check', 'run' and 'export', and for 'part --end' with ",
+		"run x: --still soon":              "invalid value \"soon\" for flag --still: parse error",
+		"check --leave-out all x":          "invalid value \"all\" for flag --leave-out: \"all\" is none of ",
+		"check --lines=often x":            "invalid boolean value \"often\" for --lines: ",
+		"check --folder  x":                "invalid value \"\" for flag --folder: empty",
+		"part -o x --slice 0/7":            "invalid value \"0/7\" for flag --slice: a slice is K/N",
+		"check --slice 8/7 x":              "invalid value \"8/7\" for flag --slice: there is no slice 8 of 7",
+		"run x: --slice 3":                 "invalid value \"3\" for flag --slice: a slice is K/N",
+		"export --slice a/b x":             "invalid value \"a/b\" for flag --slice: a slice is K/N",
+		"part --begin --slice 1/0":         "invalid value \"1/0\" for flag --slice: a slice is K/N",
+		"part --end --slice":               "--slice needs a word behind it",
+		"part --home a --jobs none":        "invalid value \"none\" for flag --jobs: ",
+		"part --data d -o x":               "invalid value \"d\" for flag --data: it stands behind the --home whose database is there",
+		"check --data d --home a":          "invalid value \"d\" for flag --data: it stands behind the --home whose database is there",
+		"check p --data d":                 "invalid value \"d\" for flag --data: it stands behind the --home whose database is there",
+		"check --home a --data ":           "invalid value \"\" for flag --data: empty",
 		"export --home a --home b --data c --data d --into x": "invalid value \"d\" for flag --data: the database of b is named already",
 		"run --data d x:":                "invalid value \"d\" for flag --data: it stands behind the device whose database is there",
 		"run x:a --data b --data c":      "invalid value \"c\" for flag --data: the database of x:a is named already",
@@ -72,5 +83,17 @@ func TestWhatIsNamedWhereThereIsNoRoom(t *testing.T) {
 	}
 	if err := (&target{path: "/proc/one.part"}).write(func(io.Writer) error { return nil }); err == nil || !strings.Contains(err.Error(), " /proc/one.part: ") {
 		t.Error(err)
+	}
+}
+
+// A part that can't be read is named once, as it was asked for.
+func TestAPartThatIsNotThere(t *testing.T) {
+	room := t.TempDir()
+	for path, told := range map[string]string{room + "/no.part": "open " + room + "/no.part: no such file or directory\n", room: room + ": this is no part but a directory: "} {
+		var log strings.Builder
+		status := run([]string{"export", path, "--into", room + "/new"}, io.Discard, &log)
+		if status != statusRefused || !strings.HasPrefix(log.String(), "syncthing-audit: "+told) {
+			t.Errorf("%d: %s", status, log.String())
+		}
 	}
 }

@@ -21,6 +21,7 @@ type Answer struct {
 	IsByName bool             // whether the folders were asked for by their ids
 	ByNames  bool             // whether the names were asked for by how they begin
 	HasRest  bool             // whether the devices' other folders are told: an export of 0.8.0 or before doesn't
+	IsSum    bool             `json:"-"` // whether 'sum' joined it, which has no parts to tell details of what documents tell
 }
 
 // Device is a device that was audited.

@@ -103,7 +103,7 @@ func adviceOfFault(one *Fault, file *File, named labels) string {
 		}
 		return told + ". Where neither is of a later version, it may keep " + file.say("a conflict copy, which has", "conflict copies, which have") + " the same bytes"
 	}
-	return file.say("audit it by itself: --names with this name tells more", "audit some of them by themselves: --names with how they begin tells more")
+	return file.detailsBy(file.say("audit it by itself: --names with this name tells more", "audit some of them by themselves: --names with how they begin tells more"))
 }
 
 const (

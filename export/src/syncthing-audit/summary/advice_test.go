@@ -80,7 +80,7 @@ func TestAdviceOnRevertingWhatNoOtherDeviceHas(t *testing.T) {
 		{LocalChange, true, "'Revert Local Changes' on server deletes the file: no other", "deletes the files"},
 		{LocalAddition, true, "To have it recorded as any other file, make the folder 'Send & Receive' there", "To have it recorded"},
 		{NotScanned, true, "make the folder 'Send & Receive' on server and 'Rescan': it is then recorded", "they are then recorded"},
-		{Missing, true, "doesn't bring it back: look among old versions and backups for the recorded bytes", "doesn't bring them back"},
+		{Missing, true, "doesn't bring it back: look among old versions and backups for a file with the recorded bytes", "doesn't bring them back"},
 		{Missing, false, "brings it back only from a device that has the recorded bytes, and no audited one has", "brings them back only from"},
 		{Changed, false, "takes back only from a device that has the recorded bytes: no audited one has", "takes back only from"},
 	} {

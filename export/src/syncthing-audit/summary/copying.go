@@ -18,7 +18,8 @@ func copying(one *Fault, file *File, named labels, to way) string {
 	}
 	at := named.of(one.Device)
 	if len(file.Have) == 0 {
-		return "look among old versions and backups for the recorded bytes, which no audited device has, and copy them to " + at + file.manner(one, to)
+		return "look among old versions and backups for " + file.say("a file", "files") + " with the recorded bytes, which no audited device has, and copy " +
+			file.say("it", "them") + " to " + at + file.manner(one, to)
 	}
 	from := file.sourceFor(one)
 	told := "copy " + what + " from " + named.of(from) + " to " + at + file.manner(one, to)

@@ -23,6 +23,7 @@ type File struct {
 	RenamedFrom     Text       `json:"renamed_from,omitempty"` // the name that goes where this one comes with the same bytes
 	RenamedTo       Text       `json:"renamed_to,omitempty"`   // and the other way round
 	hasDetails      bool
+	isOfSum         bool              // whether 'sum' tells it
 	isOfAnotherTime bool              // whether those that have what is due have it with another time
 	isOdd           bool              // whether the name isn't in Unicode's form NFC
 	isCopy          bool              // whether the name is itself that of a conflict copy

@@ -160,7 +160,7 @@ func (a *alike) groupOf(named labels) *Group {
 	first := a.first[0]
 	same := &File{Faults: withoutDetails(first.Faults), Have: first.Have, Permissions: first.Permissions, isMany: true, areWide: first.areWide, isOwn: first.isOwn, isOdd: first.isOdd, isCopy: first.isCopy, rivals: first.rivals, receivers: first.receivers, sharers: first.sharers,
 		firsts: first.firsts, isOpen: first.isOpen, mayStay: first.mayStay, stuck: first.stuck, isNeeded: first.isNeeded, blocked: first.blocked, localsBelow: first.localsBelow,
-		unseenBelow: first.unseenBelow, unseenAbove: first.unseenAbove}
+		unseenBelow: first.unseenBelow, unseenAbove: first.unseenAbove, isOfSum: first.isOfSum}
 	made := a.group
 	made.Cause, made.Devices, made.First, made.Have, made.Modes = Permissions, []string{}, []Text{}, first.Have, first.Permissions
 	made.Advice = adviceOf(same, named)

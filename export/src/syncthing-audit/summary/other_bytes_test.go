@@ -27,7 +27,7 @@ func TestAdviceOnOtherBytes(t *testing.T) {
 		}
 	}
 	told := adviceOf(&File{Faults: faultsOf("send-receive", OtherBytes)}, labels{})
-	if !strings.Contains(told[0], "look among old versions and backups for the recorded bytes, which no audited device has") {
+	if !strings.Contains(told[0], "look among old versions and backups for a file with the recorded bytes, which no audited device has, and copy it to "+server+" with its time alone (cp") {
 		t.Errorf("where no device has the bytes: %s", told)
 	}
 }

@@ -231,6 +231,7 @@ func folderOf(answer *finding.Answer, from *finding.Folder, named labels) *Folde
 	below, unseen, locals := keptBelow(from), unseenOf(from), localsBelow(from)
 	from.EachName(func(told *finding.Told) {
 		one := fileOf(from, told)
+		one.isOfSum = answer.IsSum
 		one.noteStuck(from, below)
 		one.noteBlocked(from)
 		one.noteUnseen(unseen)

@@ -72,11 +72,20 @@ func (f *File) unseenAdvice() []string {
 	if f.unseenBelow > 0 {
 		names := f.say(counted(f.unseenBelow, "name", "names")+" below it", "names below them")
 		made = append(made, "see first what is below: of "+names+" no details were kept. Where other devices keep something there, Syncthing doesn't delete or replace "+
-			f.say("the directory", "the directories")+". Audit "+f.say("it by itself: --names with this name", "them by themselves: --names with how they begin")+" tells that")
+			f.say("the directory", "the directories")+". "+f.detailsBy("Audit "+f.say("it by itself: --names with this name", "them by themselves: --names with how they begin")+" tells that"))
 	}
 	if f.unseenAbove != "" {
 		made = append(made, fmt.Sprintf("see first what is above: of the directory %s no details were kept. Where a device has something else in its place, Syncthing gets stuck here. "+
-			"Audit it by itself: --names with that name tells that", shell.Path(f.unseenAbove)))
+			"%s", shell.Path(f.unseenAbove), f.detailsBy("Audit it by itself: --names with that name tells that")))
 	}
 	return made
+}
+
+// detailsBy says how details are told that weren't kept: by an audit of some names alone, for which parts of all names don't do. 'sum' has no
+// details of what documents tell, of however few names that is.
+func (f *File) detailsBy(alone string) string {
+	if f.isOfSum {
+		return "'syncthing-audit check' of the same parts or homes tells the details"
+	}
+	return alone + "; parts are made anew with it"
 }

@@ -83,3 +83,26 @@ func TestANameBelowADirectoryWithoutDetails(t *testing.T) {
 		}
 	}
 }
+
+// An answer says what tells the details that weren't kept: an audit of these names alone, for which parts of all names don't do. 'sum' has none of
+// what its documents tell, and 'check' has, so it names that.
+func TestWhatTellsDetails(t *testing.T) {
+	for isSum, told := range map[bool]string{false: "; parts are made anew with it", true: "'syncthing-audit check' of the same parts or homes tells the details"} {
+		for _, names := range []int{1, mostAlone + 1} {
+			answer := answerOf(2, func(folder *finding.Folder) {
+				for next := 0; next < names; next++ {
+					fails(folder, fmt.Sprint("a", next), nil, "LocalOnly 2")
+					fails(folder, fmt.Sprint("d", next), []*part.Name{directory(1), with(directory(1), absent)}, "StoreDiffers 2")
+					fails(folder, fmt.Sprint("d", next, "/a"), nil, "StoreDiffers 1")
+				}
+				fails(folder, "e", nil, "StoreDiffers 2")
+				unwon(folder, "e/new", 0, finding.Unscanned, addedAs(7))
+			})
+			answer.IsSum = isSum
+			text := strings.Join(strings.Fields(printed(answer)), " ")
+			if strings.Contains(text, "--names with") == isSum || strings.Count(text, told) < 4 {
+				t.Errorf("%d names: %s", names, text)
+			}
+		}
+	}
+}
