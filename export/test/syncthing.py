@@ -52,10 +52,18 @@ def version_of(program):
 programs_in_turn = itertools.cycle(programs())
 
 
+def is_so(holds):
+    """Whether something holds. Where Syncthing replaces a file, it isn't there for a moment, and nothing that reads it holds then."""
+    try:
+        return holds()
+    except FileNotFoundError:
+        return False
+
+
 def wait_until(what, holds):
     """Waits until something holds, and fails if that takes too long."""
     end = time.monotonic() + SECONDS_TO_WAIT
-    while not holds():
+    while not is_so(holds):
         if time.monotonic() > end:
             raise AssertionError(f"waited {SECONDS_TO_WAIT} seconds until {what}")
         time.sleep(0.5)
