@@ -1,0 +1,209 @@
+// Mutants says which bugs a package's tests don't see. It changes one place of the package at a time, by Go's own syntax tree,
+// and runs the package's tests. No file is changed: the compiler is given the changed file in place of the other one.
+//
+//	tools/mutants/run [--turn K/N] [--seconds S] [--jobs N] PACKAGE..
+//
+// Each mutant that all tests let pass is printed with file, line and change. One that stands in same.txt, with the reason why
+// nobody could see it, isn't counted. The last line is 'N passed, M failed'. A mutant that a test sees has passed.
+package main
+
+import (
+	"bufio"
+	"flag"
+	"fmt"
+	"go/build"
+	"os"
+	"strings"
+	"sync"
+	"time"
+)
+
+type asked struct {
+	turn, turns int
+	until       time.Time
+	jobs        int
+	most        float64 // how many of a hundred mutants may survive
+	same        map[string]bool
+}
+
+func main() {
+	turn := flag.String("turn", "1/1", "only each N-th mutant, from the K-th on")
+	seconds := flag.Int("seconds", 0, "begin no mutant after so many seconds")
+	jobs := flag.Int("jobs", 2, "how many at once")
+	most := flag.Float64("most", 5, "how many of a hundred mutants may survive")
+	same := flag.String("same", "", "the file of mutants that are the same program")
+	flag.Parse()
+	given := asked{jobs: *jobs, most: *most}
+	if _, err := fmt.Sscanf(*turn, "%d/%d", &given.turn, &given.turns); err != nil || given.turn < 1 || given.turn > given.turns {
+		fail(fmt.Errorf("--turn is K/N, with K from 1 to N"))
+	}
+	if *seconds > 0 {
+		given.until = time.Now().Add(time.Duration(*seconds) * time.Second)
+	}
+	var err error
+	if given.same, err = readSame(*same); err != nil {
+		fail(err)
+	}
+	passed, failed, skipped := 0, 0, 0
+	for _, path := range flag.Args() {
+		counts, err := judge(path, given)
+		if err != nil {
+			fail(err)
+		}
+		skipped += counts.left
+		if counts.isEnough(given.most) {
+			passed += counts.seen
+		} else {
+			passed += counts.seen
+			failed += counts.survived
+		}
+		fmt.Printf("%s: %d mutants seen, %d survived, %d the same, %d not compiled, %d not begun\n", path, counts.seen, counts.survived, counts.same,
+			counts.notCompiled, counts.left)
+	}
+	fmt.Printf("%d passed, %d failed", passed, failed)
+	if skipped > 0 {
+		fmt.Printf(", %d skipped", skipped)
+	}
+	fmt.Println()
+	if failed > 0 {
+		os.Exit(1)
+	}
+}
+
+func fail(err error) {
+	fmt.Fprintln(os.Stderr, "mutants:", err)
+	os.Exit(2)
+}
+
+// readSame reads the keys of mutants that nobody could see; a line is a key, a tab and the reason.
+func readSame(path string) (map[string]bool, error) {
+	keys := map[string]bool{}
+	if path == "" {
+		return keys, nil
+	}
+	file, err := os.Open(path)
+	if err != nil {
+		return nil, err
+	}
+	defer file.Close()
+	lines := bufio.NewScanner(file)
+	for number := 1; lines.Scan(); number++ {
+		line := lines.Text()
+		if line == "" || strings.HasPrefix(line, "#") {
+			continue
+		}
+		key, reason, has := strings.Cut(line, "\t")
+		if !has || strings.TrimSpace(reason) == "" {
+			return nil, fmt.Errorf("%s:%d: a line is a mutant, a tab and the reason", path, number)
+		}
+		keys[key] = true
+	}
+	return keys, lines.Err()
+}
+
+// counts is how many mutants of a package had which outcome.
+type counts struct{ seen, survived, same, notCompiled, left int }
+
+// isEnough says whether so few survived that the package counts as tested.
+func (c counts) isEnough(most float64) bool {
+	return float64(c.survived)*100 <= most*float64(c.seen+c.survived)
+}
+
+// judge tries a package's mutants whose turn it is.
+func judge(path string, given asked) (counts, error) {
+	found, err := build.Import(path, "", build.FindOnly)
+	if err != nil {
+		return counts{}, err
+	}
+	room, err := os.MkdirTemp("", "mutants-")
+	if err != nil {
+		return counts{}, err
+	}
+	defer os.RemoveAll(room)
+	files, err := sources(found.Dir)
+	if err != nil {
+		return counts{}, err
+	}
+	var due []keyed
+	for _, file := range files {
+		mutants, err := mutantsOf(file)
+		if err != nil {
+			return counts{}, err
+		}
+		due = append(due, keysOf(path, mutants)...)
+	}
+	longest, err := timeOf(path)
+	if err != nil {
+		return counts{}, err
+	}
+	return tryAll(&bench{packagePath: path, directory: found.Dir, room: room, longest: longest}, due, given)
+}
+
+// A keyed is a mutant with the key that names it.
+type keyed struct {
+	mutant
+	name string
+}
+
+// keysOf gives mutants their keys, each of which is there once.
+func keysOf(path string, mutants []mutant) []keyed {
+	var all []keyed
+	count := map[string]int{}
+	for _, found := range mutants {
+		plain := found.key(0)
+		all = append(all, keyed{found, path + "/" + found.key(count[plain])})
+		count[plain]++
+	}
+	return all
+}
+
+// tryAll tries the mutants, some side by side, and prints those that survive.
+func tryAll(on *bench, due []keyed, given asked) (counts, error) {
+	var total counts
+	var first error
+	var guard sync.Mutex
+	var working sync.WaitGroup
+	places := make(chan int)
+	for job := 0; job < given.jobs; job++ {
+		working.Add(1)
+		go func() {
+			defer working.Done()
+			for place := range places {
+				tried := due[place]
+				became, err := on.try(tried.mutant, place)
+				guard.Lock()
+				if err != nil && first == nil {
+					first = err
+				}
+				total.count(tried, became)
+				guard.Unlock()
+			}
+		}()
+	}
+	for place := given.turn - 1; place < len(due); place += given.turns {
+		switch {
+		case given.same[due[place].name]:
+			total.same++
+		case !given.until.IsZero() && time.Now().After(given.until):
+			total.left++
+		default:
+			places <- place
+		}
+	}
+	close(places)
+	working.Wait()
+	return total, first
+}
+
+// count counts an outcome, and prints a mutant that survived.
+func (c *counts) count(tried keyed, became outcome) {
+	switch became {
+	case notCompiled:
+		c.notCompiled++
+	case seen:
+		c.seen++
+	case survived:
+		c.survived++
+		fmt.Printf("survived: %s:%d: %s\n", tried.file, tried.line, tried.name)
+	}
+}

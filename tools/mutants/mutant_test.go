@@ -1,0 +1,75 @@
+package main
+
+import (
+	"os"
+	"path/filepath"
+	"reflect"
+	"testing"
+)
+
+// Each operator on the least source that has it: what changes, and what stands there then.
+func TestEachOperatorMakesItsMutants(t *testing.T) {
+	for _, row := range []struct {
+		name, body string
+		changes    []string
+	}{
+		{"the boundary and the answer of a comparison", "x := a < b", []string{"x := a <= b", "x := a >= b"}},
+		{"equality", "x := a == b", []string{"x := a != b"}},
+		{"and", "x := c && d", []string{"x := c || d"}},
+		{"a condition", "if c {\n}", []string{"if !(c) {\n}"}},
+		{"a call alone", "call()", []string{"_ = 0"}},
+		{"a defer, and its call", "defer call()", []string{"_ = 0"}},
+		{"an assignment; a definition stays", "x := y\nx = y", []string{"x := y\n_ = 0"}},
+		{"continue", "for {\ncontinue\n}", []string{"for {\n_ = 0\n}"}},
+		{"a number", "x := 41", []string{"x := 42"}},
+		{"a constant", "x := true", []string{"x := false"}},
+		{"neighbours that are names", "x := f(a, b)", []string{"x := f(b, a)"}},
+		{"neighbours of which one is a call stay", "x := f(a, g())", nil},
+		{"an error that is given on", "return err", []string{"return nil"}},
+		{"no number in a text", `x := "41"`, nil},
+	} {
+		changes, err := changesOf(t, row.body)
+		if err != nil {
+			t.Fatalf("%s: %v", row.name, err)
+		}
+		if !reflect.DeepEqual(changes, row.changes) {
+			t.Errorf("%s: %q, not %q", row.name, changes, row.changes)
+		}
+	}
+}
+
+// changesOf gives the body of a function with each of its mutants.
+func changesOf(t *testing.T, body string) ([]string, error) {
+	const before, after = "package p\n\nfunc f() {\n", "\n}\n"
+	file := filepath.Join(t.TempDir(), "p.go")
+	source := []byte(before + body + after)
+	if err := os.WriteFile(file, source, 0o600); err != nil {
+		return nil, err
+	}
+	mutants, err := mutantsOf(file)
+	var changes []string
+	for _, found := range mutants {
+		text := found.mutated(source)
+		changes = append(changes, string(text[len(before):len(text)-len(after)]))
+	}
+	return changes, err
+}
+
+func TestAliveIsAPackageOfWhichTooManySurvive(t *testing.T) {
+	if !(counts{seen: 19, survived: 1}).isEnough(5) || (counts{seen: 18, survived: 1}).isEnough(5) {
+		t.Error("one of twenty is five of a hundred, and one of nineteen is more")
+	}
+}
+
+func TestAMutantThatIsTheSameHasAReason(t *testing.T) {
+	file := filepath.Join(t.TempDir(), "same.txt")
+	for text, is := range map[string]bool{"": true, "# why\n\n": true, "p/a.go f: one more: 0\tnobody reads it\n": true, "p/a.go f: one more: 0\n": false,
+		"p/a.go f: one more: 0\t \n": false} {
+		if err := os.WriteFile(file, []byte(text), 0o600); err != nil {
+			t.Fatal(err)
+		}
+		if _, err := readSame(file); (err == nil) != is {
+			t.Errorf("%q: %v", text, err)
+		}
+	}
+}
