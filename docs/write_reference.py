@@ -1,7 +1,7 @@
 #!/usr/bin/env python3
 """write_reference.py: writes docs/reference/ by the comments of the crates: a page for each crate, with its calls and the names
-of their contracts' clauses, its laws and its definitions; names.md, which says where each name stands; and headline.md, which
-lists what the two headlines rest on.
+of their contracts' clauses, its laws and its definitions; names.md, which says where each name stands; headline.md, which
+lists what the two headlines rest on; and clauses.md, which lists all clauses and laws.
 
 tests/reference.py says which pages aren't what this would write.
 """
@@ -13,12 +13,15 @@ HERE = Path(__file__).resolve().parent
 TOP = HERE.parent
 sys.path.insert(0, str(HERE / "generate"))
 
+import clauses  # noqa: E402
 from definitions import definitions  # noqa: E402
 from headline import Page  # noqa: E402
 from inner import misplaced  # noqa: E402
 from rust import items, module_comment, program_names, public_names  # noqa: E402
 
 PAGES = HERE / "reference"
+# The pages that are in the repository. Git passes over the others.
+KEPT = ("README.md", "headline.md", "clauses.md")
 
 
 def crates():
@@ -88,13 +91,15 @@ def page(crate):
 OVERVIEW = """# Reference
 
 What the comments of the crates say, crate by crate, in the order of [crates.txt](../../crates.txt). [names.md](names.md)
-says where each name stands, [headline.md](headline.md) what the two headlines rest on.
+says where each name stands, [headline.md](headline.md) what the two headlines rest on, and [clauses.md](clauses.md) lists all
+that is proved.
 
 Of a call the names of its contract's clauses are given; the clauses themselves stand above its body. A clause without a
 name is `ensures`, and `requires` is what a caller must meet. A law is a call that does nothing: its contract holds of
 everything that it speaks of.
 
-`docs/write_reference.py` writes these pages, and `./test` fails where they aren't current.
+`docs/write_reference.py` writes all these pages here, and the release's archive has them. In the repository are this one,
+headline.md and clauses.md alone, and `./test` fails where they aren't current.
 
 """
 
@@ -128,18 +133,16 @@ def pages():
             told.append((crate, first_paragraph(read(crate)[0])))
             places += [(name, crate, file) for name, file in names]
     headlines = Page(TOP / "crates", linked).text()
-    return made | {"README.md": overview(told), "names.md": name_list(places), "headline.md": headlines}
+    index = clauses.index(clauses.part(crate, read(crate)[1], linked) for crate in crates())
+    return made | {"README.md": overview(told), "names.md": name_list(places), "headline.md": headlines, "clauses.md": index}
 
 
 def check(count, made):
     """Counts which pages are current."""
-    for name, text in made.items():
+    for name in KEPT:
         file = PAGES / name
-        is_current = file.exists() and file.read_text() == text
+        is_current = file.exists() and file.read_text() == made[name]
         count.says(name, "" if is_current else "it isn't what the comments say: run docs/write_reference.py")
-    for file in PAGES.glob("*"):
-        if file.name not in made:
-            count.fails(f"{file.name} is a page of no crate: run docs/write_reference.py")
     for crate, module, why in misplaced([TOP / "crates" / crate for crate in crates()]):
         count.fails(f"{crate}: specs/{module.replace('.', '/')}.antt: {why}")
 

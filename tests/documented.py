@@ -1,14 +1,7 @@
-"""What the pages say, beside the schemas, the definitions and the code: members, numbers, reasons, callers' conditions."""
+"""What the pages say, beside the schemas, the definitions and the code: members, numbers, reasons."""
 
 import json
 import re
-import sys
-from pathlib import Path
-
-DOCS = Path(__file__).resolve().parents[1] / "docs"
-sys.path[1:1] = [str(DOCS), str(DOCS / "generate")]
-
-from write_reference import crates as all_crates, read  # noqa: E402
 
 TABLES = {"Member of the document": None, "Member of the cut": "cut", "Member of a device": "device", "Member of a view": "view",
           "Member of a link": "link", "Member of a message": "message"}
@@ -77,26 +70,11 @@ def reasons(crates, text):
         yield title, told, [[str(place), name] for place, name in enumerate(listed, 1)]
 
 
-def has_condition(text, item):
-    """Whether the function asks something of its caller."""
-    contract = re.search(rf"^( *)(?:pub )?fn {item.name}\b.*?(?:^\1\{{|;$)", text, re.MULTILINE | re.DOTALL)
-    return bool(contract and re.search(r"^ +requires ", contract[0], re.MULTILINE))
-
-
-def conditions(trust):
-    """The public functions that ask something of their caller, by the page and by the code."""
-    right = {item.full_name for crate in all_crates() for file, found in read(crate)[1] for item in found
-             if item.head.startswith("fn ") and has_condition(file.read_text(), item)}
-    line = next(line for line in trust.splitlines() if "have such a condition: " in line)
-    yield "callers' conditions", set(re.findall(r"`([^`]+)` \(", line.partition("have such a condition: ")[2])), right
-
-
 def check(count, top):
     """Counts what the pages say as the schemas and the definitions do."""
     text = (top / "docs/documents.md").read_text()
     found = [*members(top / "docs", text), *numbers(top / "crates", text),
-             *reasons(top / "crates", (top / "docs/reasons.md").read_text()),
-             *conditions((top / "docs/trust.md").read_text())]
-    count.says("docs/documents.md: tables", "" if len(found) == 20 else f"{len(found)} things are compared")
+             *reasons(top / "crates", (top / "docs/reasons.md").read_text())]
+    count.says("docs/documents.md: tables", "" if len(found) == 19 else f"{len(found)} things are compared")
     for what, told, right in found:
         count.says(f"docs: {what}", "" if told == right else f"the page has {told}, and not {right}")

@@ -1,7 +1,7 @@
 #!/usr/bin/env python3
 """pages.py: says whether the pages that are written by hand fit one another and the code: each link leads to a file and a
 heading, developing.md's map has each crate as crates.txt does, the functions on its three ways are there, and its counts are
-theirs; trust.md names each law of the reference, and no name or test that isn't there; documents.md has the schemas' members
+theirs; trust.md is short, and has no name or test that isn't there; documents.md has the schemas' members
 and the numbers of refusals, and reasons.md the reasons (documented.py); README.md is one screen, of at most 500 words. The
 last line is 'N passed, M failed'."""
 
@@ -14,11 +14,16 @@ import documented
 from counting import Count
 
 TOP = Path(__file__).resolve().parents[1]
+sys.path[1:1] = [str(TOP / "docs"), str(TOP / "docs/generate")]
+
+from write_reference import pages  # noqa: E402
+
 PAGES = [*sorted(TOP.glob("docs/*.md")), *sorted(TOP.glob("*.md")),
          *(TOP / folder / "README.md" for folder in ("bench", "compare", "contrib", "examples", "export", "tests"))]
 LINK = re.compile(r"\]\(([^)\s]+)\)")
 CODE = re.compile(r"^```.*?^```|`[^`\n]*`", re.MULTILINE | re.DOTALL)
 MOST_OF_README = 500
+MOST_OF_TRUST = 4000
 STEP = re.compile(r"`([\w/]+\.rt):(\w+)`")
 
 
@@ -72,26 +77,17 @@ def missing(crate, file, function):
     return "" if re.search(rf"\bfn {function}\b", path.read_text()) else "the file has no such function"
 
 
-def laws(page):
-    """The laws that a page of the reference lists, but the small cuts on which definitions are tried out."""
-    for part in page.read_text().partition("## Laws\n")[2].partition("\n## ")[0].split("\n### ")[1:]:
-        if not part.startswith("[examples.rt]"):
-            yield from re.findall(r"^- `(\w+)`", part, re.MULTILINE)
-
-
 def names(text):
     """The names in a text, each without its type."""
     return {name.rpartition("::")[2] for name in re.findall(r"`(?:fn )?([A-Za-z_][\w:]*)\b[^`]*`", text)}
 
 
 def check_trust(count, crates):
-    """Counts which laws trust.md has, and which names of it are known."""
-    reference = sorted((TOP / "docs/reference").glob("*.md"))
+    """Counts which names of trust.md are known, and whether it is short."""
     told = set(re.findall(r"`(?:\w+::)?(\w+)`", (TOP / "docs/trust.md").read_text()))
-    for page in reference:
-        for law in laws(page):
-            count.says(f"docs/trust.md: {law} of {page.stem}", "" if law in told else "it isn't named")
-    known = set(crates).union(*(names(page.read_text()) for page in reference))
+    words = len((TOP / "docs/trust.md").read_text().split())
+    count.says("docs/trust.md: length", "" if words <= MOST_OF_TRUST else f"{words} words are more than {MOST_OF_TRUST}")
+    known = set(crates).union(*(names(text) for text in pages().values()))
     for name in sorted(told):
         count.says(f"docs/trust.md: {name}", "" if name in known else "the reference has no such name")
 
