@@ -33,6 +33,9 @@ func (l labels) all(ids []string) string {
 func adviceOf(file *File, named labels) []string {
 	made := file.unseenAdvice()
 	for _, isTaking := range []bool{false, true} {
+		if isTaking && file.isModeFirst() {
+			made = append(made, permissionsAdvice(file, named))
+		}
 		for next := range file.Faults {
 			one := &file.Faults[next]
 			if (one.Cause == Behind || one.Cause == Conflicting) == isTaking {
@@ -46,7 +49,7 @@ func adviceOf(file *File, named labels) []string {
 	if senders := file.sendersOfOtherBytes(); len(senders) > 1 {
 		made = append(made, touchAdvice(file, senders, named))
 	}
-	if len(file.Permissions) > 0 {
+	if len(file.Permissions) > 0 && !file.isModeFirst() {
 		made = append(made, permissionsAdvice(file, named))
 	}
 	return made
@@ -215,7 +218,7 @@ func behindAdvice(one *Fault, file *File, at string, named labels) string {
 		return at + " has" + file.say(" a directory in its place", " directories in their places") + ", which Syncthing doesn't delete for a deleted file or symlink: it " +
 			"lists 'Failed Items'. Delete" + file.say(" that", " those") + " there, and let Syncthing scan"
 	}
-	told := "let Syncthing run on " + at + " and on " + holders(file, named) + ", and let them finish. If it stays so, see whether a device " +
+	told := "let Syncthing run on " + at + " and on " + file.holders(named) + ", and let them finish. If it stays so, see whether a device " +
 		"or the folder is paused, whether they are connected, whether a disk is full, and whether Syncthing's page lists 'Failed Items'"
 	if one.Deletion {
 		told += "; or 'Ignore Delete' is set for the folder on " + at
@@ -223,13 +226,33 @@ func behindAdvice(one *Fault, file *File, at string, named labels) string {
 	return told
 }
 
-// holders says on which devices that can be had which is due.
-func holders(file *File, named labels) string {
-	switch len(file.Have) {
-	case 0:
-		return file.say("a device that has it", "a device that has them")
-	case 1:
-		return named.of(file.Have[0])
+// holders says on which devices that can be had which is due. It names no device on which something is to be made safe first, if there is another one.
+func (f *File) holders(named labels) string {
+	safe := f.safeHolders()
+	switch {
+	case len(f.Have) == 0:
+		return f.say("a device that has it", "a device that has them")
+	case len(safe) == 0:
+		return oneOf(f.Have, named) + " (once that is done there which comes first)"
 	}
-	return "one of " + named.all(file.Have)
+	return oneOf(safe, named)
+}
+
+// safeHolders gives the devices that have what is due, and on which nothing is to be made safe first.
+func (f *File) safeHolders() []string {
+	made := []string{}
+	for _, one := range f.Have {
+		if !f.others.isToMakeSafe(one) {
+			made = append(made, one)
+		}
+	}
+	return made
+}
+
+// oneOf names devices of which one does.
+func oneOf(devices []string, named labels) string {
+	if len(devices) == 1 {
+		return named.of(devices[0])
+	}
+	return "one of " + named.all(devices)
 }

@@ -38,7 +38,7 @@ func TestAdviceOnOtherBytesThatOthersFetch(t *testing.T) {
 		}
 		file.noteFetched()
 		told := adviceOf(file, labels{laptop: "laptop", server: "server", phone: "phone"})
-		if !strings.Contains(told[0], one.has) || file.Faults[0].losesByScan() != (one.has == urgent) {
+		if !strings.Contains(told[0], one.has) || file.losesAt(&file.Faults[0]) != (one.has == urgent) {
 			t.Errorf("%+v: %q", one, told)
 		}
 	}
@@ -65,11 +65,7 @@ func TestOtherBytesThatAnAuditedDeviceFetches(t *testing.T) {
 		if text := strings.Join(made.Folders[0].Files[0].Advice, ". "); strings.Contains(text, told) != one.has {
 			t.Errorf("%s: %s", one.why, text)
 		}
-		losing := false
-		for place := range made.Folders[0].Files[0].Faults {
-			losing = losing || made.Folders[0].Files[0].Faults[place].losesByScan()
-		}
-		if losing != one.has {
+		if made.Folders[0].Files[0].mayLose() != one.has {
 			t.Errorf("%s: whether something comes first is wrong", one.why)
 		}
 	}

@@ -32,6 +32,7 @@ type File struct {
 	takers          []string          // those of them that take the file from others, with the owner and attributes that are recorded
 	runs            map[string]string // the version of Syncthing on each device, as far as that is known
 	isOwn           bool              // whether the folder's one device shares it with nobody
+	others          *actions          // what the entries of all names tell to do
 	rivals          []string          // the devices whose next scans record changes that are in conflict
 	receivers       []string          // the devices that only receive
 	sharers         *sharers          // who takes changes from whom

@@ -8,6 +8,7 @@ import (
 
 	"syncthing-audit/choice"
 	"syncthing-audit/finding"
+	"syncthing-audit/join"
 	"syncthing-audit/part"
 )
 
@@ -27,7 +28,7 @@ func fresh(folder *finding.Folder, member int) {
 
 // Who is told to start Syncthing for one name is told what comes first, where a scan of that device would delete another one on all.
 func TestWhatComesFirst(t *testing.T) {
-	const told = "\nfirst, on server: do what the entries above say to do before Syncthing starts or scans there. As it starts, it scans all folders\n"
+	const told = "\nfirst, on server: do what the entries below say to do before Syncthing starts or scans there. As it starts, it scans all folders\n"
 	for why, one := range map[string]struct {
 		fill func(*finding.Folder)
 		told bool
@@ -47,6 +48,19 @@ func TestWhatComesFirst(t *testing.T) {
 			fails(folder, "a", []*part.Name{file(1, 1), with(file(1, 1), rotten)}, "StoreDiffers 2")
 			fresh(folder, 1)
 		}, false},
+		"other bytes, and one from which another device takes a file": {func(folder *finding.Folder) {
+			fails(folder, "a", []*part.Name{nil, with(file(1, 1), rotten)}, "RecordMissing 1", "StoreDiffers 2")
+			fails(folder, "b", []*part.Name{nil, file(1, 1)}, "RecordMissing 1")
+		}, true},
+		"other bytes that may be touched": {func(folder *finding.Folder) {
+			fails(folder, "a", []*part.Name{file(1, 1), with(file(1, 1), rotten)}, "StoreDiffers 2")
+			missing(folder, "b", 1)
+		}, true},
+		"a mode": {func(folder *finding.Folder) {
+			folder.Permissions.Add(finding.Permissions{Name: "a", At: []finding.Bits{{Has: true, Index: 0o644, OnDisk: true, Disk: 0o644}, {Has: true, Index: 0o644, OnDisk: true, Disk: 0o600}}})
+			folder.Rows["a"] = &join.Row{Name: "a", At: []*part.Name{file(1, 1), file(1, 1)}}
+			fresh(folder, 1)
+		}, true},
 		"on two devices":     {func(folder *finding.Folder) { missing(folder, "a", 1); fresh(folder, 0) }, false},
 		"one is missing":     {func(folder *finding.Folder) { missing(folder, "a", 1) }, false},
 		"nothing is missing": {func(folder *finding.Folder) { fresh(folder, 1) }, false},
@@ -90,5 +104,54 @@ func TestWhatIsNotKnownBeforeAStart(t *testing.T) {
 		if strings.Contains(written.String(), told) != one.told {
 			t.Errorf("%+v:\n%s", one.asked, written.String())
 		}
+	}
+}
+
+// What may lose bytes comes first, whatever its name, and below what is to be done before all else.
+func TestWhatMayLoseBytesComesFirst(t *testing.T) {
+	text := printed(answerOf(2, func(folder *finding.Folder) {
+		missing(folder, "z", 1)
+		fresh(folder, 1)
+	}))
+	first, lost, other := strings.Index(text, "first, on server"), strings.Index(text, "z (in docs"), strings.Index(text, "new (in docs")
+	if first < 0 || first > lost || lost > other {
+		t.Error(text)
+	}
+}
+
+// Nobody is told to let a device be the one from which another takes what it lacks, where something on it is to be made safe first.
+func TestFromWhomADeviceTakesWhatItLacks(t *testing.T) {
+	lacks := func(folder *finding.Folder) {
+		fails(folder, "b", []*part.Name{file(1, 1), file(1, 1), nil}, "RecordMissing 3")
+	}
+	for why, one := range map[string]struct {
+		more func(*finding.Folder)
+		told string
+	}{
+		"both are safe": {func(*finding.Folder) {}, "let Syncthing run on phone and on one of laptop, server, and let"},
+		"one has other bytes of a file that the device lacks, too": {func(folder *finding.Folder) {
+			fails(folder, "a", []*part.Name{file(1, 1), with(file(1, 1), rotten), nil}, "StoreDiffers 2", "RecordMissing 3")
+		}, "let Syncthing run on phone and on laptop, and let"},
+		"on one a file is missing": {func(folder *finding.Folder) {
+			fails(folder, "a", []*part.Name{with(file(1, 1), absent), file(1, 1), file(1, 1)}, "StoreDiffers 1")
+		}, "let Syncthing run on phone and on server, and let"},
+		"none is safe": {func(folder *finding.Folder) {
+			fails(folder, "a", []*part.Name{with(file(1, 1), absent), file(1, 1), file(1, 1)}, "StoreDiffers 1")
+			fails(folder, "c", []*part.Name{file(1, 1), with(file(1, 1), absent), file(1, 1)}, "StoreDiffers 2")
+		}, "on one of laptop, server (once that is done there which comes first), and let"},
+	} {
+		text := printed(answerOf(3, func(folder *finding.Folder) { lacks(folder); one.more(folder) }))
+		if !strings.Contains(text, one.told) {
+			t.Errorf("%s: %s", why, text)
+		}
+	}
+}
+
+// A mode that is to be changed before a scan is told before what makes one.
+func TestAModeComesBeforeAStart(t *testing.T) {
+	text := toldOf([]*part.Name{file(2, 2), file(1, 1)}, "RecordDiffers 2", 2, 1, func(*finding.Folder) {})
+	mode, start := strings.Index(text, "'chmod 0644'"), strings.Index(text, "let Syncthing run")
+	if mode < 0 || start < mode {
+		t.Error(text)
 	}
 }

@@ -26,7 +26,7 @@ type Group struct {
 	Have    []string `json:"have_recorded"` // devices that have what is due, of all of these names
 	Modes   []Mode   `json:"permissions,omitempty"`
 	Advice  []string `json:"advice"`
-	faults  []Fault  // of each name
+	of      *File    // what is so of each name
 
 	isOfAnotherTime bool // as of a file
 }
@@ -86,7 +86,8 @@ const mostKinds = 1000
 // folding takes the names of a folder, rising. It tells many names with the same fault as one.
 type folding struct {
 	named labels
-	wrong int64 // names with faults
+	to    *actions // of all entries
+	wrong int64    // names with faults
 	alone []*File
 	alike map[string]*alike // by their keys
 	keys  []string          // in the order of their first names
@@ -107,6 +108,8 @@ func (f *folding) take(one *File) {
 	one.Same = sameOtherBytes(one.Faults)
 	one.markSeen()
 	one.noteRivals()
+	one.others = f.to
+	f.to.note(one)
 	key := keyOf(one)
 	if !one.hasDetails && (key == "" || f.alike[key] == nil && len(f.alike) >= mostKinds) {
 		one.shorten()
@@ -160,7 +163,7 @@ func (a *alike) groupOf(named labels) *Group {
 	first := a.first[0]
 	same := &File{Faults: withoutDetails(first.Faults), Have: first.Have, Permissions: first.Permissions, isMany: true, areWide: first.areWide, isOwn: first.isOwn, isOdd: first.isOdd, isCopy: first.isCopy, rivals: first.rivals, receivers: first.receivers, sharers: first.sharers,
 		firsts: first.firsts, isOpen: first.isOpen, mayStay: first.mayStay, stuck: first.stuck, isNeeded: first.isNeeded, blocked: first.blocked, localsBelow: first.localsBelow,
-		unseenBelow: first.unseenBelow, unseenAbove: first.unseenAbove, isOfSum: first.isOfSum}
+		unseenBelow: first.unseenBelow, unseenAbove: first.unseenAbove, isOfSum: first.isOfSum, others: first.others}
 	made := a.group
 	made.Cause, made.Devices, made.First, made.Have, made.Modes = Permissions, []string{}, []Text{}, first.Have, first.Permissions
 	made.Advice = adviceOf(same, named)
@@ -168,7 +171,7 @@ func (a *alike) groupOf(named labels) *Group {
 		made.Cause = first.Faults[0].Cause
 		made.Deleted = made.Cause == Behind && first.Faults[0].Deletion
 	}
-	made.faults, made.isOfAnotherTime = same.Faults, first.isOfAnotherTime
+	made.of, made.isOfAnotherTime = same, first.isOfAnotherTime
 	for _, one := range first.Faults {
 		made.Devices = append(made.Devices, one.Device)
 	}

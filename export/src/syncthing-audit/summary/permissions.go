@@ -68,6 +68,11 @@ func (f *File) scanOfReceivedMode(one *Mode) string {
 	return told
 }
 
+// isModeFirst says whether a mode is to be changed before a scan, and so before anything is told that makes one.
+func (f *File) isModeFirst() bool {
+	return slices.IndexFunc(f.Permissions, func(one Mode) bool { return one.isStray() }) >= 0
+}
+
 // isStray says whether a disk has another mode than the device's index.
 func (m *Mode) isStray() bool { return m.Disk != "" && m.Disk != m.Index }
 

@@ -12,7 +12,6 @@ import (
 // rest prints what was left out, not asked for or not compared.
 func (p *printer) rest(s *Summary) {
 	p.line("")
-	p.first(s)
 	for _, folder := range s.Folders {
 		p.moving(folder)
 		p.copies(folder)

@@ -35,6 +35,7 @@ type Summary struct {
 	NotCompared []string   `json:"not_compared"`
 	isByName    bool       // whether the folders were asked for by their ids
 	byNames     bool       // whether the names were asked for by how they begin
+	actions     *actions
 }
 
 // Device is a device that was audited.
@@ -169,8 +170,14 @@ func Of(answer *finding.Answer) *Summary {
 		made.Devices = append(made.Devices, Device{one.ID, one.Name, one.Made, one.From, one.Runs, Text(names.Prefix), sliceOf(names), one.Index, one.Newer, one.ToRepair, names})
 	}
 	named := made.labels()
+	made.actions = &actions{safe: map[string][]int{}, started: map[string][]int{}}
+	names := []*folding{}
 	for _, one := range answer.Folders {
-		made.Folders = append(made.Folders, folderOf(answer, one, named))
+		all := &folding{named: named, to: made.actions, alike: map[string]*alike{}}
+		made.Folders, names = append(made.Folders, folderOf(answer, one, all)), append(names, all)
+	}
+	for place, one := range made.Folders { // what is told of one name depends on what is told of all others
+		one.Files, one.Groups = names[place].end()
 	}
 	for _, one := range answer.LeftOut {
 		made.LeftOut = append(made.LeftOut, LeftOut{one.Folder, one.Device, one.Kind, one.Why, one.Label})
@@ -214,8 +221,8 @@ func verdictOf(answer *finding.Answer) string {
 	return InStep
 }
 
-// folderOf gives the summary of a folder.
-func folderOf(answer *finding.Answer, from *finding.Folder, named labels) *Folder {
+// folderOf gives the summary of a folder, but for what is told of its names, which it puts there.
+func folderOf(answer *finding.Answer, from *finding.Folder, all *folding) *Folder {
 	made := &Folder{ID: from.ID, Label: from.Label, Own: from.Own != "", isApart: answer.IsApart(from), Verdict: InStep, Names: from.Names, Deleted: from.Deleted, Going: from.Deleting, Bytes: from.Bytes,
 		Devices: []Member{}, Files: []*File{}, Groups: []*Group{}, Copies: []Copy{}, LeftOut: []Names{}, Ignored: Count(from.Outside), MoreOut: Count(from.Unlisted.LeftOut), More: Count(from.Unlisted.Conflicts)}
 	switch {
@@ -227,7 +234,6 @@ func folderOf(answer *finding.Answer, from *finding.Folder, named labels) *Folde
 	for _, one := range from.Members {
 		made.Devices = append(made.Devices, memberOf(one))
 	}
-	all := &folding{named: named, alike: map[string]*alike{}}
 	below, unseen, locals := keptBelow(from), unseenOf(from), localsBelow(from)
 	from.EachName(func(told *finding.Told) {
 		one := fileOf(from, told)
@@ -238,7 +244,6 @@ func folderOf(answer *finding.Answer, from *finding.Folder, named labels) *Folde
 		one.localsBelow = locals[string(one.Name)]
 		all.take(one)
 	})
-	made.Files, made.Groups = all.end()
 	made.Wrong = all.wrong
 	for _, one := range from.Conflicts {
 		made.Copies = append(made.Copies, Copy{Text(one.Name), one.Bytes})

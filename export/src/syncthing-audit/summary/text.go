@@ -25,11 +25,9 @@ func (s *Summary) Print(to io.Writer, zone *time.Location, now time.Time) {
 	for _, one := range s.Folders {
 		p.folder(one)
 	}
+	p.first(s)
+	p.entries(s)
 	for _, folder := range s.Folders {
-		for _, one := range folder.Groups {
-			p.group(folder, one)
-		}
-		p.files(folder)
 		p.loose(folder)
 	}
 	p.rest(s)

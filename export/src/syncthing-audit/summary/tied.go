@@ -24,7 +24,7 @@ func (f *File) isTiedAt(device string) bool {
 // tiedAdvice says how a device gets what is due where it has something else under the same version: by a new version.
 func tiedAdvice(one *Fault, file *File, at string, named labels) string {
 	told := "Syncthing doesn't mend this by itself, whatever its page shows: it compares versions, and these are equal. To have what " + at +
-		" lacks, " + file.anew(one.Due, file.Have, holders(file, named), named)
+		" lacks, " + file.anew(one.Due, file.Have, file.holders(named), named)
 	if one.Recorded != nil && one.Recorded.Deleted {
 		told += ". To have " + file.say("it", "them") + " gone, delete " + file.say("it", "them") + " there and let Syncthing scan"
 	} else {

@@ -12,15 +12,18 @@ import (
 var readTogether = map[Cause]bool{OtherBytes: true, LocalChange: true, LocalAddition: true, Changed: true, Back: true, Conflicting: true, OnlySeen: true,
 	Behind: true, Missing: true, NotScanned: true, OtherTime: true}
 
-// files prints the entries of names. Of many with the same fault on the same devices one entry tells the first ones and counts
+// files prints the entries of names, those that may lose bytes or the others. Of many with the same fault on the same devices one entry tells the first ones and counts
 // the others.
-func (p *printer) files(folder *Folder) {
-	keys, alike := make([]string, len(folder.Files)), map[string][]*File{}
-	for place, one := range folder.Files {
-		keys[place] = one.readKey()
-		alike[keys[place]] = append(alike[keys[place]], one)
+func (p *printer) files(folder *Folder, mayLose bool) {
+	files, keys, alike := []*File{}, []string{}, map[string][]*File{}
+	for _, one := range folder.Files {
+		if one.mayLose() == mayLose {
+			key := one.readKey()
+			files, keys = append(files, one), append(keys, key)
+			alike[key] = append(alike[key], one)
+		}
 	}
-	for place, one := range folder.Files {
+	for place, one := range files {
 		switch all := alike[keys[place]]; {
 		case keys[place] == "" || len(all) <= mostAlone:
 			p.file(folder, one)

@@ -51,7 +51,7 @@ func (r *reader) isPassedOver(member, other, place int) bool {
 
 // untoldAdvice says what has a device hear of all changes anew.
 func untoldAdvice(file *File, at string, named labels) string {
-	return at + " has heard of later changes of " + holders(file, named) + " and not of " + file.say("this one", "these") + ", as after a power cut " +
+	return at + " has heard of later changes of " + file.holders(named) + " and not of " + file.say("this one", "these") + ", as after a power cut " +
 		"there. Syncthing doesn't tell " + file.say("it", "them") + " again by itself, whatever its page shows: stop it on " + at + " and start it there once by " +
 		"'syncthing serve --reset-deltas', as the same user and with the same --home, --config and --data as ever. Let all of these devices run till " + at +
 		" has heard of all changes anew; then end it, and start it as usual"

@@ -1,0 +1,97 @@
+package summary
+
+import "golang.org/x/exp/slices"
+
+// actions are what all entries of an answer tell to do on devices. A start of Syncthing scans all folders, and each entry speaks of its own names
+// alone: so what one of them tells to do first counts for all others.
+type actions struct {
+	entries int              // so far
+	safe    map[string][]int // the entries that tell to make something on a device safe before Syncthing starts or scans there
+	started map[string][]int // those that tell to start Syncthing, to scan or to touch there, or for which others fetch from there
+}
+
+// note notes what the entry of a name tells to do.
+func (a *actions) note(file *File) {
+	a.entries++
+	for _, one := range file.toMakeSafe() {
+		a.safe[one] = append(a.safe[one], a.entries)
+	}
+	for _, one := range file.toStart() {
+		a.started[one] = append(a.started[one], a.entries)
+	}
+}
+
+// isFirst says whether something on a device is to be made safe before that is done there which another entry tells.
+func (a *actions) isFirst(device string) bool {
+	for _, one := range a.safe[device] {
+		if slices.IndexFunc(a.started[device], func(other int) bool { return other != one }) >= 0 {
+			return true
+		}
+	}
+	return false
+}
+
+// isToMakeSafe says whether some entry tells to make something safe on a device first. Where nobody noted what entries tell, none does.
+func (a *actions) isToMakeSafe(device string) bool { return a != nil && len(a.safe[device]) > 0 }
+
+// toMakeSafe gives the devices on which something of the name is to be made safe before Syncthing starts or scans there.
+func (f *File) toMakeSafe() []string {
+	made := []string{}
+	for place := range f.Faults {
+		if f.losesAt(&f.Faults[place]) {
+			made = addOnce(made, f.Faults[place].Device)
+		}
+	}
+	for place := range f.Permissions {
+		if f.Permissions[place].isStray() {
+			made = addOnce(made, f.Permissions[place].Device)
+		}
+	}
+	return made
+}
+
+// mayLose says whether bytes of the name may be lost by a scan, or by what others fetch.
+func (f *File) mayLose() bool {
+	return slices.IndexFunc(f.Faults, func(one Fault) bool { return f.losesAt(&one) }) >= 0
+}
+
+// losesAt says whether Syncthing may send to all what is wrong on a device, or lose what it alone recorded, once it scans or another device fetches
+// the file.
+func (f *File) losesAt(one *Fault) bool {
+	switch {
+	case one.Kind == receiveOnly:
+		return false
+	case one.Cause == Missing:
+		return one.late != lateChange || one.isAlone
+	case one.Cause == OtherBytes:
+		lack := f.lackOn(one.Device)
+		return one.isSeen || one.isFetched || one.mayShow() || lack != nil && lack.Cause == Conflicting
+	}
+	return one.Cause == Back || one.Cause == Damaged
+}
+
+// toStart gives the devices on which Syncthing is told to run or to scan for this name, and those from which others fetch it.
+func (f *File) toStart() []string {
+	made := []string{}
+	for place := range f.Faults {
+		one := &f.Faults[place]
+		if one.isToStart() || !f.losesAt(one) && one.Cause != Differs && one.Cause != Damaged || one.Cause == OtherBytes && one.Kind != receiveOnly {
+			made = addOnce(made, one.Device)
+		}
+		if one.isToStart() || one.fetches() {
+			for _, device := range f.Have {
+				made = addOnce(made, device)
+			}
+		}
+	}
+	return made
+}
+
+// isToStart says whether for a fault devices are told to connect: the one at fault, and those that have what is due.
+func (f *Fault) isToStart() bool {
+	switch f.Cause {
+	case Behind, Conflicting, OnlySeen, NewerKnown, OtherBlocks:
+		return true
+	}
+	return false
+}
