@@ -20,6 +20,7 @@ import (
 	"github.com/syncthing/syncthing/lib/events"
 	"github.com/syncthing/syncthing/lib/protocol"
 	"syncthing-audit/leftover"
+	"syncthing-audit/limits"
 	"syncthing-audit/part"
 )
 
@@ -213,11 +214,11 @@ func (h *Home) pausedOf(folder config.FolderConfiguration) []string {
 	return made
 }
 
-// nameOf gives the name that this device has for another.
+// nameOf gives the name that this device has for another. It may be another device's word, so one that is too long is cut.
 func (h *Home) nameOf(id protocol.DeviceID) string {
 	for _, one := range h.Config.Devices {
 		if one.DeviceID == id {
-			return one.Name
+			return limits.Cut(one.Name)
 		}
 	}
 	return ""

@@ -2,16 +2,18 @@ package gather
 
 import (
 	"bytes"
+	"fmt"
 	"sort"
 
 	"syncthing-audit/part"
 )
 
-// hidden is a name that .stignore keeps out of the folder, and that no index has. Syncthing tells nobody of it, and a part may go to others: so it
-// has a hash in place of the name. Devices that ignore one name have one hash of it.
+// hidden is a name that a part tells by a hash. Either .stignore keeps it out of the folder and no index has it: Syncthing tells nobody of it, and
+// a part may go to others. Or it is too long to be told. Devices that have one name have one hash of it.
 type hidden struct {
-	name part.Hidden
-	size int64
+	name   part.Hidden
+	size   int64
+	length int // of a name that is too long; 0 for one that is ignored
 }
 
 // isHidden says whether all that is known of a name is that .stignore ignores what stands there.
@@ -21,19 +23,44 @@ func isHidden(line *part.Name) bool {
 
 // hide keeps a name back until all others are told.
 func (m *merge) hide(line *part.Name) {
-	m.hidden = append(m.hidden, hidden{part.HiddenName(m.folder, string(line.Name)), line.Disk.Size})
+	m.hidden = append(m.hidden, hidden{part.HiddenName(m.folder, string(line.Name)), line.Disk.Size, 0})
+}
+
+// hideLong does so with a name that is too long. What an index has of it is left out with it.
+func (m *merge) hideLong(line *part.Name) {
+	size := sizeOf(line)
+	for _, out := range line.Out {
+		if out.Bytes > size {
+			size = out.Bytes
+		}
+	}
+	m.hidden = append(m.hidden, hidden{part.HiddenLongName(m.folder, string(line.Name)), size, len(line.Name)})
+}
+
+// line gives what a part has of such a name.
+func (h hidden) line() *part.Name {
+	made := &part.Name{Name: h.name.Bytes()}
+	if h.length > 0 {
+		why := fmt.Sprintf("its name has %d bytes: a part tells at most %d", h.length, part.MostNameBytes)
+		if h.length <= part.MostNameBytes {
+			why = "its name begins with bytes that stand before hashes in a part"
+		}
+		made.Out = []part.LeftOut{{Kind: part.OddName, Why: why, Bytes: h.size}}
+		return made
+	}
+	made.Disk = &part.Node{Size: h.size}
+	made.Out = []part.LeftOut{ignored(made)}
+	return made
 }
 
 // sendHidden puts those that were kept back into the queue, in the order of their hashes. It says whether they are wanted.
 func (m *merge) sendHidden() bool {
 	sort.Slice(m.hidden, func(a, b int) bool { return bytes.Compare(m.hidden[a].name[:], m.hidden[b].name[:]) < 0 })
 	for _, one := range m.hidden {
-		line := &part.Name{Name: one.name.Bytes(), Disk: &part.Node{Size: one.size}}
-		line.Out = append(line.Out, ignored(line))
 		if !m.to.reserve(weightOfName) {
 			return false
 		}
-		m.to.put(&pending{line: line, weight: weightOfName})
+		m.to.put(&pending{line: one.line(), weight: weightOfName})
 	}
 	return true
 }

@@ -190,8 +190,12 @@ func sizeOf(line *part.Name) int64 {
 
 // send puts a name into the queue, and has its file hashed. The file had this stamp when it was found.
 func (m *merge) send(line *part.Name, recorded [][32]byte, stamp string) bool {
-	if isHidden(line) {
+	switch {
+	case isHidden(line):
 		m.hide(line)
+		return true
+	case part.IsLongName(string(line.Name)):
+		m.hideLong(line)
 		return true
 	}
 	node := line.Disk

@@ -26,6 +26,14 @@ func CheckName(name string) error {
 	return nil
 }
 
+// Cut gives a device's name or a folder's label for a part, without what is behind the bytes that a name may have.
+func Cut(text string) string {
+	if len(text) <= MostNameBytes {
+		return text
+	}
+	return strings.ToValidUTF8(text[:MostNameBytes], "") + "…"
+}
+
 // CheckTarget says why the document has no symlink of this target.
 func CheckTarget(target string) error {
 	switch {

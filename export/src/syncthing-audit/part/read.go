@@ -12,6 +12,9 @@ import (
 // mostLineBytes is how long a line of a part may be: a name with the records of fifteen views takes far less.
 const mostLineBytes = 1 << 20
 
+// mostHeadBytes is how long a head may be: it has all folders, with all devices of each.
+const mostHeadBytes = 16 << 20
+
 // Reader reads a part, and refuses what is none.
 type Reader struct {
 	lines *bufio.Reader
@@ -38,7 +41,7 @@ func NewReader(from io.Reader) (*Reader, error) {
 		return nil, noPart(err)
 	}
 	made := &Reader{lines: bufio.NewReaderSize(unzipped, mostLineBytes)}
-	if err := made.read(&made.head); err != nil {
+	if err := made.readHead(); err != nil {
 		if err == io.EOF {
 			err = errors.New("it is empty")
 		}
@@ -76,16 +79,42 @@ func (r *Reader) Next() (Line, error) {
 // read reads a line into a value.
 func (r *Reader) read(into interface{}) error {
 	text, err := r.lines.ReadSlice('\n')
+	if err := whyNoLine(text, err, mostLineBytes); err != nil {
+		return err
+	}
+	r.count++
+	return json.Unmarshal(text, into)
+}
+
+// readHead reads the first line, which may be longer.
+func (r *Reader) readHead() error {
+	text, err := r.lines.ReadSlice('\n')
+	whole := append([]byte(nil), text...)
+	for errors.Is(err, bufio.ErrBufferFull) && len(whole) <= mostHeadBytes {
+		text, err = r.lines.ReadSlice('\n')
+		whole = append(whole, text...)
+	}
+	if len(whole) > mostHeadBytes {
+		err = bufio.ErrBufferFull
+	}
+	if err := whyNoLine(whole, err, mostHeadBytes); err != nil {
+		return err
+	}
+	r.count++
+	return json.Unmarshal(whole, &r.head)
+}
+
+// whyNoLine says why what was read up to an error is no line of at most so many bytes; io.EOF where nothing is left.
+func whyNoLine(text []byte, err error, most int) error {
 	switch {
 	case err == io.EOF && len(text) == 0:
 		return io.EOF
 	case err == io.EOF:
 		return errors.New("its last line isn't whole")
 	case errors.Is(err, bufio.ErrBufferFull):
-		return fmt.Errorf("it has over %d bytes", mostLineBytes)
+		return fmt.Errorf("it has over %d bytes", most)
 	case err != nil:
 		return fmt.Errorf("it can't be read: %w", err)
 	}
-	r.count++
-	return json.Unmarshal(text, into)
+	return nil
 }

@@ -9,8 +9,11 @@ import (
 )
 
 // Path gives the name of a file, relative to its folder, as a word of a command. One that begins with a dash would be an
-// option there.
+// option there. A hash in a name's place is told as one.
 func Path(name string) string {
+	if told := hashed(name); told != "" {
+		return told
+	}
 	if strings.HasPrefix(name, "-") {
 		name = "./" + name
 	}
