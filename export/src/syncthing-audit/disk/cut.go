@@ -52,20 +52,20 @@ func compare(recorded, found [][32]byte) *part.Differ {
 		if made == nil {
 			made = &part.Differ{First: pairAt(recorded, found, place)}
 		}
-		add(made, int64(place))
+		addRange(made, int64(place), int64(place))
 	}
 	return made
 }
 
-// add adds a block to those that differ.
-func add(to *part.Differ, place int64) {
-	to.Count++
-	last := len(to.Ranges) - 1
+// addRange adds blocks, from the first to the last one, to those that differ.
+func addRange(to *part.Differ, first, last int64) {
+	to.Count += last - first + 1
+	end := len(to.Ranges) - 1
 	switch {
-	case last >= 0 && to.Ranges[last][1] == place-1:
-		to.Ranges[last][1] = place
+	case end >= 0 && to.Ranges[end][1] == first-1:
+		to.Ranges[end][1] = last
 	case len(to.Ranges) < part.MostRanges:
-		to.Ranges = append(to.Ranges, [2]int64{place, place})
+		to.Ranges = append(to.Ranges, [2]int64{first, last})
 	}
 }
 

@@ -33,6 +33,7 @@ type File struct {
 	Stamp      string // as it was when it was found
 	Node       *part.Node
 	BlockSizes []int64
+	Longest    int64      // the size of the longest record of the name
 	Recorded   [][32]byte // the own record's block hashes, to be compared with those of the first block size; or none
 	Keep       bool       // the bytes, too
 }
@@ -89,12 +90,12 @@ type Job struct {
 func (p *Pool) Begin(file File) *Job {
 	job := &Job{file: file, hashes: make([][][32]byte, len(file.BlockSizes))}
 	for place, size := range file.BlockSizes {
-		job.hashes[place] = make([][32]byte, part.CountOfBlocks(file.Node.Size, size))
+		job.hashes[place] = make([][32]byte, part.CountOfBlocks(file.Length(), size))
 	}
 	if file.Keep {
 		job.data = make([]byte, file.Node.Size)
 	}
-	for offset := int64(0); offset == 0 || offset < file.Node.Size; offset += pieceBytes {
+	for offset := int64(0); (offset == 0 || offset < file.Length()) && !job.hasFailed(); offset += pieceBytes {
 		offset := offset
 		job.pieces.Add(1)
 		p.tasks <- func() {
@@ -115,12 +116,18 @@ func (j *Job) fail(err error) {
 	}
 }
 
+func (j *Job) hasFailed() bool {
+	j.mutex.Lock()
+	defer j.mutex.Unlock()
+	return j.err != nil
+}
+
 // hash hashes one piece of a file.
 func (p *Pool) hash(job *Job, offset int64) error {
 	if p.skips.Load() {
 		return nil
 	}
-	length := job.file.Node.Size - offset
+	length := job.file.Length() - offset
 	if length > pieceBytes {
 		length = pieceBytes
 	}
@@ -222,6 +229,14 @@ func (j *Job) Wait() ([]part.Content, *part.Differ, []byte, error) {
 	}
 	if j.err != nil {
 		return nil, nil, nil, j.err
+	}
+	if j.file.isCut() {
+		j.file.Node.Unread = j.file.Node.Size - j.file.Length()
+		var differ *part.Differ
+		if j.file.Recorded != nil {
+			differ = j.file.compareBegin(j.hashes[0])
+		}
+		return j.file.cutContents(), differ, nil, nil
 	}
 	contents := make([]part.Content, len(j.hashes))
 	for place, hashes := range j.hashes {

@@ -120,7 +120,7 @@ func TestBytesBehindFourGiga(t *testing.T) {
 	}
 	node := nodeAt(t, path)
 	job := &Job{file: File{Disk: fs.NewFilesystem(fs.FilesystemTypeBasic, filepath.Dir(path)), Name: "file", Stamp: Stamp(path), Node: node,
-		BlockSizes: []int64{pieceBytes}}, hashes: [][][32]byte{make([][32]byte, part.CountOfBlocks(node.Size, pieceBytes))}}
+		BlockSizes: []int64{pieceBytes}, Longest: node.Size}, hashes: [][][32]byte{make([][32]byte, part.CountOfBlocks(node.Size, pieceBytes))}}
 	pool := NewPool(1)
 	defer pool.Close()
 	if err := pool.hash(job, last); err != nil {

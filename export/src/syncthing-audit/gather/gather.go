@@ -93,7 +93,7 @@ func (d *Device) names(folder Folder, about *part.Folder, end *part.End, sink pa
 		line := next.finish()
 		end.Names++
 		if line.Disk != nil && line.Disk.Contents != nil && line.Disk.Lost == "" {
-			end.Bytes += line.Disk.Size
+			end.Bytes += line.Disk.Size - line.Disk.Unread
 		}
 		if err := sink(part.Line{Name: line}); err != nil {
 			return err

@@ -207,10 +207,10 @@ func (m *merge) send(line *part.Name, recorded [][32]byte, stamp string) bool {
 	file := disk.File{}
 	if isHashed {
 		file = disk.File{Disk: m.walker.Disk, Name: string(line.Name), Stamp: stamp, Node: node, BlockSizes: blockSizes(line),
-			Recorded: recorded, Keep: m.device.Bytes}
+			Longest: longest(line), Recorded: recorded, Keep: m.device.Bytes}
 		one.weight += len(recorded)
 		for _, size := range file.BlockSizes {
-			one.weight += int(part.CountOfBlocks(node.Size, size))
+			one.weight += int(part.CountOfBlocks(file.Length(), size))
 		}
 		if file.Keep {
 			one.weight += int(node.Size / 32)
@@ -224,6 +224,21 @@ func (m *merge) send(line *part.Name, recorded [][32]byte, stamp string) bool {
 	}
 	m.to.put(one)
 	return true
+}
+
+// longest gives the size of the longest record of a name; 0 where none has a size.
+func longest(line *part.Name) int64 {
+	most := int64(0)
+	take := func(one *part.Record) {
+		if one != nil && one.Content != nil && one.Content.Size > most {
+			most = one.Content.Size
+		}
+	}
+	take(line.Own)
+	for _, seen := range line.Views {
+		take(seen.Record)
+	}
+	return most
 }
 
 // blockSizes gives in which ways a file on the disk is cut. The first one is that of the own record or, without a record,

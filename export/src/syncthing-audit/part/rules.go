@@ -238,7 +238,7 @@ func checkNode(one *Node, isOut, hasBytes bool) error {
 	switch {
 	case !IsType(one.Type):
 		return fmt.Errorf("its type is %d", one.Type)
-	case one.ModifiedNs < 0 || one.ModifiedNs > 999999999 || one.Size < 0:
+	case one.ModifiedNs < 0 || one.ModifiedNs > 999999999 || one.Size < 0 || one.Unread < 0 || one.Unread > one.Size:
 		return errors.New("its time or size is none")
 	case one.Type == symlink && !isOut && limits.CheckTarget(one.Target) != nil:
 		return limits.CheckTarget(one.Target)

@@ -201,8 +201,9 @@ type Node struct {
 	Target      string    `json:"target,omitempty"`
 	Permissions uint32    `json:"permissions"`
 	Differ      *Differ   `json:"differ,omitempty"`
-	Lost        string    `json:"lost,omitempty"`  // why the disk fails to give the file's bytes; its contents are those of no file then
-	Stamp       string    `json:"stamp,omitempty"` // of a look: another one for each file and directory, and for each write to a file
+	Lost        string    `json:"lost,omitempty"`   // why the disk fails to give the file's bytes; its contents are those of no file then
+	Unread      int64     `json:"unread,omitempty"` // bytes at a file's end that weren't hashed: its contents are those of no other file then
+	Stamp       string    `json:"stamp,omitempty"`  // of a look: another one for each file and directory, and for each write to a file
 
 	Data []byte `json:"-"` // in memory alone, for documents with bytes
 }

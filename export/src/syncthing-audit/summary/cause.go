@@ -77,6 +77,7 @@ type State struct {
 	Size     int64      `json:"size"`
 	Modified *time.Time `json:"modified,omitempty"` // nothing for a record of a symlink, in which Syncthing stores no time
 	Target   string     `json:"target,omitempty"`
+	Unread   int64      `json:"unread,omitempty"` // of Found: bytes at the end that weren't hashed
 }
 
 // Blocks are those of a file that differ from what is recorded, counted from 0.
@@ -120,7 +121,7 @@ func found(one *part.Node) *State {
 	if one == nil {
 		return nil
 	}
-	return &State{Type: typeOf(one.Type), Size: one.Size, Modified: timeOf(one.ModifiedS, one.ModifiedNs), Target: one.Target}
+	return &State{Type: typeOf(one.Type), Size: one.Size, Modified: timeOf(one.ModifiedS, one.ModifiedNs), Target: one.Target, Unread: one.Unread}
 }
 
 func timeOf(seconds int64, nanoseconds int) *time.Time {

@@ -179,6 +179,10 @@ var wordsOf = map[Cause]string{
 // fault prints what is wrong on a device, and since when.
 func (p *printer) fault(one *Fault) {
 	p.line("  %s: %s%s", p.named.of(one.Device), p.wordsOf(one), p.since(one))
+	if one.Found != nil && one.Found.Unread > 0 {
+		p.line("    its last %s weren't read: it is that much longer than any record, so it isn't what is recorded, and which devices have the same "+
+			"bytes isn't known", size(one.Found.Unread))
+	}
 	if one.Blocks == nil || one.Blocks.Of < 1 {
 		return
 	}

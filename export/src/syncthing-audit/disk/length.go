@@ -1,0 +1,41 @@
+package disk
+
+import (
+	"crypto/sha256"
+
+	"syncthing-audit/part"
+)
+
+// MostBeyond is how much longer than the longest record of it a file may be and be hashed to its end. Its size decides already that it isn't what
+// any record says. Its other bytes only tell which devices have the same ones, and a sparse file may have any number of them.
+const MostBeyond = 4 << 30
+
+// Length gives how many bytes of a file are hashed: all, or as many as the longest record has, up to the end of a piece.
+func (f *File) Length() int64 {
+	if f.Node.Size-f.Longest <= MostBeyond {
+		return f.Node.Size
+	}
+	return (f.Longest/pieceBytes + 1) * pieceBytes
+}
+
+// isCut says whether a file isn't hashed to its end.
+func (f *File) isCut() bool { return f.Length() < f.Node.Size }
+
+// cutContents gives contents that no other file has, for one that isn't hashed to its end: nobody knows which files have its bytes.
+func (f *File) cutContents() []part.Content {
+	made := []part.Content{}
+	for _, size := range f.BlockSizes {
+		made = append(made, part.Content{Size: f.Node.Size, BlockSize: size, Hash: sha256.Sum256([]byte("not read to its end\x00" + f.Stamp + "\x00" + f.path()))})
+	}
+	return made
+}
+
+// compareBegin compares the begin of a file that isn't hashed to its end: all blocks behind that differ, since the record has none there.
+func (f *File) compareBegin(found [][32]byte) *part.Differ {
+	made := compare(f.Recorded, found)
+	if made == nil {
+		made = &part.Differ{First: pairAt(f.Recorded, found, len(found))}
+	}
+	addRange(made, int64(len(found)), part.CountOfBlocks(f.Node.Size, f.BlockSizes[0])-1)
+	return made
+}
