@@ -10,7 +10,7 @@ import (
 // addLoose adds a name that keeps its folder from being firm, if nothing else is wrong with its records. syncaudit says
 // whether the folder is settled and firm. Which names keep it from that, and how many they are, is found here.
 func (n *names) addLoose(row *join.Row) {
-	winner := winnerOf(row)
+	winner := row.Winner(join.OfAll)
 	if winner == nil || !areAlike(row, winner) {
 		return
 	}
@@ -65,42 +65,4 @@ func isAlike(one, other *part.Record) bool {
 
 func isSame(one, other [][2]uint64) bool {
 	return part.IsAtMost(one, other) && part.IsAtMost(other, one)
-}
-
-// winnerOf gives the own record that wins a name, by the rules of docs/reasons.md; nothing where there is none.
-func winnerOf(row *join.Row) *part.Record {
-	var winner *part.Record
-	for _, one := range row.At {
-		if one == nil || one.Own == nil || one.Own.Invalid || isDominated(one.Own, row) {
-			continue
-		}
-		if winner == nil || wins(one.Own, winner) {
-			winner = one.Own
-		}
-	}
-	return winner
-}
-
-// isDominated says whether another one's version is above the record's.
-func isDominated(record *part.Record, row *join.Row) bool {
-	for _, one := range row.At {
-		if one != nil && one.Own != nil && !one.Own.Invalid && part.IsAtMost(record.Version, one.Own.Version) &&
-			!part.IsAtMost(one.Own.Version, record.Version) {
-			return true
-		}
-	}
-	return false
-}
-
-// wins says whether a record wins against the one of a device with a smaller number, neither version being above the other.
-func wins(one, other *part.Record) bool {
-	switch {
-	case one.Deleted != other.Deleted:
-		return other.Deleted
-	case one.ModifiedS != other.ModifiedS:
-		return one.ModifiedS > other.ModifiedS
-	case one.ModifiedNs != other.ModifiedNs:
-		return one.ModifiedNs > other.ModifiedNs
-	}
-	return one.ModifiedBy < other.ModifiedBy
 }

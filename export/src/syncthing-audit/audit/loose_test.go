@@ -18,34 +18,6 @@ func own(change func(*part.Record), version ...[2]uint64) *part.Name {
 
 func same(*part.Record) {}
 
-// The rules of docs/reasons.md, each deciding where those before it don't: the expected place follows from them.
-func TestWhoWins(t *testing.T) {
-	for _, one := range []struct {
-		why   string
-		at    []*part.Name
-		place int // -1 for none
-	}{
-		{"nobody has it", []*part.Name{nil, {}}, -1},
-		{"an invalid record doesn't count", []*part.Name{own(func(one *part.Record) { one.Invalid = true }, [2]uint64{1, 9}), own(same, [2]uint64{1, 1})}, 1},
-		{"the version above, though its time is earlier", []*part.Name{own(same, [2]uint64{1, 1}),
-			own(func(one *part.Record) { one.ModifiedS = 1 }, [2]uint64{1, 1}, [2]uint64{2, 1})}, 1},
-		{"what isn't deleted", []*part.Name{own(func(one *part.Record) { one.Deleted, one.ModifiedS = true, 99 }, [2]uint64{1, 1}),
-			own(same, [2]uint64{2, 1})}, 1},
-		{"the later second", []*part.Name{own(same, [2]uint64{1, 1}), own(func(one *part.Record) { one.ModifiedS, one.ModifiedNs = 11, 0 }, [2]uint64{2, 1})}, 1},
-		{"the later nanosecond", []*part.Name{own(same, [2]uint64{1, 1}), own(func(one *part.Record) { one.ModifiedNs, one.ModifiedBy = 6, 9 }, [2]uint64{2, 1})}, 1},
-		{"by whom it was modified", []*part.Name{own(same, [2]uint64{1, 1}), own(func(one *part.Record) { one.ModifiedBy = 1 }, [2]uint64{2, 1})}, 1},
-		{"the smaller device", []*part.Name{own(same, [2]uint64{1, 1}), own(same, [2]uint64{2, 1})}, 0},
-	} {
-		var expected *part.Record
-		if one.place >= 0 {
-			expected = one.at[one.place].Own
-		}
-		if winner := winnerOf(&join.Row{Name: "a", At: one.at}); winner != expected {
-			t.Errorf("%s: %+v", one.why, winner)
-		}
-	}
-}
-
 // folderOfTwo gives a folder that two devices share.
 func folderOfTwo() *join.Folder {
 	heads := []*part.Head{{Device: "one"}, {Device: "two"}}

@@ -25,7 +25,7 @@ func isDeleting(row *join.Row) bool {
 			isGone, stands = isGone || one.Own.Deleted, stands || !one.Own.Deleted
 		}
 	}
-	return isGone && stands && winnerOf(row).Deleted
+	return isGone && stands && row.Winner(join.OfAll).Deleted
 }
 
 // isKnown says whether anything holds a name: an own record, a node, or a record that others may take in a view.

@@ -2,7 +2,6 @@ package summary
 
 import (
 	"math"
-	"time"
 
 	"golang.org/x/exp/slices"
 	"syncthing-audit/finding"
@@ -84,30 +83,30 @@ func afterScan(own *part.Record, number uint64) [][2]uint64 {
 	return made
 }
 
-// isOlder says whether a change is below another one: then the two aren't in conflict.
-func (c *contender) isOlder(other *contender) bool {
-	return part.IsAtMost(c.version, other.version) && !part.IsAtMost(other.version, c.version)
+// claim gives what decides which change Syncthing keeps: a symlink counts as of 1970.
+func (c *contender) claim() join.Claim {
+	made := join.Claim{Version: c.version}
+	if c.is.Modified != nil {
+		made.Seconds, made.Nanoseconds = c.is.Modified.Unix(), c.is.Modified.Nanosecond()
+	}
+	return made
 }
+
+// isOlder says whether a change is below another one: then the two aren't in conflict.
+func (c *contender) isOlder(other *contender) bool { return c.claim().IsBelow(other.claim()) }
 
 // isOfOneVersion says whether two changes are of the same version.
 func (c *contender) isOfOneVersion(other contender) bool {
-	return part.IsAtMost(c.version, other.version) && part.IsAtMost(other.version, c.version)
+	return c.claim().IsOfOneVersion(other.claim())
 }
 
-// modified gives when it was modified, as Syncthing compares that: a symlink counts as of 1970.
-func (c *contender) modified() time.Time {
-	if c.is.Modified == nil {
-		return time.Unix(0, 0)
-	}
-	return *c.is.Modified
-}
+// isLater says whether Syncthing keeps this one of two changes in conflict.
+func (c *contender) isLater(other *contender) bool { return c.claim().Wins(other.claim()) }
 
-// isLater says whether Syncthing keeps this one of two changes in conflict: the later one, and at equal times the one whose version goes first.
-func (c *contender) isLater(other *contender) bool {
-	if c.modified().Equal(other.modified()) {
-		return part.GoesFirst(c.version, other.version)
-	}
-	return c.modified().After(other.modified())
+// isOfOneTime says whether two changes were modified at the same time, as Syncthing compares that.
+func (c *contender) isOfOneTime(other *contender) bool {
+	one, two := c.claim(), other.claim()
+	return one.Seconds == two.Seconds && one.Nanoseconds == two.Nanoseconds
 }
 
 // isSame says whether two changes have the same contents.
@@ -131,13 +130,14 @@ func newestOf(all []contender) []contender {
 
 // firstOf gives the change that Syncthing keeps of those in conflict; nothing where there is none.
 func firstOf(newest []contender) *contender {
-	var first *contender
+	claims := []join.Claim{}
 	for place := range newest {
-		if first == nil || newest[place].isLater(first) {
-			first = &newest[place]
-		}
+		claims = append(claims, newest[place].claim())
 	}
-	return first
+	if place := join.Winner(claims); place >= 0 {
+		return &newest[place]
+	}
+	return nil
 }
 
 // goesBefore says whether Syncthing takes this change before all others, as long as no deletion is on top of it.

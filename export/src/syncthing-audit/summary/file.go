@@ -267,9 +267,6 @@ func (r *reader) findWinner() {
 		if r.has(member, "RecordMissing", "RecordDiffers", "LocalOnly") {
 			continue
 		}
-		if at := r.at(member); at != nil && at.Own != nil && r.winner == nil {
-			r.winner = at.Own
-		}
 		switch {
 		case r.has(member, "StoreDiffers"):
 		case r.has(member, "StoreUnclean"):
@@ -277,6 +274,9 @@ func (r *reader) findWinner() {
 		default:
 			r.file.Have = append(r.file.Have, one.Head.Device)
 		}
+	}
+	if r.row != nil {
+		r.winner = r.row.Winner(func(member int) bool { return !r.has(member, "RecordMissing", "RecordDiffers", "LocalOnly") })
 	}
 	if len(r.file.Have) == 0 {
 		r.file.Have, r.file.isOfAnotherTime = unclean, len(unclean) > 0

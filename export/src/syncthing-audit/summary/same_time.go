@@ -60,7 +60,7 @@ func firstsOf(all []contender) []string {
 		switch {
 		case one.isSame(first):
 			made = append(made, one.device)
-		case one.modified().Equal(first.modified()) && !part.IsAtMost(one.version, first.version):
+		case one.isOfOneTime(first) && !part.IsAtMost(one.version, first.version):
 			isDecided = false
 		}
 	}
