@@ -28,6 +28,15 @@ STATUS_OF_USAGE = 3
 STATUSES = {"settled": 0, "settled as far as audited": 6}
 
 
+def make_endless(directory):
+    """Makes a directory with more bytes than any machine hashes while a test waits; it takes no room. Of a file that is much longer than each
+    record of it not all bytes are hashed, so there are many files."""
+    directory.mkdir()
+    for number in range(512):
+        with (directory / f"{number:03}").open("wb") as file:
+            file.truncate(1 << 32)
+
+
 def missing_packages():
     """The Debian packages that are missing."""
     return [package for package, is_there in NEEDED.items() if not is_there()]

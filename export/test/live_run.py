@@ -8,13 +8,14 @@ import json
 import os
 import pty
 import re
+import shutil
 import signal
 import subprocess
 import sys
 from pathlib import Path
 
 from answers import SCHEMA, STATUS_MISSING
-from exporting import in_step, main, run
+from exporting import in_step, main, make_endless, run
 from live_looks import Live, rot
 from syncthing import FOLDER, SECONDS_TO_WAIT, wait_until, wait_until_in_step
 
@@ -231,27 +232,26 @@ cd "{room}/$machine/user" && HOME=$PWD PATH={programs}:$PATH exec sh -c "$*"
         room = self.room / "far"
         room.mkdir()
         endless = self.one.files / "endless"
-        with endless.open("wb") as file:
-            file.truncate(1 << 40)
+        make_endless(endless)
         try:
             # Where the tests run in the background, their shell may have them ignore SIGINT.
             process = subprocess.Popen([self.program, "run", "far:", self.two.home, self.three.home, "--syncaudit", self.auditor],
                                        env={**os.environ, "PATH": self.path_with_ssh}, stdout=subprocess.DEVNULL, stderr=subprocess.DEVNULL,
                                        preexec_fn=lambda: signal.signal(signal.SIGINT, signal.SIG_DFL))
-            wait_until("the other machine hashes", lambda: len(list(room.iterdir())) > 1)
+            wait_until("the other machine hashes", lambda: list(room.iterdir()) and self.reads(endless))
             process.send_signal(signal.SIGINT)
             self.assertEqual(process.wait(SECONDS_TO_WAIT), 128 + signal.SIGINT)
             wait_until("nothing is there", lambda: not list(room.iterdir()))
             wait_until("nothing hashes", lambda: not self.reads(endless))
         finally:
-            endless.unlink()
+            shutil.rmtree(endless)
 
     @staticmethod
     def reads(path):
-        """Whether a process has a file open."""
+        """Whether a process has a file of a directory open."""
         for link in Path("/proc").glob("[0-9]*/fd/*"):
             try:
-                if os.readlink(link) == str(path):
+                if os.readlink(link).startswith(f"{path}/"):
                     return True
             except OSError:
                 pass

@@ -14,13 +14,11 @@ import tempfile
 import unittest
 from pathlib import Path
 
-from exporting import PROGRAM, auditor, built, in_step, is_over, main, run
+from exporting import PROGRAM, auditor, built, in_step, is_over, main, make_endless, run
 from syncthing import SECONDS_TO_WAIT, wait_until
 
 FILES = 2000
 SIGNALS = (signal.SIGINT, signal.SIGTERM, signal.SIGHUP)
-# Larger than what any machine hashes while a test waits; it takes no room.
-ENDLESS_BYTES = 1 << 42
 SETTLED = f"docs: {in_step()}; {FILES + FILES // 100:,} names (0 deleted), "
 
 
@@ -96,9 +94,8 @@ class Manners(unittest.TestCase):
     def test_a_signal_while_a_part_is_made_leaves_nothing(self):
         """The index is copied and the part begun; then nothing of both is left, and the status is the signal's."""
         endless = self.room / "device1" / "files" / "endless"
-        with endless.open("wb") as file:
-            file.truncate(ENDLESS_BYTES)
-        self.addCleanup(endless.unlink)
+        make_endless(endless)
+        self.addCleanup(shutil.rmtree, endless)
         into = self.temporary / "into"
         for number in SIGNALS:
             into.mkdir()
@@ -113,9 +110,8 @@ class Manners(unittest.TestCase):
     def test_a_signal_while_documents_are_exported_leaves_none(self):
         """Nor does it leave the directories that were made for them."""
         endless, into = self.room / "device1" / "files" / "zz endless", self.temporary / "above" / "into"
-        with endless.open("wb") as file:
-            file.truncate(ENDLESS_BYTES)
-        self.addCleanup(endless.unlink)
+        make_endless(endless)
+        self.addCleanup(shutil.rmtree, endless)
         process = self.start("export", *(word for home in self.homes for word in ("--home", home)), "--into", into, stderr=subprocess.DEVNULL)
         wait_until("a document is written", (into / "cut-0001.json").exists)
         process.send_signal(signal.SIGINT)

@@ -12,8 +12,8 @@ from pathlib import Path
 from exporting import Exporting, main
 from syncthing import SECONDS_TO_WAIT, wait_until
 
-# Larger than what any machine hashes while a test waits; it takes no room.
-ENDLESS_BYTES = 1 << 42
+# As long as a file without a record may be and be hashed to its end, which takes seconds; it takes no room.
+BYTES_OF_SECONDS = 1 << 32
 
 
 def has_open(process, path):
@@ -30,7 +30,7 @@ class StartedMeanwhile(Exporting):
     def test_syncthing_starts_and_the_part_is_refused(self):
         large, path = self.one.files / "large and new", self.room / "meanwhile.part"
         with large.open("wb") as made:
-            made.truncate(ENDLESS_BYTES)
+            made.truncate(BYTES_OF_SECONDS)
         process = subprocess.Popen([self.program, "part", "--home", self.one.home, "-o", path], stderr=subprocess.PIPE, text=True)
         try:
             wait_until("it hashes the file", lambda: has_open(process, large.resolve()))
