@@ -22,6 +22,14 @@ SIGNALS = (signal.SIGINT, signal.SIGTERM, signal.SIGHUP)
 SETTLED = f"docs: {in_step()}; {FILES + FILES // 100:,} names (0 deleted), "
 
 
+def has_open_below(process, directory):
+    """Whether a process has a file below a directory open."""
+    try:
+        return any(os.path.realpath(one).startswith(f"{directory.resolve()}/") for one in Path(f"/proc/{process.pid}/fd").iterdir())
+    except FileNotFoundError:
+        return False
+
+
 class Manners(unittest.TestCase):
     """Two homes of devices in step."""
 
@@ -100,12 +108,34 @@ class Manners(unittest.TestCase):
         for number in SIGNALS:
             into.mkdir()
             process = self.start("part", "--home", self.homes[0], "-o", into / "one.part")
-            wait_until("the part is begun", lambda: list(into.glob(".syncthing-audit-*")))
+            wait_until("a file is hashed", lambda process=process: has_open_below(process, endless))
             self.assertTrue(list(self.temporary.glob("syncthing-audit-*")), "the index isn't copied")
             process.send_signal(number)
             self.assertEqual(process.wait(SECONDS_TO_WAIT), 128 + number)
             self.assertEqual((list(into.iterdir()), list(self.temporary.glob("syncthing-audit-*"))), ([], []))
             into.rmdir()
+
+    def test_what_a_killed_run_leaves_the_next_one_takes_away(self):
+        """No part is there, and the copy of the index goes once another part is made. One that another run reads stays."""
+        endless, into = self.room / "device1" / "files" / "endless", self.temporary / "into"
+        make_endless(endless)
+        self.addCleanup(shutil.rmtree, endless)
+        into.mkdir()
+        words = ("part", "--home", self.homes[0], "-o", into / "one.part")
+        other = self.start("part", "--home", self.homes[0], "-o", into / "other.part")
+        wait_until("another run hashes", lambda: has_open_below(other, endless))
+        copies = lambda: set(self.temporary.glob("syncthing-audit-*"))
+        of_other = copies()
+        process = self.start(*words)
+        wait_until("a file is hashed", lambda: has_open_below(process, endless))
+        process.kill()
+        process.wait(SECONDS_TO_WAIT)
+        self.assertEqual((list(into.iterdir()), len(copies())), ([], 2))
+        ran = run([self.program, "part", "--home", self.homes[1], "-o", into / "two.part"], env={**os.environ, "TMPDIR": str(self.temporary)})
+        self.assertEqual((ran.returncode, [path.name for path in into.iterdir()], copies()), (0, ["two.part"], of_other), ran.stderr)
+        other.terminate()
+        other.wait(SECONDS_TO_WAIT)
+        self.assertEqual(copies(), set())
 
     def test_a_signal_while_documents_are_exported_leaves_none(self):
         """Nor does it leave the directories that were made for them."""

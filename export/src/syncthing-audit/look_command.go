@@ -242,11 +242,10 @@ func lookOf(home *device.Home) (*part.Look, error) {
 
 // writeWhole writes into a file of its own first, so that nobody reads the beginning of what isn't at its end.
 func writeWhole(write writing, fill func(io.Writer) error) error {
-	file, err := leftover.File(leftover.Place(), "syncthing-audit-")
+	file, err := leftover.Unnamed()
 	if err != nil {
 		return err
 	}
-	defer leftover.Remove(file.Name())
 	defer file.Close()
 	if err := fill(faulty{temporary{file}}); err != nil {
 		return err

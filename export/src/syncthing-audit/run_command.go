@@ -56,7 +56,7 @@ func runRun(words []string, output, log io.Writer) (int, error) {
 	if err := program.Find(); err != nil {
 		return 0, err
 	}
-	room, err := leftover.Directory("syncthing-audit-")
+	room, err := leftover.Directory()
 	if err != nil {
 		return 0, err
 	}

@@ -64,32 +64,33 @@ func (t *target) write(write func(io.Writer) error) error {
 		if err != nil {
 			return faultOf(err)
 		}
-		return fill(file, t.path, write)
+		err = fill(file, t.path, write)
+		if closed := file.Close(); err == nil {
+			err = faultOf(namedAs(t.path, closed))
+		}
+		return err
 	}
-	file, err := leftover.File(filepath.Dir(t.path), ".syncthing-audit-")
+	file, err := leftover.NewWhole(filepath.Dir(t.path))
 	if err != nil {
 		return faultOf(namedAs(t.path, err))
 	}
-	defer leftover.Remove(file.Name())
-	if err := fill(file, t.path, write); err != nil {
+	defer file.Drop()
+	if err := fill(file.File, t.path, write); err != nil {
 		return err
 	}
 	// Something else may stand there by now, and to rename the file would replace it.
 	if about, err := os.Lstat(t.path); err == nil && !about.Mode().IsRegular() {
 		return refusedTarget(t.path, "is no file any more")
 	}
-	return faultOf(os.Rename(file.Name(), t.path))
+	return faultOf(namedAs(t.path, file.Put(t.path)))
 }
 
-// fill writes into a file and closes it. Errors name it as this path.
+// fill writes into a file. Errors name it as this path.
 func fill(file *os.File, path string, write func(io.Writer) error) error {
 	buffered := bufio.NewWriter(faulty{inPlaceOf{path, file}})
 	err := write(buffered)
 	if err == nil {
 		err = buffered.Flush()
-	}
-	if closed := file.Close(); err == nil {
-		err = faultOf(namedAs(path, closed))
 	}
 	return err
 }

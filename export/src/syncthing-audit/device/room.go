@@ -23,7 +23,7 @@ func roomFor(database string) (string, error) {
 	if err != nil {
 		return "", notCopied(err)
 	}
-	made, err := leftover.Directory("syncthing-audit-")
+	made, err := leftover.Directory()
 	if err != nil {
 		return "", notCopied(err)
 	}

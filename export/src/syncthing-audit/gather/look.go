@@ -39,7 +39,7 @@ const beforeIgnored = "ignored "
 func (d *Device) Glance() (*Glance, error) {
 	made := &Glance{}
 	for _, one := range d.Folders {
-		file, err := leftover.File(leftover.Place(), "syncthing-audit-")
+		file, err := leftover.Unnamed()
 		if err != nil {
 			made.Close()
 			return nil, err
@@ -89,7 +89,6 @@ func (d *Device) walkInto(file *os.File, folder Folder) error {
 func (g *Glance) Close() {
 	for _, one := range g.folders {
 		one.Close()
-		leftover.Remove(one.Name())
 	}
 }
 

@@ -1,5 +1,5 @@
 // Package leftover makes files and directories that a run needs for itself alone, and runs programs for it. It takes them
-// away, also where a signal ends the run.
+// away, also where a signal ends the run. What a run that was killed left, the next one takes away.
 package leftover
 
 import (
@@ -32,28 +32,6 @@ func Place() string {
 		return onDisk
 	}
 	return os.TempDir()
-}
-
-// Directory makes a directory in that place, to be gone in the end.
-func Directory(pattern string) (string, error) {
-	mutex.Lock()
-	defer mutex.Unlock()
-	path, err := os.MkdirTemp(Place(), pattern)
-	if err == nil {
-		paths[path] = true
-	}
-	return path, err
-}
-
-// File makes a file in a directory, to be gone in the end.
-func File(directory, pattern string) (*os.File, error) {
-	mutex.Lock()
-	defer mutex.Unlock()
-	file, err := os.CreateTemp(directory, pattern)
-	if err == nil {
-		paths[file.Name()] = true
-	}
-	return file, err
 }
 
 // New makes a file at a path where nothing is yet, to be gone in the end unless it is kept.
@@ -141,6 +119,7 @@ func Remove(path string) {
 	mutex.Lock()
 	defer mutex.Unlock()
 	os.RemoveAll(path)
+	unlock(path)
 	delete(paths, path)
 }
 

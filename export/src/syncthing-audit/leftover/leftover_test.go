@@ -24,12 +24,16 @@ func TestMain(tests *testing.M) {
 		os.Exit(tests.Run())
 	}
 	WatchSignals()
-	directory, _ := Directory("made-")
+	if os.Getenv(makingOfChild) != "" {
+		makeForever(room)
+	}
+	directory, _ := Directory()
 	os.WriteFile(filepath.Join(directory, "inside"), nil, 0o600)
 	if os.Getenv(pipesOfChild) != "" {
 		writeIntoPipes()
 	}
-	File(room, ".made-")
+	Unnamed()
+	NewWhole(room)
 	At(filepath.Join(room, "above", "asked"))
 	New(filepath.Join(room, "above", "asked", "file"))
 	program := exec.Command("sh", "-c", "echo "+directory+"; exec sleep 60")
@@ -119,7 +123,7 @@ func TestSignals(t *testing.T) {
 
 func TestRemove(t *testing.T) {
 	t.Setenv("TMPDIR", t.TempDir())
-	path, err := Directory("made-")
+	path, err := Directory()
 	if err != nil {
 		t.Fatal(err)
 	}

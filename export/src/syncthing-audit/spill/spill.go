@@ -47,12 +47,11 @@ func (l *List[T]) Add(one T) {
 
 // begin makes the file.
 func (l *List[T]) begin() {
-	file, err := leftover.File(leftover.Place(), "syncthing-audit-")
+	file, err := leftover.Unnamed()
 	if err != nil {
 		l.fail(err)
 		return
 	}
-	leftover.Remove(file.Name())
 	l.file, l.written = file, bufio.NewWriter(file)
 	l.encoder = json.NewEncoder(l.written)
 	l.encoder.SetEscapeHTML(false)
