@@ -4,6 +4,8 @@
     export/test/safe_steps.py
 """
 
+import os
+
 from exporting import main
 from late_rot import LateRot
 from rot import text_of
@@ -59,6 +61,74 @@ class FromWhomIsTaken(Followed):
         self.stop()
         for device in self.devices:
             self.assertEqual([text_of(device.files / name) for name in self.files], ["binary alpha", "binary zeta"])
+        self.assertEqual(self.verdict(), "settled")
+
+
+class Emptied(LateRot):
+    """Files that were emptied, cut short or filled with zeros on the second device, as after a crash. All of them but one are mended as a person is told."""
+
+    emptied = [f"emptied{place}" for place in range(6)]
+    names_of_files = [*emptied, "cut", "zeroed", "lost"]
+
+    @classmethod
+    def synchronise(cls):
+        for name in cls.names_of_files:
+            (cls.one.files / name).write_text("binary " + name)
+        cls.scan_and_wait()
+
+    def harm(self, name, text, seconds=0):
+        """This text stands in a file, whose time is as much later."""
+        path = self.two.files / name
+        times = path.stat()
+        path.write_text(text)
+        os.utime(path, ns=(times.st_atime_ns, times.st_mtime_ns + seconds * 10**9))
+
+    def test_what_is_copied_back_stays(self):
+        for name in self.emptied:
+            self.harm(name, "")
+        self.harm("cut", "bin")
+        self.harm("zeroed", "\0" * len("binary zeroed"), 100)
+        one, two = self.label(self.one), self.label(self.two)
+        text = " ".join(self.answer()[1].split())
+        self.assertIn(f"first, on {two}: 8 files look damaged, not edited. Copy back what is to stay, as said below, before Syncthing starts or scans there", text)
+        self.assertIn(f"6 names in docs: 90 bytes {two}: looks damaged: 90 bytes recorded, 0 bytes on the disk: EMPTY the first: emptied0", text)
+        self.assertIn(f"{two}: looks damaged: 10 bytes recorded, 3 bytes on the disk: another size under the recorded time (modified", text)
+        self.assertIn(f"{two}: looks damaged: a block of it is all zeros now (modified", text)
+        self.assertEqual(text.count("this looks like damage, not like an edit. Before Syncthing scans there (the scan takes "), 3)
+        self.assertEqual(text.count(f"from {one} to {two} with its time alone (cp --preserve=timestamps,"), 2)
+        for name in (*self.emptied, "cut", "zeroed"):
+            self.mend(name, "--preserve=timestamps")
+        self.assertEqual(self.verdict(), "settled")
+        self.harm("lost", "")
+        self.start()
+        self.two.scan()
+        wait_until("the first device has lost what wasn't mended", lambda: text_of(self.one.files / "lost") == "")
+        self.stop()
+        for device in self.devices:
+            self.assertEqual([text_of(device.files / name) for name in self.names_of_files], [*("binary " + name for name in self.names_of_files[:-1]), ""])
+
+
+class MissingAndDeleted(LateRot):
+    """The first device deleted files. On the second one, which was off, they are missing."""
+
+    def test_there_is_nothing_to_copy(self):
+        (self.one.files / "text").unlink()
+        (self.one.files / "folder" / "large").unlink()
+        (self.one.files / "folder").rmdir()
+        self.one.start()
+        self.one.scan()
+        self.one.stop()
+        (self.two.files / "text").unlink()
+        (self.two.files / "folder" / "large").unlink()
+        (self.two.files / "folder").rmdir()
+        text = " ".join(self.answer()[1].split())
+        self.assertEqual(text.count(f"to do: start Syncthing on {self.label(self.two)} and 'Rescan': the other devices have deleted it, too."), 3)
+        for word in ("mounted", "cp -a", "first, on", "before Syncthing"):
+            self.assertNotIn(word, text)
+        self.start()
+        self.two.scan()
+        wait_until("both devices are in step", lambda: self.one.is_in_step_with(self.two) and self.two.is_in_step_with(self.one))
+        self.stop()
         self.assertEqual(self.verdict(), "settled")
 
 

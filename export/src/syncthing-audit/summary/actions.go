@@ -7,6 +7,7 @@ import "golang.org/x/exp/slices"
 type actions struct {
 	entries int              // so far
 	safe    map[string][]int // the entries that tell to make something on a device safe before Syncthing starts or scans there
+	damaged map[string]int64 // how many files look damaged there, and a scan sends that
 	started map[string][]int // those that tell to start Syncthing, to scan or to touch there, or for which others fetch from there
 }
 
@@ -15,6 +16,11 @@ func (a *actions) note(file *File) {
 	a.entries++
 	for _, one := range file.toMakeSafe() {
 		a.safe[one] = append(a.safe[one], a.entries)
+	}
+	for place := range file.Faults {
+		if one := &file.Faults[place]; one.isDamagedChange() {
+			a.damaged[one.Device]++
+		}
 	}
 	for _, one := range file.toStart() {
 		a.started[one] = append(a.started[one], a.entries)
@@ -62,12 +68,12 @@ func (f *File) losesAt(one *Fault) bool {
 	case one.Kind == receiveOnly:
 		return false
 	case one.Cause == Missing:
-		return one.late != lateChange || one.isAlone
+		return !one.isGoneElsewhere(f) && (one.late != lateChange || one.isAlone)
 	case one.Cause == OtherBytes:
 		lack := f.lackOn(one.Device)
 		return one.isSeen || one.isFetched || one.mayShow() || lack != nil && lack.Cause == Conflicting
 	}
-	return one.Cause == Back || one.Cause == Damaged
+	return one.Cause == Back || one.Cause == Damaged || one.isDamagedChange()
 }
 
 // toStart gives the devices on which Syncthing is told to run or to scan for this name, and those from which others fetch it.

@@ -39,7 +39,7 @@ func adviceOf(file *File, named labels) []string {
 		for next := range file.Faults {
 			one := &file.Faults[next]
 			if (one.Cause == Behind || one.Cause == Conflicting) == isTaking {
-				made = addOnce(made, adviceOfFault(one, file, named))
+				made = addOnce(made, file.orDamaged(one, adviceOfFault(one, file, named), named))
 			}
 		}
 	}
@@ -184,7 +184,11 @@ func changedAdvice(one *Fault, file *File, at string, named labels) string {
 	}
 	told += file.spread(file.say("the change then goes ", "the changes then go ")+file.toAll(one.Device, named),
 		file.say("the change is then recorded", "the changes are then recorded"))
-	return told + file.orBytes(one, named) + file.say(". If the change isn't wanted", ". If they aren't wanted") + ", first " + copying(one, file, named, how)
+	told += file.orBytes(one, named)
+	if one.isDamagedChange() { // so that is told before
+		return told
+	}
+	return told + file.say(". If the change isn't wanted", ". If they aren't wanted") + ", first " + copying(one, file, named, how)
 }
 
 // isFileForFile says whether a file stands where a file is recorded.

@@ -43,6 +43,7 @@ type Fault struct {
 	Reasons  []string `json:"reasons"`       // in syncaudit's words
 	Why      string   `json:"why,omitempty"` // of Damaged: the system's words
 	contents []part.Content
+	damage   string // why what stands on the disk looks like damage, not like an edit
 	ends     ends
 	late     late // what others have and the device's own version lacks
 	mayStay  bool // whether it may lack nothing, by the version of Syncthing there

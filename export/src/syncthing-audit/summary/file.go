@@ -320,7 +320,7 @@ func (r *reader) add(member int, cause Cause) {
 	if at := r.at(member); at != nil {
 		made.Recorded, made.Found = recorded(at.Own), found(at.Disk)
 		if cause == OtherBytes || cause == Changed {
-			made.Blocks = blocksOf(at)
+			made.Blocks, made.damage = blocksOf(at), looksDamaged(at)
 		}
 		if at.Disk != nil {
 			made.contents = at.Disk.Contents

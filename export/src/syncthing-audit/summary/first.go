@@ -12,9 +12,10 @@ func (p *printer) first(s *Summary) {
 			unseen = append(unseen, one.ID)
 		}
 	}
-	if len(unseen)+len(first) > 0 {
+	if len(unseen)+len(first)+len(s.actions.damaged) > 0 {
 		p.line("")
 	}
+	p.damaged(s)
 	if len(first) > 0 {
 		p.line("first, on %s: do what the entries below say to do before Syncthing starts or scans there. As it starts, it scans all folders", p.named.all(first))
 	}

@@ -10,7 +10,7 @@ func missingAdvice(one *Fault, file *File, at string, named labels) string {
 	if one.late == lateChange {
 		return "see that the folder's disk is mounted on " + at + lateMissing(one, file, at, named)
 	}
-	if one.Kind == receiveOnly && one.late == lateDeletion {
+	if one.isGoneElsewhere(file) {
 		return "start Syncthing on " + at + " and 'Rescan': the other devices " + file.deleteToo(one, it)
 	}
 	if one.Kind == receiveOnly {
@@ -31,6 +31,15 @@ func missingAdvice(one *Fault, file *File, at string, named labels) string {
 		told += one.lostAlone(it, at)
 	}
 	return told
+}
+
+// isGoneElsewhere says whether others delete what is missing on a device, or have deleted it: then nothing is lost by a scan there.
+func (f *Fault) isGoneElsewhere(file *File) bool {
+	if f.Cause != Missing || f.late != lateDeletion {
+		return false
+	}
+	lack := file.lackOn(f.Device)
+	return f.Kind == receiveOnly || lack != nil && lack.Deletion && !file.isNeeded
 }
 
 // lateMissing says what becomes of a name that is missing on a disk, where others have what the device's version lacks.

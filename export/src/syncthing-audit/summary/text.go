@@ -213,6 +213,10 @@ func (p *printer) wordsOf(one *Fault) string {
 		return "changed on this receive-only device, while the others have deleted it"
 	case one.Cause == Changed && one.Recorded != nil && one.Found != nil && one.Recorded.Type != one.Found.Type:
 		return fmt.Sprintf("a %s on the disk, recorded as a %s", one.Found.Type, one.Recorded.Type)
+	case one.Cause == Changed && one.isFileForFile():
+		return wordsOfChanged([]*Fault{one})
+	case one.Cause == OtherBytes && one.damage != "":
+		return wordsOf[OtherBytes] + ": " + one.damage
 	}
 	return wordsOf[one.Cause]
 }

@@ -44,7 +44,7 @@ func (f *File) readKey() string {
 		if !readTogether[one.Cause] || one.isSeen {
 			return ""
 		}
-		key += fmt.Sprint(" ", one.Device, one.Cause, one.Deletion, one.types(), one.Recorded == nil, one.Due != nil && one.Due.Deleted)
+		key += fmt.Sprint(" ", one.Device, one.Cause, one.Deletion, one.types(), one.damage, one.Recorded == nil, one.Due != nil && one.Due.Deleted)
 	}
 	return key
 }
@@ -61,7 +61,11 @@ func (p *printer) together(folder *Folder, all []*File) {
 	p.line("\n%s in %s: %s", counted(int64(len(all)), "name", "names"), folder.ID, size(bytes))
 	for next := range all[0].Faults {
 		one := &all[0].Faults[next]
-		p.line("  %s: %s%s", p.named.of(one.Device), p.wordsOf(one), differingInAll(all, next))
+		words := p.wordsOf(one)
+		if one.Cause == Changed && one.isFileForFile() {
+			words = wordsOfChanged(faultsAt(all, next))
+		}
+		p.line("  %s: %s%s", p.named.of(one.Device), words, differingInAll(all, next))
 	}
 	for _, same := range all[0].Same {
 		p.line("  the same other bytes on: %s", p.named.all(same))
@@ -73,6 +77,15 @@ func (p *printer) together(folder *Folder, all []*File) {
 	told := *all[0]
 	told.isMany = true
 	p.advice(adviceOf(&told, p.named))
+}
+
+// faultsAt gives the faults of all names at this place, as of one device.
+func faultsAt(all []*File, place int) []*Fault {
+	made := []*Fault{}
+	for _, one := range all {
+		made = append(made, &one.Faults[place])
+	}
+	return made
 }
 
 // differingInAll says how many blocks differ in all names, where these have other bytes on a disk.

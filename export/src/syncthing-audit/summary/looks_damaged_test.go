@@ -1,0 +1,109 @@
+package summary
+
+import (
+	"crypto/sha256"
+	"fmt"
+	"strings"
+	"testing"
+
+	"syncthing-audit/finding"
+	"syncthing-audit/part"
+)
+
+// emptied has no bytes on the disk any more.
+func emptied(one *part.Name) {
+	rotten(one)
+	one.Disk.Size = 0
+	one.Disk.Differ.First.Found = nil
+}
+
+// resized has bytes of another size on the disk.
+func resized(one *part.Name) {
+	rotten(one)
+	one.Disk.Size = 1000
+}
+
+// zeroed has zeros in place of its last block, which is shorter than the others.
+func zeroed(one *part.Name) {
+	rotten(one)
+	zeros := part.Hash(sha256.Sum256(make([]byte, 300000-2*131072)))
+	one.Disk.Differ.First.Found = &zeros
+}
+
+// afterwards gives a change that comes with a later time.
+func afterwards(change func(*part.Name)) func(*part.Name) {
+	return func(one *part.Name) { change(one); touched(one) }
+}
+
+// looking are changes of a file on the server's disk; what a person reads of them, and whether they look like damage.
+var looking = []struct {
+	why       string
+	change    func(*part.Name)
+	has       string
+	isDamaged bool
+}{
+	{"emptied at the recorded time", emptied, "server: looks damaged: 300.0 kB recorded, 0 bytes on the disk: EMPTY (modified", true},
+	{"emptied later", afterwards(emptied), "server: looks damaged: 300.0 kB recorded, 0 bytes on the disk: EMPTY (modified", true},
+	{"cut at the recorded time", resized, "server: looks damaged: 300.0 kB recorded, 1.0 kB on the disk: another size under the recorded time (modified", true},
+	{"cut later", afterwards(resized), "server: changed on the disk since the last scan: 300.0 kB recorded, 1.0 kB on the disk (modified", false},
+	{"zeros later", afterwards(zeroed), "server: looks damaged: a block of it is all zeros now (modified", true},
+	{"zeros at the recorded time", zeroed, "server: other bytes on the disk; size and time are as recorded, so no scan sees it: a block of it is all zeros now (modified", false},
+	{"an edit", afterwards(rotten), "server: changed on the disk since the last scan (modified", false},
+}
+
+// What looks like damage is to be copied back before a scan, and comes first.
+func TestWhatLooksDamaged(t *testing.T) {
+	const first = "first, on server: 1 file looks damaged, not edited. Copy back what is to stay, as said below, before Syncthing starts or scans there: a scan sends the damage on"
+	const advice = "to do: this looks like damage, not like an edit. Before Syncthing scans there (the scan takes it for changed), copy it from laptop to server with its time alone"
+	const wanted = "If it is wanted as it is: start Syncthing on server and 'Rescan': the change then goes to all. not compared"
+	for _, one := range looking {
+		text := toldOf([]*part.Name{file(1, 1), with(file(1, 1), one.change)}, "StoreDiffers 2", 0, 1, func(*finding.Folder) {})
+		if !strings.Contains(text, one.has) {
+			t.Errorf("%s: %q isn't in %s", one.why, one.has, text)
+		}
+		for _, has := range []string{first, advice, wanted} {
+			if strings.Contains(text, has) != one.isDamaged {
+				t.Errorf("%s: whether %q is told is wrong: %s", one.why, has, text)
+			}
+		}
+	}
+}
+
+// What looks like damage of a file of which others have a newer version is moved away: copied back, it would be in conflict with that.
+func TestWhatLooksDamagedWhereOthersHaveSomethingNewer(t *testing.T) {
+	text := toldOf([]*part.Name{file(2, 2), with(file(1, 1), afterwards(emptied))}, "RecordDiffers 2,StoreDiffers 2", 0, 1, func(*finding.Folder) {})
+	if !strings.Contains(text, "move it out of the folder on server while Syncthing is stopped there: then what the others have stays. If it is wanted as it is: start") {
+		t.Error(text)
+	}
+}
+
+// Many such files are one entry, with the bytes of all; a device that only receives sends none of them.
+func TestManyThatLookDamaged(t *testing.T) {
+	for kind, isFirst := range map[string]bool{"send-receive": true, receiveOnly: false} {
+		text := toldOf([]*part.Name{file(1, 1), with(file(1, 1), emptied)}, "StoreDiffers 2", 0, mostAlone+1, func(folder *finding.Folder) {
+			folder.Members[1].About.Kind = kind
+			fails(folder, "0", []*part.Name{file(1, 1), with(file(1, 1), afterwards(rotten))}, "StoreDiffers 2")
+		})
+		const one = "6 names in docs: 1.8 MB server: looks damaged: 1.8 MB recorded, 0 bytes on the disk: EMPTY the first: a0"
+		if !strings.Contains(text, one) || strings.Contains(text, "first, on server: 6 files look damaged") != isFirst {
+			t.Errorf("%s: %s", kind, text)
+		}
+		if isFirst && strings.Index(text, one) > strings.Index(text, "0 (in docs") {
+			t.Errorf("an edit comes before what is damaged: %s", text)
+		}
+	}
+}
+
+// What is missing on one device and deleted on the others is no loss: there is nothing to copy, and no disk to mount.
+func TestMissingAndDeletedElsewhere(t *testing.T) {
+	for _, names := range []int{1, mostAlone + 1} {
+		text := toldOf([]*part.Name{with(with(file(2, 2), again), absent), with(file(1, 1), absent)}, "RecordDiffers 2,StoreDiffers 2", 0, names, func(folder *finding.Folder) {
+			fresh(folder, 1)
+		})
+		it := map[bool]string{true: "it", false: "them"}[names == 1]
+		if !strings.Contains(text, fmt.Sprintf("to do: start Syncthing on server and 'Rescan': the other devices have deleted %s, too.", it)) ||
+			strings.Contains(text, "mounted") || strings.Contains(text, "copy "+it) || strings.Contains(text, "first, on") {
+			t.Error(text)
+		}
+	}
+}
