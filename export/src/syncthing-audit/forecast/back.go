@@ -1,0 +1,145 @@
+package forecast
+
+import (
+	"fmt"
+	"path"
+)
+
+// Settle has some devices of a world run until nothing changes any more among them, in one order, and gives the world that comes of it. The
+// clock is the time of what is done, in seconds. It must be above all times and counters of the world, and rise by some from call to call. Revert and Override
+// are carried out behind that, and their consequences are waited for.
+func Settle(world World, devices []int, clock int64, commands ...Command) World {
+	names := append([]Name{}, world.Names...)
+	sortNames(names)
+	l := newLoader(world.Devices, names)
+	starts, _ := l.start(names).withLists()
+	s := starts[0]
+	s.may = 0
+	for _, i := range devices {
+		s.may |= 1 << i
+	}
+	s = s.rested()
+	for _, command := range commands {
+		command.on(s)
+		s = s.rested()
+	}
+	return World{Devices: world.Devices, Names: l.back(s, names, clock)}
+}
+
+// Command is a command to a running device.
+type Command struct {
+	Device     int
+	IsOverride bool // and else a Revert
+}
+
+func (c Command) on(s *state) {
+	if c.IsOverride {
+		s.override(c.Device)
+	} else {
+		s.revert(c.Device)
+	}
+}
+
+// rested takes steps, always the first that changes something, until nothing changes any more.
+func (s *state) rested() *state {
+	made := s.copied()
+	made.draw = func(int) int { return 0 }
+	for step := 0; step < mostSteps; step++ {
+		if !made.takesOne(made.actions()) && !made.takesOne(made.rescans()) {
+			break
+		}
+	}
+	made.draw = nil
+	return made
+}
+
+func (s *state) takesOne(actions []action) bool {
+	before := s.copied()
+	for _, act := range actions {
+		act(s)
+		if !s.isSame(before) {
+			return true
+		}
+	}
+	return false
+}
+
+// back gives the names of a state in the words of the world that a loader took. What the model made gets names, times and counters of now.
+func (l *loader) back(s *state, names []Name, clock int64) []Name {
+	b := back{loader: l, clock: clock, values: map[Counter]uint64{}, numbers: map[uint64]uint64{}}
+	for number, rank := range l.numbers {
+		b.numbers[rank] = number
+	}
+	for counter, rank := range l.counters {
+		b.values[Counter{l.numbers[counter.Device], rank}] = counter.Value
+	}
+	made := make([]Name, 0, s.count())
+	for n := 0; n < s.count(); n++ {
+		made = append(made, b.name(s, n, names))
+	}
+	return made
+}
+
+type back struct {
+	*loader
+	clock   int64
+	values  map[Counter]uint64
+	numbers map[uint64]uint64
+}
+
+func (b *back) name(s *state, n int, names []Name) Name {
+	count := len(s.devices)
+	made := Name{Name: b.nameOf(n, names), Own: make([]*Record, count), Views: make([][]*Record, count), Disk: make([]*Node, count)}
+	for i := range s.devices {
+		made.Views[i] = make([]*Record, count)
+		made.Own[i] = b.record(s.own(i, n))
+		for j := range s.devices {
+			if j != i {
+				made.Views[i][j] = b.record(s.recordAt(i, j, n))
+			}
+		}
+		if what := s.at(i, n); what.isThere() {
+			node := b.nodeBack(*what)
+			node.Time = b.time(what.time)
+			made.Disk[i] = &node
+		}
+	}
+	return made
+}
+
+// nameOf gives a name, or one as Syncthing gives it to a conflict copy.
+func (b *back) nameOf(n int, names []Name) string {
+	if n < len(names) {
+		return names[n].Name
+	}
+	root := b.nameOf(b.names[n].root, names)
+	extension := path.Ext(root)
+	stamp := fmt.Sprintf("%s20000101-%06d-AAAAAA%c", marker, (b.clock*100+int64(n-len(names)))%1000000, 'A'+rune(b.names[n].device))
+	return root[:len(root)-len(extension)] + stamp + extension
+}
+
+func (b *back) record(of *record) *Record {
+	if !of.isThere() {
+		return nil
+	}
+	made := &Record{Type: of.kind, Deleted: of.deleted, Flag: of.flag, Time: b.time(of.time), Content: b.content[of.content],
+		Target: b.target[of.target], Mode: int(of.mode)}
+	for _, counter := range b.vectors[of.version] {
+		value, is := b.values[counter]
+		if !is {
+			value = uint64(b.clock) + counter.Value - presentTime
+		}
+		made.Version = append(made.Version, Counter{b.numbers[counter.Device], value})
+	}
+	return made
+}
+
+func (b *back) time(rank int64) int64 {
+	if rank >= presentTime {
+		return b.clock*1e9 + rank - presentTime
+	}
+	if b.times == nil {
+		return rank
+	}
+	return b.timesByRank[rank]
+}

@@ -1,0 +1,32 @@
+package forecast
+
+// moveAway is Syncthing's moveForConflict: what stands there becomes a conflict copy, if it may have one.
+func (p *pull) moveAway(n int) {
+	what := p.get(p.diskCell(p.i, n))
+	p.remove(p.i, n)
+	if p.names[n].isCopy || p.device().MaxConflicts == 0 {
+		return
+	}
+	made := p.copyOf(n, what, p.i)
+	p.writeNumber(p.i, made, what)
+	p.scans[made] = true
+	p.dropOldest(n, made)
+}
+
+// dropOldest deletes the oldest copies of a name above those that the device keeps.
+func (p *pull) dropOldest(n, made int) {
+	most := p.device().MaxConflicts
+	if most < 0 {
+		return
+	}
+	var copies []int
+	for other := 0; other < p.count(); other++ {
+		if p.names[other].isCopy && p.names[other].root == n && other != made && p.disk(p.i, other).isThere() {
+			copies = append(copies, other)
+		}
+	}
+	for len(copies)+1 > most {
+		p.remove(p.i, copies[0])
+		copies = copies[1:]
+	}
+}

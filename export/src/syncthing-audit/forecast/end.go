@@ -1,0 +1,160 @@
+package forecast
+
+import (
+	"encoding/binary"
+	"math"
+	"sort"
+)
+
+// Now is the time of what Syncthing or a scan makes later.
+const Now = math.MaxInt64
+
+// End is one state in which nothing changes any more.
+type End struct {
+	Disks [][]Place // of each device: what stands on its disk, by name, copies behind their name; of copies with the same bytes there is one
+	Stuck []Stuck
+}
+
+// Place is what stands at a name, or in a conflict copy of it that Syncthing made.
+type Place struct {
+	Name   string
+	IsCopy bool
+	Node   Node
+}
+
+// Stuck is a name that a device needs and doesn't take.
+type Stuck struct {
+	Device int
+	Name   string
+	Why    Why
+}
+
+// numbered is an end by the numbers of a machine.
+type numbered struct {
+	disks [][]placed
+	stuck []Stuck // with the places of names in place of devices' names
+	names []int
+}
+
+type placed struct {
+	root   int
+	isCopy bool
+	what   node
+}
+
+// numberedEnd gives the end that a state is.
+func (s *state) numberedEnd(count int) numbered {
+	made := numbered{disks: make([][]placed, len(s.devices))}
+	for i := range s.devices {
+		for n := 0; n < s.count(); n++ {
+			if what := s.at(i, n); what.isThere() {
+				made.disks[i] = append(made.disks[i], s.placedAt(n, what, count))
+			}
+		}
+		sort.SliceStable(made.disks[i], func(a, b int) bool { return made.disks[i][a].isBefore(&made.disks[i][b]) })
+		made.disks[i] = withoutTwins(made.disks[i])
+	}
+	last := s.copied()
+	last.draw = func(int) int { return 0 }
+	for i := range s.devices {
+		errors := last.copied().pullOn(i)
+		for n := 0; n < s.count(); n++ {
+			if s.need(i, n).isThere() && !(s.need(i, n).deleted && s.devices[i].IgnoreDelete) {
+				made.stuck = append(made.stuck, Stuck{Device: i, Why: errors[n]})
+				made.names = append(made.names, s.rootAmong(n, count))
+			}
+		}
+	}
+	return made
+}
+
+func (s *state) rootAmong(n, count int) int {
+	for n >= count {
+		n = s.names[n].root
+	}
+	return n
+}
+
+// placedAt gives what stands at a name, which is a copy if the model made it.
+func (s *state) placedAt(n int, what *node, count int) placed {
+	return placed{root: s.rootAmong(n, count), isCopy: n >= count, what: *what}
+}
+
+// withoutTwins takes away copies of a name with the same bytes as the one before.
+func withoutTwins(disk []placed) []placed {
+	made := disk[:0]
+	for at, one := range disk {
+		if at == 0 || !one.isCopy || !one.isTwin(&made[len(made)-1]) {
+			made = append(made, one)
+		}
+	}
+	return made
+}
+
+func (p *placed) isTwin(other *placed) bool {
+	return p.root == other.root && p.isCopy == other.isCopy && p.what.kind == other.what.kind &&
+		p.what.content == other.what.content && p.what.target == other.what.target
+}
+
+func (p *placed) isBefore(other *placed) bool {
+	switch {
+	case p.root != other.root:
+		return p.root < other.root
+	case p.isCopy != other.isCopy:
+		return other.isCopy
+	case p.what.content != other.what.content:
+		return p.what.content < other.what.content
+	case p.what.target != other.what.target:
+		return p.what.target < other.what.target
+	}
+	return p.what.time < other.what.time
+}
+
+// key gives a text that two ends share if the same stands on all disks: kinds, bytes, targets and copies, whatever their times and modes.
+func (n *numbered) key() string {
+	var made []byte
+	for _, disk := range n.disks {
+		made = append(made, '|')
+		for _, one := range disk {
+			made = binary.AppendVarint(made, int64(one.root))
+			made = binary.AppendVarint(made, int64(one.what.content))
+			made = binary.AppendVarint(made, int64(one.what.target))
+			made = append(made, byte(one.what.kind), byte(truth(one.isCopy)))
+		}
+	}
+	return string(made)
+}
+
+// end gives an end in the words of the world that a loader took.
+func (l *loader) end(from *numbered, names []Name) End {
+	made := End{Disks: make([][]Place, len(from.disks))}
+	for i, disk := range from.disks {
+		for _, one := range disk {
+			made.Disks[i] = append(made.Disks[i], Place{Name: names[one.root].Name, IsCopy: one.isCopy, Node: l.nodeBack(one.what)})
+		}
+	}
+	for at, stuck := range from.stuck {
+		stuck.Name = names[from.names[at]].Name
+		made.Stuck = append(made.Stuck, stuck)
+	}
+	return made
+}
+
+func (l *loader) nodeBack(what node) Node {
+	made := Node{Type: what.kind, Mode: int(what.mode), Content: l.content[what.content], Target: l.target[what.target]}
+	if what.kind == File {
+		made.Time = l.timeBack(what.time)
+	}
+	return made
+}
+
+// timeBack gives the time of a rank.
+func (l *loader) timeBack(rank int64) int64 {
+	switch {
+	case l.times == nil:
+		return rank
+	case rank >= presentTime:
+		return Now
+	}
+	return l.timesByRank[rank]
+}

@@ -1,0 +1,141 @@
+package forecast
+
+// An action is one step of a world. It may change nothing.
+type action func(*state)
+
+// actions gives the steps that a state may take.
+func (s *state) actions() []action { return append(s.starts(), s.exchanges()...) }
+
+// starts are the starts of devices, with the scan that comes first.
+func (s *state) starts() []action {
+	var made []action
+	for i := range s.devices {
+		if i := i; !s.isOn(i) && s.may&(1<<i) != 0 {
+			made = append(made, func(s *state) { s.start(i) })
+		}
+	}
+	return made
+}
+
+// exchanges are the steps of devices that run: one tells another what is new, or pulls.
+func (s *state) exchanges() []action {
+	var made []action
+	for i := range s.devices {
+		if !s.isOn(i) {
+			continue
+		}
+		i := i
+		for j := range s.devices {
+			if j := j; j != i && s.isOn(j) && s.isBehind(i, j) {
+				made = append(made, func(s *state) { s.send(i, j) })
+			}
+		}
+		if s.needsSomething(i) {
+			made = append(made, func(s *state) { s.pullOn(i) })
+		}
+	}
+	return made
+}
+
+func (s *state) start(i int) {
+	s.scan(i, everything)
+	s.on |= 1 << i
+}
+
+func (s *state) needsSomething(i int) bool {
+	for n := 0; n < s.count(); n++ {
+		if s.need(i, n).isThere() {
+			return true
+		}
+	}
+	return false
+}
+
+func (s *state) areAllOn() bool { return s.on == s.may }
+
+// outcomes gives the states behind a step, one for each way that what is drawn in it may go.
+func (s *state) outcomes(act action) []*state {
+	var made []*state
+	scripts := [][]int{nil}
+	for len(scripts) > 0 {
+		script := scripts[len(scripts)-1]
+		scripts = scripts[:len(scripts)-1]
+		next := s.copied()
+		var drawn, counts []int
+		next.draw = func(count int) int {
+			taken := 0
+			if len(drawn) < len(script) {
+				taken = script[len(drawn)]
+			}
+			drawn, counts = append(drawn, taken), append(counts, count)
+			return taken
+		}
+		act(next)
+		next.draw = nil
+		for at := len(script); at < len(drawn); at++ {
+			for other := 1; other < counts[at]; other++ {
+				scripts = append(scripts, append(append([]int{}, drawn[:at]...), other))
+			}
+		}
+		made = append(made, next)
+	}
+	return made
+}
+
+// A search tries all orders.
+type search struct {
+	seen map[string]bool
+	todo []*state
+	most int
+}
+
+func (x *search) add(s *state) {
+	if key := s.key(); !x.seen[key] {
+		x.seen[key] = true
+		x.todo = append(x.todo, s)
+	}
+}
+
+// explore gives all states in which nothing changes any more, or says that there are more states than it may try.
+func explore(starts []*state, most int) (ends []*state, states int, all bool) {
+	x := search{seen: map[string]bool{}, most: most}
+	for _, one := range starts {
+		x.add(one)
+	}
+	for len(x.todo) > 0 {
+		if len(x.seen) > most {
+			return nil, len(x.seen), false
+		}
+		s := x.todo[len(x.todo)-1]
+		x.todo = x.todo[:len(x.todo)-1]
+		if !x.step(s, s.actions()) && s.areAllOn() && !x.step(s, s.rescans()) {
+			ends = append(ends, s)
+		}
+	}
+	return ends, len(x.seen), true
+}
+
+// step adds what these steps lead to, and says whether one of them changes anything.
+func (x *search) step(s *state, actions []action) bool {
+	moved := false
+	for _, act := range actions {
+		for _, next := range s.outcomes(act) {
+			if !next.isSame(s) {
+				moved = true
+				x.add(next)
+			}
+		}
+	}
+	return moved
+}
+
+// rescans are the scans of devices that scanned before: they matter where nothing else goes on.
+func (s *state) rescans() []action {
+	var made []action
+	for i := range s.devices {
+		if i := i; s.isOn(i) {
+			made = append(made, func(s *state) { s.scan(i, everything) })
+		}
+	}
+	return made
+}

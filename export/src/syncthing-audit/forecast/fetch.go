@@ -1,0 +1,156 @@
+package forecast
+
+import "sort"
+
+// takeFiles takes the files that are to be renamed or fetched, in the order of the queue. That may be any, so where the order matters it is
+// drawn.
+func (p *pull) takeFiles(queue []int) {
+	sort.SliceStable(queue, func(a, b int) bool { return !p.dependsOnOrder(queue[a], queue) && p.dependsOnOrder(queue[b], queue) })
+	for len(queue) > 0 {
+		place := 0
+		if len(queue) > 1 && p.dependsOnOrder(queue[0], queue) {
+			place = p.draw(len(queue))
+		}
+		n := queue[place]
+		queue = append(queue[:place:place], queue[place+1:]...)
+		p.note(n, p.takeFile(n))
+	}
+}
+
+// dependsOnOrder says whether another file of the queue may take what a file would be renamed from, or is below it or above.
+func (p *pull) dependsOnOrder(n int, queue []int) bool {
+	for _, other := range queue {
+		if other == n {
+			continue
+		}
+		if p.isBelow(n, other) || p.isBelow(other, n) {
+			return true
+		}
+		content := p.wanted(n).content
+		if len(p.buckets[content]) > 0 && p.wanted(other).content == content {
+			return true
+		}
+	}
+	return false
+}
+
+func (p *pull) takeFile(n int) Why {
+	if why := p.makeParents(n); why != NoReason {
+		return why
+	}
+	entry := p.wanted(n)
+	for len(p.buckets[entry.content]) > 0 {
+		from := p.buckets[entry.content][0]
+		p.buckets[entry.content] = p.buckets[entry.content][1:]
+		if p.rename(from, n) {
+			delete(p.due, from)
+			return NoReason
+		}
+	}
+	if p.temp(p.i, n) != entry.content {
+		p.setTemp(p.i, n, 0)
+		if !p.fetch(n) {
+			return NoSource
+		}
+		p.setTemp(p.i, n, entry.content)
+	}
+	return p.putInPlace(n, node{kind: File, time: entry.time, content: entry.content, mode: p.modeOf(entry, usualMode)})
+}
+
+// The modes of what Syncthing makes where it doesn't set modes.
+const (
+	usualMode      = 0o644
+	usualDirectory = 0o755
+)
+
+// putInPlace is Syncthing's performFinish: a temporary file becomes the file.
+func (p *pull) putInPlace(n int, what node) Why {
+	if why := p.clear(n); why != NoReason {
+		return why
+	}
+	p.setTemp(p.i, n, 0)
+	p.write(p.i, n, what)
+	return p.done(n, *p.wanted(n))
+}
+
+// fetch says whether the device gets the bytes of a file: from its own disk, or from a device that has them.
+func (p *pull) fetch(n int) bool {
+	entry := p.wanted(n)
+	if p.sizes[entry.content] == 0 || p.hasBytes(n, entry.content) {
+		return true
+	}
+	_, have := p.old.global(p.i, n)
+	var sources []int
+	good, bad := false, false
+	for j := range p.devices {
+		if have&(1<<j) != 0 && j != p.i && p.isOn(j) {
+			sources = append(sources, j)
+			is := p.givesBytes(j, n, entry.content)
+			good, bad = good || is, bad || !is
+		}
+	}
+	for len(sources) > 0 {
+		place := 0
+		if good && bad && len(sources) > 1 {
+			place = p.draw(len(sources))
+		}
+		j := sources[place]
+		sources = append(sources[:place:place], sources[place+1:]...)
+		if p.givesBytes(j, n, entry.content) {
+			return true
+		}
+		p.recheck(j, n, entry.content)
+	}
+	return false
+}
+
+// hasBytes says whether a device finds these bytes on its own disk: in what it has recorded with them, or in what is to be replaced.
+func (p *pull) hasBytes(n int, content int32) bool {
+	if what := p.at(p.i, n); what.kind == File && what.content == content {
+		return true
+	}
+	for other := 0; other < p.count(); other++ {
+		own := p.recorded(other)
+		if own.kind != File || own.deleted || own.flag != Valid || own.content != content {
+			continue
+		}
+		if what := p.at(p.i, other); what.kind == File && what.content == content {
+			return true
+		}
+	}
+	return false
+}
+
+func (p *pull) givesBytes(j, n int, content int32) bool {
+	what := p.at(j, n)
+	return what.kind == File && what.content == content
+}
+
+// recheck notes that a device is to hash a file anew, since it was asked for bytes that it has recorded and hasn't: Syncthing's recheckFile.
+func (p *pull) recheck(j, n int, content int32) {
+	what, own := p.at(j, n), p.own(j, n)
+	if what.kind == File && own.kind == File && !own.deleted && own.flag == Valid && own.content == content {
+		p.rescans = append(p.rescans, source{j, n})
+	}
+}
+
+// rename is Syncthing's renameFile: a file that is to be deleted becomes one that is needed. It says whether it did.
+func (p *pull) rename(from, n int) bool {
+	if is, why := p.isToBeDeleted(from); !is || why != NoReason {
+		return false
+	}
+	what, own := p.at(p.i, n), p.recorded(n)
+	if what.isThere() && !p.isAsRecorded(p.i, own, what) || !what.isThere() && own.isThere() && !own.deleted {
+		p.scans[n] = true
+		return false
+	}
+	moved := *p.at(p.i, from)
+	p.remove(p.i, from)
+	p.setTemp(p.i, n, moved.content)
+	entry := p.wanted(n)
+	if p.putInPlace(n, node{kind: File, time: entry.time, content: moved.content, mode: p.modeOf(entry, moved.mode)}) != NoReason {
+		return false
+	}
+	p.done(from, *p.wanted(from))
+	return true
+}

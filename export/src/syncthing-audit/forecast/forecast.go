@@ -1,0 +1,104 @@
+package forecast
+
+import (
+	"math/rand"
+	"sort"
+)
+
+// Budget says how long a forecast may try.
+type Budget struct {
+	States int // up to so many states all orders are tried
+	Walks  int // beyond that so many in random order
+}
+
+// Usual is the budget of an answer to a person.
+var Usual = Budget{States: 4000, Walks: 100}
+
+// Answer is what comes of names that hang together.
+type Answer struct {
+	Names   []string // rising
+	Ends    []End
+	IsAll   bool // all orders were tried
+	Orders  int  // else: how many were
+	Endless int  // how many of those came to no end
+	States  int  // how many states were seen
+}
+
+// Forecaster makes forecasts. It keeps what it found, so names that are alike cost one.
+type Forecaster struct {
+	budget Budget
+	known  map[string]*result
+}
+
+// result is an answer by the numbers of a machine.
+type result struct {
+	ends    []numbered
+	isAll   bool
+	orders  int
+	endless int
+	states  int
+}
+
+// New gives a forecaster.
+func New(budget Budget) *Forecaster { return &Forecaster{budget, map[string]*result{}} }
+
+// Of gives an answer for each group of names of a world that hang together.
+func (f *Forecaster) Of(world World) []Answer {
+	var made []Answer
+	for _, names := range split(world.Names) {
+		made = append(made, f.OfGroup(world.Devices, names))
+	}
+	return made
+}
+
+// OfGroup gives an answer for names that are taken to hang together.
+func (f *Forecaster) OfGroup(devices []Device, names []Name) Answer {
+	sortNames(names)
+	l := newLoader(devices, names)
+	first := l.start(names)
+	shape := l.shape(first)
+	found, is := f.known[shape]
+	if !is {
+		found = f.find(first, len(names))
+		f.known[shape] = found
+	}
+	made := Answer{IsAll: found.isAll, Orders: found.orders, Endless: found.endless, States: found.states}
+	for place := range names {
+		made.Names = append(made.Names, names[place].Name)
+	}
+	for place := range found.ends {
+		made.Ends = append(made.Ends, l.end(&found.ends[place], names))
+	}
+	return made
+}
+
+func sortNames(names []Name) {
+	sort.Slice(names, func(a, b int) bool { return names[a].Name < names[b].Name })
+}
+
+// find tries all orders, or walks where there are too many.
+func (f *Forecaster) find(first *state, count int) *result {
+	starts, all := first.withLists()
+	ends, states, done := explore(starts, f.budget.States)
+	made := &result{isAll: all && done, states: states}
+	if !done {
+		random := rand.New(rand.NewSource(int64(count)))
+		for made.orders < f.budget.Walks {
+			made.orders++
+			if end := walk(starts[random.Intn(len(starts))], random); end != nil {
+				ends = append(ends, end)
+			} else {
+				made.endless++
+			}
+		}
+	}
+	seen := map[string]bool{}
+	for _, end := range ends {
+		one := end.numberedEnd(count)
+		if key := one.key(); !seen[key] {
+			seen[key] = true
+			made.ends = append(made.ends, one)
+		}
+	}
+	return made
+}

@@ -1,0 +1,197 @@
+package forecast
+
+// everything has a scan go over the whole folder.
+var everything []int
+
+// scan has a device scan its folder, or only these names with what is below them. It says whether that changed a record.
+func (s *state) scan(i int, names []int) bool {
+	names = s.withParents(i, names)
+	changed := s.scanFound(i, names)
+	return s.scanMissing(i, names) || changed
+}
+
+// withParents gives for each name the highest directory above it that the device hasn't recorded, or the name: Syncthing's unifySubs.
+func (s *state) withParents(i int, names []int) []int {
+	made := make([]int, 0, len(names))
+	for _, n := range names {
+		for above := s.names[n].parent; above >= 0 && !s.own(i, above).isThere(); above = s.names[above].parent {
+			n = above
+		}
+		made = append(made, n)
+	}
+	return made
+}
+
+func (s *state) isScanned(n int, names []int) bool {
+	for _, one := range names {
+		if n == one || s.isBelow(n, one) {
+			return true
+		}
+	}
+	return len(names) == 0
+}
+
+// globals are the records that prevail at a device, as they were when a step began.
+type globals func(n int) (*record, bool)
+
+func (s *state) globals(i int) globals {
+	before := s.copied()
+	return func(n int) (*record, bool) {
+		entry, _ := before.global(i, n)
+		return entry, entry.isThere()
+	}
+}
+
+// scanFound takes what stands on the disk.
+func (s *state) scanFound(i int, names []int) bool {
+	var found []int
+	for n := 0; n < s.count(); n++ {
+		if what := s.at(i, n); what.isThere() && s.isScanned(n, names) && !s.isUnchanged(i, n, what) {
+			found = append(found, n)
+		}
+	}
+	if len(found) == 0 {
+		return false
+	}
+	before := s.globals(i)
+	old := s.copied()
+	used := map[int]bool{}
+	for _, n := range found {
+		entry := old.found(i, n)
+		s.update(i, n, entry, before)
+		if s.devices[i].Kind != ReceiveOnly {
+			s.findRename(i, n, &entry, old, before, used)
+		}
+	}
+	return true
+}
+
+// isUnchanged says whether a scan passes over what it finds.
+func (s *state) isUnchanged(i, n int, what *node) bool {
+	own := s.own(i, n)
+	if !own.isThere() {
+		return false
+	}
+	found := s.ofNode(what)
+	ignored := comparison{permissions: s.devices[i].IgnorePermissions, bytes: true, window: s.devices[i].TimeWindow}
+	if s.devices[i].Kind == ReceiveOnly {
+		ignored.localChange = true
+		found.flag = LocalChange
+	}
+	return s.isEquivalent(own, &found, ignored)
+}
+
+// found gives the record of what a scan finds.
+func (s *state) found(i, n int) record {
+	own, device := s.own(i, n), &s.devices[i]
+	entry := s.ofNode(s.disk(i, n))
+	vector := raised(s.vectors[own.version], device.Number)
+	if device.Kind == ReceiveOnly {
+		entry.flag = LocalChange
+	}
+	if own.flag == LocalChange && (entry.flag == Valid || device.Release.dropsOthers()) {
+		vector = ofDevice(vector, device.Number)
+	}
+	if device.IgnorePermissions {
+		entry.mode = NoMode
+	}
+	entry.version = s.vectorNumber(vector)
+	return entry
+}
+
+// update is Syncthing's scanBatch.Update.
+func (s *state) update(i, n int, entry record, before globals) {
+	device := &s.devices[i]
+	if global, is := before(n); is {
+		ignored := comparison{localChange: true, window: device.TimeWindow}
+		if device.Release.mergesOtherBytes() {
+			ignored.bytes, ignored.permissions = true, device.IgnorePermissions
+		}
+		switch {
+		case global.flag == LocalChange:
+			if entry.deleted {
+				entry = record{}
+			}
+		case device.Release.mergesIn(device.Kind) && s.isEquivalent(global, &entry, ignored):
+			entry = *global
+		}
+	}
+	s.put(i, i, n, entry)
+}
+
+// findRename takes the record of a file with the same bytes that is gone for deleted.
+func (s *state) findRename(i, n int, entry *record, old *state, before globals, used map[int]bool) {
+	if entry.kind != File || s.sizes[entry.content] == 0 {
+		return
+	}
+	for other := 0; other < s.count(); other++ {
+		own := old.own(i, other)
+		if !own.isThere() || own.kind != File || own.deleted || own.flag != Valid || own.content != entry.content {
+			continue
+		}
+		if other == n {
+			used[other] = true
+		}
+		if used[other] {
+			continue
+		}
+		used[other] = true
+		if !s.at(i, other).isThere() {
+			s.update(i, other, s.gone(i, own), before)
+			return
+		}
+	}
+}
+
+// gone gives the record of what a scan doesn't find any more.
+func (s *state) gone(i int, own *record) record {
+	entry := s.deletedBy(*own, i)
+	entry.flag = Valid
+	if s.devices[i].Kind == ReceiveOnly {
+		entry.flag = LocalChange
+	}
+	if own.flag == LocalChange {
+		entry.version = 0
+	}
+	return entry
+}
+
+// scanMissing takes what isn't there any more for deleted.
+func (s *state) scanMissing(i int, names []int) bool {
+	var before globals
+	changed := false
+	for n := 0; n < s.count(); n++ {
+		own := s.own(i, n)
+		if !own.isThere() || !s.isScanned(n, names) || own.deleted && own.flag != LocalChange || s.at(i, n).isThere() {
+			continue
+		}
+		if before == nil {
+			before = s.globals(i)
+		}
+		if !own.deleted {
+			s.update(i, n, s.gone(i, own), before)
+			changed = true
+		} else if s.settle(i, n, own, before) {
+			changed = true
+		}
+	}
+	return changed
+}
+
+// settle is what a scan does with a local deletion of a device that only receives, or did.
+func (s *state) settle(i, n int, own *record, before globals) bool {
+	entry := *own
+	entry.flag = Valid
+	if s.devices[i].Kind == ReceiveOnly {
+		global, is := before(n)
+		switch {
+		case is && global.flag == LocalChange:
+			s.put(i, i, n, record{})
+			return true
+		case !is || !global.deleted:
+			return false
+		}
+	}
+	s.update(i, n, entry, before)
+	return true
+}

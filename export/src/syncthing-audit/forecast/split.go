@@ -1,0 +1,90 @@
+package forecast
+
+import (
+	"path"
+	"sort"
+)
+
+// split gives groups of names that hang together: a directory with all below it, and files that share bytes which aren't empty.
+func split(names []Name) [][]Name {
+	groups := newGroups(len(names))
+	places := make(map[string]int, len(names))
+	for place := range names {
+		places[names[place].Name] = place
+	}
+	first := map[Content]int{}
+	for place := range names {
+		for above := path.Dir(names[place].Name); above != "."; above = path.Dir(above) {
+			if found, is := places[above]; is {
+				groups.join(place, found)
+			}
+		}
+		eachContent(&names[place], func(content Content) {
+			if found, is := first[content]; is {
+				groups.join(place, found)
+			} else {
+				first[content] = place
+			}
+		})
+	}
+	return groups.of(names)
+}
+
+// eachContent calls for all bytes that a name has somewhere.
+func eachContent(name *Name, call func(Content)) {
+	take := func(content Content) {
+		if content.Hash != "" && content.Size > 0 {
+			call(content)
+		}
+	}
+	for i, own := range name.Own {
+		if own != nil {
+			take(own.Content)
+		}
+		for _, view := range name.Views[i] {
+			if view != nil {
+				take(view.Content)
+			}
+		}
+		if what := name.Disk[i]; what != nil {
+			take(what.Content)
+		}
+	}
+}
+
+// groups are sets that are joined.
+type groups []int
+
+func newGroups(count int) groups {
+	made := make(groups, count)
+	for place := range made {
+		made[place] = place
+	}
+	return made
+}
+
+func (g groups) root(place int) int {
+	for g[place] != place {
+		g[place] = g[g[place]]
+		place = g[place]
+	}
+	return place
+}
+
+func (g groups) join(a, b int) { g[g.root(a)] = g.root(b) }
+
+// of gives the groups, by their first names.
+func (g groups) of(names []Name) [][]Name {
+	by := map[int][]Name{}
+	for place := range names {
+		root := g.root(place)
+		by[root] = append(by[root], names[place])
+	}
+	made := make([][]Name, 0, len(by))
+	for _, group := range by {
+		sort.Slice(group, func(a, b int) bool { return group[a].Name < group[b].Name })
+		made = append(made, group)
+	}
+	sort.Slice(made, func(a, b int) bool { return made[a][0].Name < made[b][0].Name })
+	return made
+}
