@@ -1,0 +1,3 @@
+pub mod VersionFacts
+pub mod StepKept
+pub mod RunKept

@@ -1,0 +1,4 @@
+pub mod Prevails
+pub mod Orderly
+pub mod Rises
+pub mod Laws

@@ -1,0 +1,26 @@
+//! What prevails goes on prevailing, whatever orderly peers do. Each function does nothing; its contract is the law.
+ghost use Rattle.bep_converge.specs.Laws.{OrderlyRunsAreFree, PrevailingIsUnique, RunsKeepPrevailing, StepsKeepPrevailing};
+
+/// Each run of orderly peers is one of free peers.
+pub fn orderly_runs_are_free()
+    ensures { OrderlyRunsAreFree }
+{}
+
+/// Of a name one version prevails at most, with one content.
+pub fn prevailing_is_unique()
+    ensures { PrevailingIsUnique }
+{}
+
+/// After each step of orderly peers from a cut that prevails, it prevails still, and the same records do. Each device has of
+/// each name the very record and file that it had, or those of a record that was known and is above its own one. No name has
+/// come, so there is no conflict copy.
+pub fn steps_keep_prevailing()
+    ensures { StepsKeepPrevailing }
+{}
+
+/// The same holds after every run of orderly peers.
+pub fn runs_keep_prevailing()
+    ensures { RunsKeepPrevailing }
+{
+    steps_keep_prevailing();
+}
