@@ -6,6 +6,7 @@ and the numbers of refusals, and reasons.md the reasons (documented.py); README.
 last line is 'N passed, M failed'."""
 
 import re
+import subprocess
 import sys
 from itertools import groupby
 from pathlib import Path
@@ -129,6 +130,8 @@ def main():
         count.says(f"docs/developing.md: {crate}", "" if crates.get(crate) == mapped.get(crate) else
                    "its row of the map isn't what crates.txt says of it")
     check_trust(count, crates)
+    is_current = subprocess.run([TOP / "bench/table.py", "--check"]).returncode == 0
+    count.says("bench/README.md: table", "" if is_current else "it isn't that of results.csv: run bench/table.py")
     for name, lacks in untested(TOP / "docs/trust.md"):
         count.says(f"docs/trust.md: {name}", "the file has no such test" if lacks else "")
     documented.check(count, TOP)
