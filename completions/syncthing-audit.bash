@@ -4,7 +4,7 @@
 # The flags of each command.
 _syncthing_audit_flags() {
   case $1 in
-    part) echo '--home --data --folder --names --slice --jobs --about --begin --end --tokens --heed-input --rescan --leave-out -o --help' ;;
+    part) echo '--home --data --folder --names --slice --jobs --about --begin --end --tokens --heed-input --rescan --still --leave-out -o --help' ;;
     run) echo '--data --folder --names --slice --jobs --leave-out --lines --json --syncaudit --still --rescan --remote-program --dry-run --help' ;;
     check) echo '--home --data --folder --names --slice --jobs --leave-out --bytes --lines --json --syncaudit --help' ;;
     export) echo '--home --data --folder --names --slice --jobs --leave-out --bytes --into --help' ;;

@@ -22,7 +22,7 @@ complete -c syncthing-audit -n "__fish_seen_subcommand_from part" -l end -d 'The
 complete -c syncthing-audit -n "__fish_seen_subcommand_from part" -l tokens -r -d 'What all first looks told'
 complete -c syncthing-audit -n "__fish_seen_subcommand_from part" -l heed-input -d 'End once standard input ends'
 complete -c syncthing-audit -n "__fish_seen_subcommand_from part run" -l rescan -d 'Ask Syncthing for a scan first'
-complete -c syncthing-audit -n "__fish_seen_subcommand_from run" -l still -x -d 'How many seconds second looks wait at least'
+complete -c syncthing-audit -n "__fish_seen_subcommand_from part run" -l still -x -d 'How many seconds second looks wait at least'
 complete -c syncthing-audit -n "__fish_seen_subcommand_from run" -l remote-program -x -d 'How this program is called elsewhere'
 complete -c syncthing-audit -n "__fish_seen_subcommand_from run" -l dry-run -d 'Tell the commands'
 complete -c syncthing-audit -n "__fish_seen_subcommand_from run" -x -a '(__fish_complete_user_at_hosts):' -d 'A machine'

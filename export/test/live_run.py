@@ -173,7 +173,7 @@ cd "{room}/$machine/user" && HOME=$PWD PATH={programs}:$PATH exec sh -c "$*"
         ran = self.run_on("--dry-run", "--folder", FOLDER, "--jobs", "1")
         self.assertEqual(ran.returncode, 0, ran.stderr)
         self.assertIn(f"ssh -o 'ConnectTimeout=20' one 'PATH=\"$PATH:$HOME/.local/bin\" nice -n 19 syncthing-audit part --begin --jobs 1 --folder {FOLDER} -o -' < /dev/null > one.begin 2> one.log\n", ran.stdout)
-        self.assertIn(f"ssh -o 'ConnectTimeout=20' two 'PATH=\"$PATH:$HOME/.local/bin\" syncthing-audit part --end --tokens - --leave-out absent --home {self.two.home} --folder {FOLDER} -o -'"
+        self.assertIn(f"ssh -o 'ConnectTimeout=20' two 'PATH=\"$PATH:$HOME/.local/bin\" syncthing-audit part --end --tokens - --leave-out absent --still 0 --home {self.two.home} --folder {FOLDER} -o -'"
                       " < tokens > two.end\n", ran.stdout)
 
     def test_the_told_commands_work(self):

@@ -34,6 +34,10 @@ func (o *options) checkLooks() error {
 		return &wrongUsage{"--tokens is for --end"}
 	case !o.begin && !o.about && o.rescan:
 		return &wrongUsage{"--rescan is for --begin: a stopped Syncthing scans nothing"}
+	case !o.end && o.hasStill:
+		return &wrongUsage{"--still is for --end, and for 'run'"}
+	case o.still < 0:
+		return &wrongUsage{"--still is at least 0"}
 	case !o.begin && o.heeds:
 		return &wrongUsage{"--heed-input is for --begin"}
 	case !o.end && len(o.leaveOut) > 0:
@@ -80,10 +84,17 @@ func openLive(asked options, log io.Writer) (*source, error) {
 	if err == nil && asked.rescan {
 		err = rescan(asked)
 	}
+	var rests map[string]*part.Rest
+	if err == nil && asked.end {
+		rests, err = waitForRest(asked)
+	}
 	if err != nil {
 		return nil, err
 	}
 	made, err := openSource(device.OpenLive, asked, log)
+	if err == nil {
+		made.read.Rest = rests
+	}
 	if err == nil && isOwn {
 		made.home.State, made.read.Index = nil, nil
 		made.home.Newer, made.read.Newer = nil, nil

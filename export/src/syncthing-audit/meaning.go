@@ -35,7 +35,7 @@ func meaningOf(answer *finding.Answer) string {
 			is[folder.HowFirm()] = true
 		}
 	}
-	if is[finding.NotFirm] || is[finding.NotAsked] {
+	if is[finding.NotFirm] || is[finding.NotAsked] || is[finding.NotKnown] {
 		text += meaningOfSettled
 	}
 	if is[finding.NotAsked] {

@@ -36,6 +36,7 @@ type options struct {
 	dryRun     bool
 	heeds      bool    // whether the end of standard input ends a first look
 	still      float64 // seconds
+	hasStill   bool    // whether they were asked for
 	remote     string  // how this program is called on other machines
 	program    string
 	jobs       int
@@ -81,7 +82,8 @@ Says whether Syncthing devices are in step and, if they aren't, which device is 
   --heed-input         of --begin: end without a part once standard input ends. 'run' sets this on other machines
   --rescan             of run, and of part --begin: have Syncthing scan before the first look, by its REST API, and wait for that. What
                        changed or is missing on a disk then goes to all devices that take changes
-  --still SECONDS      of run: how long to wait at least, after the last first look, before the second looks (10)
+  --still SECONDS      of run: how long to wait at least, after the last first look, before the second looks (10). Of run and of part
+                       --end: for how long at most a second look waits until Syncthing is idle
   --remote-program P   of run: how to call this program on the other machines (syncthing-audit, on PATH or in ~/.local/bin)
   --dry-run            of run: write the commands that it would run, as a script for a shell, and run none of them
   -o FILE              where the part goes. Without it, or with -, it goes to standard output
@@ -188,7 +190,10 @@ func readOptions(name string, words []string, flagsOf func(*flag.FlagSet, *optio
 		read.parts = append(read.parts, flags.Arg(0))
 		words = flags.Args()[1:]
 	}
-	flags.Visit(func(one *flag.Flag) { read.hasJobs = read.hasJobs || one.Name == "jobs" })
+	flags.Visit(func(one *flag.Flag) {
+		read.hasJobs = read.hasJobs || one.Name == "jobs"
+		read.hasStill = read.hasStill || one.Name == "still"
+	})
 	if read.jobs < 1 {
 		return options{}, &wrongUsage{"--jobs is at least 1"}
 	}

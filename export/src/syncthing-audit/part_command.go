@@ -51,6 +51,7 @@ func readPartOptions(words []string) (options, error) {
 		flags.BoolVar(&read.rescan, "rescan", false, "")
 		flags.BoolVar(&read.heeds, "heed-input", false, "")
 		flags.Var((*list)(&read.tokens), "tokens", "")
+		flags.Float64Var(&read.still, "still", secondsOfStillness, "")
 		flags.Var(kinds(read.leaveOut), "leave-out", "")
 	})
 	if err == nil && len(asked.parts) > 0 {

@@ -31,6 +31,7 @@ type place struct {
 
 	folders []string // of those that are asked for the ones that the device has, once it said so
 	isOlder bool     // than this program: it isn't able to say what is shared before it looks
+	waits   bool     // whether the program there knows how long its second look is to wait until Syncthing is idle
 }
 
 // placesOf reads the places of a command line. As rsync has it, a colon before any slash stands behind a machine.
@@ -116,7 +117,11 @@ func (p *place) begin(asked options) []string {
 
 // end gives the command of the second look. Whose first looks it comes after is judged by the one who joins all.
 func (p *place) end(asked options) []string {
-	return p.words(nil, append([]string{"part", "--end", "--tokens", "-", "--leave-out", part.Absent}, p.chosen(asked)...), asked)
+	words := []string{"part", "--end", "--tokens", "-", "--leave-out", part.Absent}
+	if asked.hasStill && (p.waits || asked.dryRun) {
+		words = append(words, "--still", strconv.FormatFloat(asked.still, 'f', -1, 64))
+	}
+	return p.words(nil, append(words, p.chosen(asked)...), asked)
 }
 
 // chosen gives the words that say of what a look is.

@@ -121,3 +121,16 @@ func TestAMachineWithoutAColon(t *testing.T) {
 		}
 	}
 }
+
+// How long a second look is to wait is told to a program that knows this, by what it said, and in the commands that are only written. Where nobody
+// asked for a time, none is told.
+func TestHowLongASecondLookWaits(t *testing.T) {
+	for _, one := range []struct{ hasStill, waits, dryRun, told bool }{
+		{true, true, false, true}, {true, false, false, false}, {true, false, true, true}, {false, true, true, false},
+	} {
+		asked := options{still: 2.5, hasStill: one.hasStill, dryRun: one.dryRun}
+		if command := shell.Words((&place{self: "here", waits: one.waits}).end(asked)); strings.Contains(command, " --still 2.5 ") != one.told {
+			t.Errorf("%+v: %s", one, command)
+		}
+	}
+}

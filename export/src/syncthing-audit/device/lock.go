@@ -47,6 +47,16 @@ func IsHeld(dir string) bool {
 	return errors.Is(err, errHeld)
 }
 
+// IsStopped says whether no Syncthing runs on a home's index, as its lock shows. Where the lock can't be tried, that isn't known.
+func IsStopped(dir, data string) bool {
+	lock, err := lockShared(dir, (&Home{Dir: dir, data: data}).database())
+	if err != nil {
+		return false
+	}
+	lock.Close()
+	return true
+}
+
 // CheckRuns refuses a home on whose index no Syncthing runs.
 func CheckRuns(dir, data string) error {
 	home := &Home{Dir: dir, data: data}

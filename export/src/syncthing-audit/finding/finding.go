@@ -183,9 +183,10 @@ func (a *Answer) IsApart(folder *Folder) bool {
 }
 
 // IsPart says whether something of the folder wasn't audited, and nobody chose that: a name, a device, or all other devices. Of one that its
-// device shares with nobody there is no other one, but where others have theirs of the same id. Records on their way weren't audited, either.
+// device shares with nobody there is no other one, but where others have theirs of the same id. Records on their way weren't audited, either, nor was what may change the
+// folder without a record (Unsure).
 func (a *Answer) IsPart(folder *Folder) bool {
-	return a.IsApart(folder) || a.lacksSome(folder) || folder.Live.isOnItsWay() || (!folder.Asked().IsAll() && !a.ByNames)
+	return a.IsApart(folder) || a.lacksSome(folder) || folder.Live.isOnItsWay() || len(folder.Unsure()) > 0 || (!folder.Asked().IsAll() && !a.ByNames)
 }
 
 // IsWhole says whether all names of the folder were audited, on all devices that share it.

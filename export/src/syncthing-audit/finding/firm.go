@@ -32,6 +32,7 @@ const (
 	IsFirm   Firm = "firm"
 	NotFirm  Firm = "not-firm"
 	NotAsked Firm = "not-asked"
+	NotKnown Firm = "not-known" // all have one version, and something that syncaudit isn't told of may change it (Unsure)
 )
 
 // Loose is a name that all devices have alike, and that keeps its folder from being firm.
@@ -67,6 +68,8 @@ func (f *Folder) HowFirm() Firm {
 		return NotAsked
 	case f.Firmness.First != nil:
 		return NotFirm
+	case len(f.Unsure()) > 0:
+		return NotKnown
 	}
 	return IsFirm
 }
@@ -80,6 +83,10 @@ func (a *Answer) HowFirm() Firm {
 			return NotFirm
 		case NotAsked:
 			made = NotAsked
+		case NotKnown:
+			if made == IsFirm {
+				made = NotKnown
+			}
 		}
 	}
 	return made

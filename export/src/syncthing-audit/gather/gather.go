@@ -38,6 +38,7 @@ type Device struct {
 	Pool     *disk.Pool
 	Look     *part.Look // of a device that may run
 	Others   []part.Other
+	Rest     map[string]*part.Rest // of a second look, by folder
 }
 
 // Head gives the head of the device's part.
@@ -46,7 +47,9 @@ func (d *Device) Head() *part.Head {
 		Names: d.Names, Folders: []part.Folder{}, Look: d.Look, Index: d.Index, Newer: d.Newer, ToRepair: d.ToRepair, Others: append([]part.Other{}, d.Others...)}
 	made.Version = made.DueVersion()
 	for _, one := range d.Folders {
-		made.Folders = append(made.Folders, one.Folder())
+		folder := one.Folder()
+		folder.Rest = d.Rest[folder.ID]
+		made.Folders = append(made.Folders, folder)
 	}
 	return made
 }

@@ -86,7 +86,7 @@ func joinFolder(one, other *part.Folder) (*part.Folder, error) {
 		return nil, fmt.Errorf("folder %s: its configuration changed between the two looks: begin again", shell.Folder(one.ID, one.Label))
 	}
 	made := *one
-	made.Max, made.Paused, made.PausedDevices = other.Max, other.Paused, other.PausedDevices
+	made.Max, made.Paused, made.PausedDevices, made.Rest = other.Max, other.Paused, other.PausedDevices, other.Rest
 	made.Views = append([]part.View{}, one.Views...)
 	for _, view := range other.Views {
 		at := slices.IndexFunc(made.Views, func(had part.View) bool { return had.Device == view.Device })

@@ -48,6 +48,7 @@ type Head struct {
 	Index        *Index    `json:"index,omitempty"`
 	Newer        *Newer    `json:"newer_index,omitempty"`
 	ToRepair     bool      `json:"index_to_repair,omitempty"` // Syncthing is to repair the index at its next start
+	Waits        bool      `json:"waits,omitempty"`           // of what a device says before it is looked at: its second look takes --still
 	Others       []Other   `json:"other_folders"`             // rising by id; nothing where an older program made the part, which doesn't say
 }
 
@@ -101,6 +102,7 @@ type Folder struct {
 	PausedDevices      []string  `json:"paused_devices,omitempty"` // others with which it shares the folder, and exchanges nothing
 	Writers            []string  `json:"writers,omitempty"`        // what else of Syncthing writes into its directory, in words
 	Indexed            int64     `json:"indexed,omitempty"`        // how many names the device's own index has, whichever were asked for
+	Rest               *Rest     `json:"rest,omitempty"`           // of a second look; nothing where an older program made it
 }
 
 // Sharing is another device that the folder is shared with, by the device's own configuration.

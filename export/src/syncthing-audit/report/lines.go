@@ -52,6 +52,10 @@ func firm(to io.Writer, folder *finding.Folder) {
 		fmt.Fprintf(to, "firm: %s\n", folder.ID)
 	case finding.NotAsked:
 		fmt.Fprintf(to, "firm wasn't asked: %s\n", folder.ID)
+	case finding.NotKnown:
+		for _, one := range folder.Unsure() {
+			fmt.Fprintf(to, "not known to be firm: %s on %d: %s\n", folder.ID, folder.Members[one.Member].Number, one.Words())
+		}
 	case finding.NotFirm:
 		folder.EachLoose(func(one *finding.Failure) { fmt.Fprintf(to, "not firm: %s\n", ask.Line(folder.ID, one)) })
 	}

@@ -90,6 +90,20 @@ func (s Syncthing) Started() (time.Time, error) {
 	return status.StartTime, nil
 }
 
+// State says what Syncthing does with a folder: 'idle' where it neither scans nor pulls; nothing of a folder that it has paused.
+func (s Syncthing) State(folder string) (string, error) {
+	var status struct {
+		State *string `json:"state"`
+	}
+	if err := s.get("db/status?"+url.Values{"folder": {folder}}.Encode(), &status); err != nil {
+		return "", err
+	}
+	if status.State == nil {
+		return "", errors.New("Syncthing doesn't say what it does there")
+	}
+	return *status.State, nil
+}
+
 // mostOfAnswer is how much is read of an answer.
 const mostOfAnswer = 1 << 20
 

@@ -14,6 +14,7 @@ func (p *printer) rest(s *Summary) {
 	p.line("")
 	for _, folder := range s.Folders {
 		p.moving(folder)
+		p.unsure(folder)
 		p.copies(folder)
 		p.leftOut(folder)
 		p.temporary(folder)
@@ -23,6 +24,7 @@ func (p *printer) rest(s *Summary) {
 	}
 	p.own(s)
 	p.paused(s)
+	p.stopped(s)
 	p.writers(s)
 	p.nearTimes(s)
 	for _, one := range s.LeftOut {

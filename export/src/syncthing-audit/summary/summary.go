@@ -89,8 +89,9 @@ type Folder struct {
 	isApart bool     // whether other devices have theirs of this id, which they share with nobody, too
 	Live    *Live    `json:"live,omitempty"` // of devices that were looked at while they ran
 	Firm    Firm     `json:"firm"`
-	Loose   int64    `json:"names_not_firm"` // that keep a folder in step from being firm
-	NotFirm []Loose  `json:"not_firm"`       // the first of these names
+	Loose   int64    `json:"names_not_firm"`           // that keep a folder in step from being firm
+	NotFirm []Loose  `json:"not_firm"`                 // the first of these names
+	Unsure  []Unsure `json:"not_known_firm,omitempty"` // what may change a folder in step that is otherwise firm
 }
 
 // Member is a device that shares a folder.
@@ -105,6 +106,7 @@ type Member struct {
 	Writers       []string `json:"writers,omitempty"`        // what else of Syncthing writes into the directory
 	Window        int64    `json:"time_window,omitempty"`    // in seconds
 	Near          int64    `json:"near_times,omitempty"`     // files with other times than recorded within that
+	Rest          string   `json:"syncthing_is,omitempty"`   // of two looks: how Syncthing was seen between them
 	Temporary     *Count   `json:"temporary,omitempty"`      // names that Syncthing takes for its temporary files, where there are any
 }
 
@@ -113,6 +115,9 @@ func memberOf(one join.Member) Member {
 	if one.About != nil {
 		made.Path, made.Indexed, made.Paused, made.PausedDevices = one.About.Path, one.About.Indexed, one.About.Paused, one.About.PausedDevices
 		made.Writers, made.Window, made.Near = one.About.Writers, one.About.TimeWindow, one.Near
+		if one.About.Rest != nil {
+			made.Rest = one.About.Rest.State
+		}
 	}
 	if one.Temporary != nil && one.Temporary.Names > 0 {
 		made.Temporary = &Count{one.Temporary.Names, one.Temporary.Bytes}
@@ -254,6 +259,7 @@ func folderOf(answer *finding.Answer, from *finding.Folder, all *folding) *Folde
 	made.Live = liveOf(from)
 	made.Firm = from.HowFirm()
 	made.Loose, made.NotFirm = looseOf(from)
+	made.Unsure = unsureOf(from)
 	return made
 }
 

@@ -47,8 +47,11 @@ func (p *printer) verdict(one *Folder) string {
 	if one.Verdict == AsFar {
 		verdict += " as far as audited"
 	}
-	if one.Firm == finding.NotFirm {
+	switch one.Firm {
+	case finding.NotFirm:
 		verdict += ", not firm"
+	case finding.NotKnown:
+		verdict += ", not known to be firm"
 	}
 	return verdict
 }
