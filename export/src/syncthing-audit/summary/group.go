@@ -34,40 +34,38 @@ type Group struct {
 // canFold are the causes that ask for the same everywhere. What else is wrong is to be looked at file by file.
 var canFold = map[Cause]bool{Behind: true, Missing: true, NotScanned: true, OtherTime: true, NewerKnown: true, OtherBlocks: true, Damaged: true, Differs: true}
 
-// keyOf says with which other names a name may be told; not at all if it is empty.
-func keyOf(file *File) string {
-	if len(file.Faults) == 0 {
-		return fmt.Sprint(Permissions, file.Permissions)
-	}
-	key := string(file.Faults[0].Cause)
-	for _, one := range file.Faults {
-		if one.Cause != file.Faults[0].Cause || !canFold[one.Cause] || one.isTied || len(file.Permissions) > 0 {
-			return ""
-		}
-		key += " " + one.Device
-		if one.Cause == Behind && one.Deletion {
-			key += " deletion"
-		}
-		if one.Cause == NotScanned && file.isOdd {
-			key += " odd"
-		}
-		if one.Cause != Behind {
-			key += fmt.Sprint(" ", one.late, one.isAlone, one.hasNoCopy, one.goesBefore)
-		}
-		if one.isRival {
-			key += " in conflict"
-		}
-		if file.isCopy && (one.isRival || one.late == lateChange || one.Cause == OtherBlocks) {
-			key += " of a conflict copy"
-		}
-		if one.isUntold {
-			key += " untold"
-		}
-		if one.hasDirectory {
-			key += " directory"
+// canBeTold says whether a name may be told with others: where all that is wrong with it asks for the same everywhere.
+func (f *File) canBeTold() bool {
+	for place := range f.Faults {
+		one := &f.Faults[place]
+		if one.Cause != f.Faults[0].Cause || !canFold[one.Cause] || one.isTied || len(f.Permissions) > 0 {
+			return false
 		}
 	}
-	return key + " of " + strings.Join(file.Have, " ") + fmt.Sprint(" before ", file.isOpen, file.firsts, file.mayStay, file.isNeeded, file.stuck, file.blocked, file.localsBelow, file.unseenBelow > 0, file.unseenAbove)
+	return true
+}
+
+// keyOf says with which other names a name may be told: those of which a group tells the very same, its advice too. So whatever advice comes to depend on,
+// a group says of each of its names what is said of that by itself. It is empty for a name that is told by itself.
+func (f *folding) keyOf(file *File) string {
+	if !file.canBeTold() {
+		return ""
+	}
+	key := fmt.Sprint(file.Permissions, file.Have, file.isOfAnotherTime)
+	for place := range file.Faults {
+		one := &file.Faults[place]
+		key += fmt.Sprint(" ", one.Device, one.Cause, one.Kind, one.Deletion, file.losesAt(one))
+	}
+	many := file.asMany()
+	many.others = nil // these aren't all known yet, and are the same for all names
+	return key + strings.Join(adviceOf(many, f.named), "\n")
+}
+
+// asMany gives a name as it is told for many.
+func (f *File) asMany() *File {
+	made := *f
+	made.isMany = true
+	return &made
 }
 
 // shorten keeps of each fault only its device, kind and reasons. It is for a name whose details weren't kept: so it can be
@@ -110,10 +108,10 @@ func (f *folding) take(one *File) {
 	one.noteRivals()
 	one.others = f.to
 	f.to.note(one)
-	key := keyOf(one)
+	key := f.keyOf(one)
 	if !one.hasDetails && (key == "" || f.alike[key] == nil && len(f.alike) >= mostKinds) {
 		one.shorten()
-		key = keyOf(one)
+		key = f.keyOf(one)
 	}
 	if key == "" {
 		f.alone = append(f.alone, one)
@@ -161,17 +159,15 @@ func (f *folding) end() ([]*File, []*Group) {
 // groupOf tells names as one.
 func (a *alike) groupOf(named labels) *Group {
 	first := a.first[0]
-	same := &File{Faults: withoutDetails(first.Faults), Have: first.Have, Permissions: first.Permissions, isMany: true, areWide: first.areWide, isOwn: first.isOwn, isOdd: first.isOdd, isCopy: first.isCopy, rivals: first.rivals, receivers: first.receivers, sharers: first.sharers,
-		firsts: first.firsts, isOpen: first.isOpen, mayStay: first.mayStay, stuck: first.stuck, isNeeded: first.isNeeded, blocked: first.blocked, localsBelow: first.localsBelow,
-		unseenBelow: first.unseenBelow, unseenAbove: first.unseenAbove, isOfSum: first.isOfSum, others: first.others}
+	many := first.asMany()
 	made := a.group
 	made.Cause, made.Devices, made.First, made.Have, made.Modes = Permissions, []string{}, []Text{}, first.Have, first.Permissions
-	made.Advice = adviceOf(same, named)
+	made.Advice = adviceOf(many, named)
 	if len(first.Faults) > 0 {
 		made.Cause = first.Faults[0].Cause
 		made.Deleted = made.Cause == Behind && first.Faults[0].Deletion
 	}
-	made.of, made.isOfAnotherTime = same, first.isOfAnotherTime
+	made.of, made.isOfAnotherTime = many, first.isOfAnotherTime
 	for _, one := range first.Faults {
 		made.Devices = append(made.Devices, one.Device)
 	}
@@ -179,16 +175,6 @@ func (a *alike) groupOf(named labels) *Group {
 		made.First = append(made.First, one.Name)
 	}
 	return &made
-}
-
-// withoutDetails gives faults as they are of all names alike.
-func withoutDetails(faults []Fault) []Fault {
-	made := []Fault{}
-	for _, one := range faults {
-		made = append(made, Fault{Device: one.Device, Cause: one.Cause, Kind: one.Kind, Deletion: one.Deletion, isWide: one.isWide, late: one.late,
-			isAlone: one.isAlone, goesBefore: one.goesBefore, isRival: one.isRival, hasNoCopy: one.hasNoCopy, isUntold: one.isUntold, hasDirectory: one.hasDirectory})
-	}
-	return made
 }
 
 // modesOf gives the permissions of a name.
