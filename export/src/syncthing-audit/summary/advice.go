@@ -18,6 +18,13 @@ func (l labels) of(id string) string {
 	return id
 }
 
+// rising gives devices in the order of their names.
+func (l labels) rising(ids []string) []string {
+	made := append([]string{}, ids...)
+	sort.SliceStable(made, func(a, b int) bool { return l.of(made[a]) < l.of(made[b]) })
+	return made
+}
+
 // all gives several names, rising.
 func (l labels) all(ids []string) string {
 	names := []string{}

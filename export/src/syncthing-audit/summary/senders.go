@@ -167,7 +167,7 @@ const sendsAll = " (that sends all local changes of the folder, deletions too: p
 // first makes a copy of it, once the other change comes.
 func (f *File) keepOwn(isAlone func(device string) bool, named labels) string {
 	told := ""
-	for _, one := range f.sharers.keepers("") {
+	for _, one := range named.rising(f.sharers.keepers("")) {
 		told += ". " + named.of(one) + " only sends: it keeps what stands there in any case"
 		switch isFirst := slices.Contains(f.firsts, one); {
 		case isAlone(one) && f.isOpen:
