@@ -106,6 +106,7 @@ func isSame(disk *part.Node, due *part.Record) bool {
 // symlink has no time, so it goes behind whatever has one. At equal times it keeps what the first devices have: their version goes before the other.
 func (f *File) conflicting(hasNoCopy bool, firsts []string, named labels) string {
 	told, why := f.keeping(firsts, named)
+	hasNoCopy = hasNoCopy || f.mayLackCopy()
 	if hasNoCopy {
 		why = append(why, "a symlink counts as of 1970")
 	}
@@ -117,6 +118,15 @@ func (f *File) conflicting(hasNoCopy bool, firsts []string, named labels) string
 		return told + f.copied(copied+" only if "+f.say("it is a file", "they are files")) + ". It puts nothing in place of " + fullDirectory
 	}
 	return told + f.copied(copied)
+}
+
+// mayLackCopy says whether Syncthing may keep no copy of one of the changes that are in conflict. Each advice of the name then says so: more than two
+// changes may be in conflict, and each of them is that with all others.
+func (f *File) mayLackCopy() bool {
+	return slices.IndexFunc(f.Faults, func(one Fault) bool {
+		isInConflict := one.isRival || one.Cause == Conflicting && !one.Deletion || one.late == lateChange && one.isRecordedByScan()
+		return one.hasNoCopy && isInConflict
+	}) >= 0
 }
 
 // keeping says which one Syncthing keeps of several changes, and why.
