@@ -7,7 +7,7 @@
 import os
 
 from exporting import main
-from late_rot import LateRot
+from late_rot import KEPT, LOST, LateRot
 from rot import text_of
 from syncthing import wait_until
 
@@ -130,6 +130,92 @@ class MissingAndDeleted(LateRot):
         wait_until("both devices are in step", lambda: self.one.is_in_step_with(self.two) and self.two.is_in_step_with(self.one))
         self.stop()
         self.assertEqual(self.verdict(), "settled")
+
+
+class RotThatIsRenamed(LateRot):
+    """Files rot on the second device, which is off. The first one renames them."""
+
+    @classmethod
+    def synchronise(cls):
+        for name in (KEPT, LOST):
+            (cls.one.files / name).write_text("binary " + name)
+        cls.scan_and_wait()
+
+    def test_its_bytes_are_moved_but_where_they_were_moved_away(self):
+        for name in (KEPT, LOST):
+            self.rot(name)
+            (self.one.files / name).rename(self.one.files / ("new-" + name))
+        self.one.start()
+        self.one.scan()
+        self.one.stop()
+        two = self.label(self.two)
+        for name in (KEPT, LOST):
+            entry, first = self.entry(name)
+            self.assertIn(f"to do: before Syncthing starts there, move it out of the folder on {two} while Syncthing is stopped there: others deleted it, and Syncthing takes "
+                          "that for a rename: it moves these bytes to the new name, and takes them for the right ones", entry)
+            self.assertNotIn("are gone", entry)
+            self.assertTrue(first.startswith(two))
+        (self.two.files / KEPT).rename(self.room / KEPT)
+        self.start()
+        wait_until("the second device has both new names", lambda: all(text_of(self.two.files / ("new-" + name)) for name in (KEPT, LOST)))
+        wait_until("both devices are in step", lambda: self.one.is_in_step_with(self.two) and self.two.is_in_step_with(self.one))
+        self.stop()
+        self.assertEqual([text_of(self.two.files / ("new-" + name)) for name in (KEPT, LOST)], ["binary " + KEPT, "rotten " + LOST])
+        self.assertEqual([text_of(self.one.files / ("new-" + name)) for name in (KEPT, LOST)], ["binary " + KEPT, "binary " + LOST])
+        self.assertEqual(self.verdict(), self.fault("StoreDiffers", "new-" + LOST, self.two))
+
+
+class RotThatAnOldDeviceFetches(LateRot):
+    """Files rot on the second device, and the first one changes them. A third device was off, and has an older change of its own."""
+
+    names = ("one", "two", "three")
+
+    @classmethod
+    def put(cls, device, words, seconds):
+        """Writes the files on a device, modified so many seconds from a moment."""
+        for name in (KEPT, LOST):
+            (device.files / name).write_text(words + name)
+            os.utime(device.files / name, (1700000000 + seconds,) * 2)
+
+    @classmethod
+    def record(cls, device, words, seconds):
+        """Has a device record a change while the others are off."""
+        cls.put(device, words, seconds)
+        device.start()
+        device.scan()
+        device.stop()
+
+    @classmethod
+    def synchronise(cls):
+        cls.three = cls.devices[2]
+        cls.put(cls.one, "oldest ", -3000)
+        cls.scan_and_wait()
+        cls.three.stop()
+        cls.put(cls.one, "binary ", 0)
+        cls.one.scan()
+        wait_until("the second device has the files", lambda: text_of(cls.two.files / LOST) == "binary " + LOST and cls.one.is_in_step_with(cls.two))
+
+    def test_its_bytes_go_to_all_but_where_they_were_mended(self):
+        for name in (KEPT, LOST):
+            self.rot(name)
+        self.record(self.one, "changed ", -1000)
+        self.record(self.three, "an older ", -2000)
+        one, two = self.label(self.one), self.label(self.two)
+        for name in (KEPT, LOST):
+            entry, first = self.entry(name)
+            self.assertIn(f"to do: these bytes may go to all: if another device takes it from {two} before {two} has what is newest, they become a change, in conflict with "
+                          f"what the others have. So before Syncthing starts there, keep a copy elsewhere of what {one} has, and copy it from {one} to {two} as it is (cp -a,", entry)
+            self.assertNotIn("are gone", entry)
+            self.assertTrue(first.startswith(two))
+        self.mend(KEPT, "-a")
+        for device in (self.two, self.three):
+            device.start()
+        wait_until("the third device has taken both", lambda: text_of(self.three.files / LOST) == "rotten " + LOST and text_of(self.three.files / KEPT) == "changed " + KEPT)
+        self.one.start()
+        wait_until("the rotten bytes are on all devices", lambda: text_of(self.one.files / LOST) == "rotten " + LOST)
+        self.stop()
+        for device in self.devices:
+            self.assertEqual(text_of(device.files / KEPT), "changed " + KEPT)
 
 
 if __name__ == "__main__":

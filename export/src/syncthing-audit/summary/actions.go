@@ -71,7 +71,7 @@ func (f *File) losesAt(one *Fault) bool {
 		return !one.isGoneElsewhere(f) && (one.late != lateChange || one.isAlone)
 	case one.Cause == OtherBytes:
 		lack := f.lackOn(one.Device)
-		return one.isSeen || one.isFetched || one.mayShow() || lack != nil && lack.Cause == Conflicting
+		return one.isSeen || one.isFetched || one.mayShow() || one.isAsked || one.mayMove || lack != nil && lack.Cause == Conflicting
 	}
 	return one.Cause == Back || one.Cause == Damaged || one.isDamagedChange()
 }

@@ -65,6 +65,11 @@ type Fault struct {
 	firsts       []string // of LocalChange: the devices whose change goes first of those of one time, once that one is sent, too
 	// Another device has to take the file, and may fetch it from there.
 	isFetched bool
+	// Of other bytes: another device may fetch these before this one takes what is newest; what is newest has the recorded bytes, too.
+	isAsked, isLeft bool
+	// Syncthing may move the other bytes to another name that comes; that name, where it is known.
+	mayMove bool
+	movesTo comer
 	// A scan of another device records another change there, of which neither's record knows.
 	isRival bool
 	// What is in conflict isn't a file on each side, so Syncthing may keep no copy of it.

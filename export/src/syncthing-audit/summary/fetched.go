@@ -4,6 +4,7 @@ import (
 	"golang.org/x/exp/slices"
 	"syncthing-audit/finding"
 	"syncthing-audit/join"
+	"syncthing-audit/part"
 )
 
 // noteFetched notes which other bytes another device may fetch, since it has still to take the file. Syncthing compares each block that it
@@ -17,6 +18,29 @@ func (f *File) noteFetched() {
 		}
 		for _, other := range f.Faults {
 			one.isFetched = one.isFetched || other.Device != one.Device && other.fetches() && !other.isDue
+		}
+	}
+}
+
+// noteAsked notes which other bytes another device may fetch though theirs has still to take what is newest: it may hear of that later. What other devices
+// have in conflict makes it uncertain, too, what comes first.
+func (f *File) noteAsked(folder *finding.Folder, row *join.Row) {
+	if row == nil {
+		return
+	}
+	for place := range f.Faults {
+		one := &f.Faults[place]
+		lack := f.lackOn(one.Device)
+		if one.Cause != OtherBytes || one.Kind == receiveOnly || lack == nil || lack.Cause != Behind {
+			continue
+		}
+		one.isAsked = f.sharers.hasOthers(one.Device) || slices.IndexFunc(f.Faults, func(other Fault) bool {
+			return other.Device != one.Device && other.Cause == Conflicting
+		}) >= 0
+		own := slices.IndexFunc(folder.Members, func(member join.Member) bool { return member.Head.Device == one.Device })
+		for member, at := range row.At {
+			isBelow := row.At[own] == nil || at == nil || at.Own == nil || !part.IsAtMost(row.At[own].Own.Version, at.Own.Version)
+			one.isAsked = one.isAsked || member != own && kindOf(folder.Members[member]) != sendOnly && isBelow
 		}
 	}
 }

@@ -96,6 +96,7 @@ func fileOf(folder *finding.Folder, told *finding.Told) *File {
 		made.addDamage(folder, told.Damaged)
 	}
 	made.noteFetched()
+	made.noteAsked(folder, row)
 	if told.Permissions != nil {
 		made.Permissions = modesOf(folder, told.Permissions)
 	}
@@ -321,6 +322,7 @@ func (r *reader) add(member int, cause Cause) {
 		made.Recorded, made.Found = recorded(at.Own), found(at.Disk)
 		if cause == OtherBytes || cause == Changed {
 			made.Blocks, made.damage = blocksOf(at), looksDamaged(at)
+			made.isLeft = cause == OtherBytes && hasBytesOf(at.Own, r.winner)
 		}
 		if at.Disk != nil {
 			made.contents = at.Disk.Contents

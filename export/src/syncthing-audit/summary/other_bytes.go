@@ -45,6 +45,8 @@ func whenToMend(one *Fault, file *File, at string, named labels) string {
 		return "before Syncthing scans there (the scan takes these bytes for a local change), "
 	case one.isSeen:
 		return "before Syncthing scans there (the scan " + file.spread("sends these bytes "+file.toAll(one.Device, named), "records these bytes") + "), "
+	case one.mayMove:
+		return "before Syncthing starts there (a scan of another device finds " + it + " missing, and " + file.whyMoved(one) + "), "
 	case one.isFetched:
 		return "before Syncthing starts there (another device may fetch " + it + " from " + at + ", and then these bytes " +
 			file.asChange(one, "go "+file.toAll(one.Device, named), "are a change", named) + "), "
@@ -67,7 +69,7 @@ func whenToMend(one *Fault, file *File, at string, named labels) string {
 // lateBytesAdvice says what to do about other bytes on a device that has still to take what others have of the file. Syncthing looks at a file
 // before it replaces it: where size, time and mode are as recorded, it takes the bytes for those that it recorded.
 func lateBytesAdvice(one, lack *Fault, file *File, at string, named labels) string {
-	isShown := one.isSeen || one.mayShow()
+	isShown, it := one.isSeen || one.mayShow(), file.say("it", "them")
 	switch {
 	case lack.Cause == Conflicting:
 		told := "before Syncthing starts there, put the bytes back that " + at + " recorded, from old versions or backups"
@@ -78,6 +80,14 @@ func lateBytesAdvice(one, lack *Fault, file *File, at string, named labels) stri
 	case !isShown && one.Kind == sendOnly:
 		return "don't 'Override Changes' on " + at + " before the bytes that it recorded are back there, from old versions or backups: it would " +
 			"send these other bytes " + file.toAll(one.Device, named)
+	case !isShown && lack.Deletion && one.mayMove:
+		return "before Syncthing starts there, move " + it + " out of the folder on " + at + " while Syncthing is stopped there: others deleted " + it + ", and " +
+			file.whyMoved(one)
+	case !isShown && one.isAsked:
+		return askedBytesAdvice(one, lack, file, at, named)
+	case !isShown && one.isLeft:
+		return "the newest record has the recorded bytes, too, so Syncthing takes its time and mode alone, and leaves the bytes that stand there. Before that, " +
+			copying(one, file, named, toNothing)
 	case !isShown:
 		return "once " + at + " takes what is newest, these bytes are gone, without a conflict copy: copy elsewhere first what is to stay"
 	}
@@ -86,6 +96,20 @@ func lateBytesAdvice(one, lack *Fault, file *File, at string, named labels) stri
 		return told + "delete " + file.say("it", "them") + " there while Syncthing is stopped"
 	}
 	return told + copying(one, file, named, toNothing) // so its mode is the one that is due, too
+}
+
+// askedBytesAdvice says what to do about such bytes that another device may fetch first: they become a change then.
+func askedBytesAdvice(one, lack *Fault, file *File, at string, named labels) string {
+	it := file.say("it", "them")
+	told := "these bytes may go to all: if another device takes " + it + " from " + at + " before " + at + " has what is newest, they become a change, "
+	if lack.Deletion {
+		return told + "which goes before the deletion. So before Syncthing starts there, move " + it + " out of the folder on " + at + " while Syncthing is stopped there"
+	}
+	told += "in conflict with what the others have. So before Syncthing starts there, "
+	if len(file.Have) > 0 {
+		told += "keep a copy elsewhere of what " + named.of(file.sourceFor(one)) + " has, and "
+	}
+	return told + copying(one, file, named, toNothing)
 }
 
 // whatAScanTakes says for what a scan takes other bytes on a device that is behind with the file.

@@ -41,6 +41,11 @@ func (s *sharers) add(one join.Member) {
 	}
 }
 
+// hasOthers says whether a device shares the folder with others than the audited ones.
+func (s *sharers) hasOthers(device string) bool {
+	return s != nil && slices.IndexFunc(s.peers[device], func(other string) bool { return !slices.Contains(s.ids, other) }) >= 0
+}
+
 // keepers gives the devices that take nothing of what this one changes, since they only send.
 func (s *sharers) keepers(from string) []string {
 	made := []string{}

@@ -239,12 +239,13 @@ func folderOf(answer *finding.Answer, from *finding.Folder, all *folding) *Folde
 	for _, one := range from.Members {
 		made.Devices = append(made.Devices, memberOf(one))
 	}
-	below, unseen, locals := keptBelow(from), unseenOf(from), localsBelow(from)
+	below, unseen, locals, coming := keptBelow(from), unseenOf(from), localsBelow(from), comersOf(from)
 	from.EachName(func(told *finding.Told) {
 		one := fileOf(from, told)
 		one.isOfSum = answer.IsSum
 		one.noteStuck(from, below)
 		one.noteBlocked(from)
+		one.noteMoved(from, from.Rows[told.Name], coming)
 		one.noteUnseen(unseen)
 		one.localsBelow = locals[string(one.Name)]
 		all.take(one)
