@@ -5,6 +5,7 @@ written by Syncthing's own packages, and no device runs.
     export/test/manners.py
 """
 
+import gzip
 import os
 import pty
 import shutil
@@ -114,6 +115,38 @@ class Manners(unittest.TestCase):
             self.assertEqual(process.wait(SECONDS_TO_WAIT), 128 + number)
             self.assertEqual((list(into.iterdir()), list(self.temporary.glob("syncthing-audit-*"))), ([], []))
             into.rmdir()
+
+    @unittest.skipUnless(os.geteuid() == 0, "this isn't root")
+    def test_root_becomes_the_user_whose_home_it_reads(self):
+        """What that user can't read isn't hashed, and no symlink of his leads root's output elsewhere."""
+        nobody = 65534
+        room = Path(tempfile.mkdtemp(prefix="syncthing-audit-test-"))
+        self.addCleanup(shutil.rmtree, room)
+        run([self.program.parent / "sample", "--files", "5", "--bytes", "100", room], check=True)
+        secret = room / "device1" / "files" / "secret"
+        secret.write_text("of root")
+        secret.chmod(0o600)
+        for path in (room, *room.rglob("*")):
+            if path != secret:
+                os.chown(path, nobody, nobody)
+        output, link = room / "asked.part", room / "link.part"
+        link.symlink_to(room / "elsewhere.part")
+        os.lchown(link, nobody, nobody)
+        words = [self.program, "part", "--home", room / "device1" / "home", "-o"]
+        environment = {**os.environ, "TMPDIR": str(room)}
+        ran = run([*words, output], env=environment)
+        self.assertEqual((ran.returncode, output.stat().st_uid), (0, nobody), ran.stderr)
+        with gzip.open(output, "rt") as part:
+            of_secret = [line for line in part if '"secret"' in line]
+        self.assertEqual(len(of_secret), 1)
+        self.assertIn("it can't be read: open", of_secret[0])
+        for path in room.rglob("device2/home"):
+            os.chown(path, nobody - 1, nobody)
+        ran = run([self.program, "check", "--home", room / "device1" / "home", "--home", room / "device2" / "home"], env=environment)
+        self.assertEqual((ran.returncode, "are of two users" in ran.stderr), (2, True), ran.stderr)
+        ran = run([self.program, "part", "--home", self.homes[0], "-o", link], env=environment)
+        self.assertEqual((ran.returncode, (room / "elsewhere.part").exists()), (2, False), ran.stderr)
+        self.assertIn("is a symlink of another user, which root doesn't follow", ran.stderr)
 
     def test_what_a_killed_run_leaves_the_next_one_takes_away(self):
         """No part is there, and the copy of the index goes once another part is made. One that another run reads stays."""

@@ -197,7 +197,7 @@ func readOptions(name string, words []string, flagsOf func(*flag.FlagSet, *optio
 	if read.jobs < 1 {
 		return options{}, &wrongUsage{"--jobs is at least 1"}
 	}
-	return read, nil
+	return read, becomeOwner(read.homes)
 }
 
 // flagOfGo is a flag as Go's package names it: with one dash, however it was written.

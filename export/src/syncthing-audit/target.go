@@ -6,6 +6,8 @@ import (
 	"io"
 	"os"
 	"path/filepath"
+	"strings"
+	"syscall"
 
 	"syncthing-audit/leftover"
 	"syncthing-audit/shell"
@@ -23,6 +25,11 @@ type target struct {
 
 // targetOf finds what a path names. A symlink stays, and what it points to is written.
 func targetOf(path string) (*target, error) {
+	if os.Geteuid() == 0 {
+		if link := linkOfOthers(path); link != "" {
+			return nil, refusedTarget(link, "is a symlink of another user, which root doesn't follow: name the file itself")
+		}
+	}
 	about, err := os.Stat(path)
 	if os.IsNotExist(err) {
 		return targetOfNothing(path)
@@ -40,6 +47,25 @@ func targetOf(path string) (*target, error) {
 	}
 	real, err := filepath.EvalSymlinks(path)
 	return &target{real, false}, err
+}
+
+// linkOfOthers gives the first symlink on a path that isn't root's; nothing where there is none.
+func linkOfOthers(path string) string {
+	at := ""
+	if filepath.IsAbs(path) {
+		at = "/"
+	}
+	for _, one := range strings.Split(path, "/") {
+		at = filepath.Join(at, one)
+		about, err := os.Lstat(at)
+		if err != nil {
+			continue
+		}
+		if owner, is := about.Sys().(*syscall.Stat_t); is && about.Mode()&os.ModeSymlink != 0 && owner.Uid != 0 {
+			return at
+		}
+	}
+	return ""
 }
 
 // targetOfNothing is for a path at which nothing is, or a symlink to nothing.

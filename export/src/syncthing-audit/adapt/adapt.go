@@ -10,19 +10,19 @@ import (
 )
 
 // Filesystem gives a folder's files by the configuration's own method, with their times as Syncthing sees them where the
-// folder's index is given. 1.29 takes the index by itself; 1.19 lays it over.
+// folder's index is given, and none of other directories. 1.29 takes the index by itself; 1.19 lays it over.
 func Filesystem[Method func() fs.Filesystem | func(*db.FileSet) fs.Filesystem](method Method, index *db.FileSet) fs.Filesystem {
 	switch open := any(method).(type) {
 	case func(*db.FileSet) fs.Filesystem:
 		if index != nil {
-			return &timed{open(index), open(nil)}
+			return &timed{open(index), NewBeneath(open(nil))}
 		}
 		return open(nil)
 	case func() fs.Filesystem:
 		if index != nil {
 			return &timed{any(index).(interface {
 				MtimeFS(fs.Filesystem) fs.Filesystem
-			}).MtimeFS(open()), open()}
+			}).MtimeFS(open()), NewBeneath(open())}
 		}
 		return open()
 	}

@@ -1,6 +1,7 @@
 package adapt
 
 import (
+	"os"
 	"time"
 
 	"github.com/syncthing/syncthing/lib/fs"
@@ -9,9 +10,18 @@ import (
 // timed are files with their times as an index has them, where their disk can't keep these. 1.19 finds them there only in the time zone in
 // which it kept them, and 1.29 in each one. Here they are found in each one, whichever it is built with.
 type timed struct {
-	fs.Filesystem               // with times by the index
-	plain         fs.Filesystem // with those of the disk
+	fs.Filesystem          // with times by the index
+	plain         *Beneath // with those of the disk
 }
+
+// DirNames gives the names in a directory.
+func (t *timed) DirNames(name string) ([]string, error) { return t.plain.DirNames(name) }
+
+// ReadSymlink gives a symlink's target.
+func (t *timed) ReadSymlink(name string) (string, error) { return t.plain.ReadSymlink(name) }
+
+// Info gives what the system says of a name.
+func (t *timed) Info(name string) (os.FileInfo, error) { return t.plain.Info(name) }
 
 // Lstat says what stands under a name.
 func (t *timed) Lstat(name string) (fs.FileInfo, error) {

@@ -3,6 +3,7 @@ package disk
 
 import (
 	"fmt"
+	"os"
 	"path"
 	"path/filepath"
 	"sort"
@@ -144,13 +145,28 @@ func (w *Walker) found(name string, info fs.FileInfo) Found {
 		return out(part.Special, "it is no file, directory or symlink")
 	}
 	if w.Stamps || info.IsRegular() {
-		made.Stamp = Stamp(w.PathOf(name))
+		made.Stamp = w.StampOf(name)
 	}
 	if w.Stamps {
 		node.Stamp = made.Stamp
 	}
 	made.Node = node
 	return made
+}
+
+// StampOf gives the stamp of what stands under a name. No directory that was swapped for a symlink leads to that of something else.
+func (w *Walker) StampOf(name string) string {
+	beneath, is := w.Disk.(interface {
+		Info(name string) (os.FileInfo, error)
+	})
+	if !is {
+		return Stamp(w.PathOf(name))
+	}
+	about, err := beneath.Info(name)
+	if err != nil {
+		return ""
+	}
+	return stampOf(about)
 }
 
 // PathOf gives the path of a name.

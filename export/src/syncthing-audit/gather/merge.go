@@ -137,7 +137,7 @@ func (m *merge) put(name string) bool {
 		}
 	}
 	if m.device.Look != nil {
-		line.Receiving = disk.Stamp(m.walker.PathOf(fs.TempName(name)))
+		line.Receiving = m.walker.StampOf(fs.TempName(name))
 	}
 	if m.isIgnored(name, line.Own) {
 		line.Out = append(line.Out, ignored(line))
