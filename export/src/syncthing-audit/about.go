@@ -9,6 +9,7 @@ import (
 	"github.com/syncthing/syncthing/lib/config"
 	"syncthing-audit/device"
 	"syncthing-audit/join"
+	"syncthing-audit/outside"
 	"syncthing-audit/part"
 	"syncthing-audit/shell"
 )
@@ -44,7 +45,7 @@ func tellAbout(asked options, write writing, log io.Writer) error {
 			return err
 		}
 	}
-	return write(func(to io.Writer) error { return json.NewEncoder(to).Encode(aboutOf(home, asked.folders)) })
+	return write(func(to io.Writer) error { return outside.PrintJSON(to, aboutOf(home, asked.folders)) })
 }
 
 // aboutOf gives the head of a device's part, as far as its configuration says it.

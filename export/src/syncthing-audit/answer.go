@@ -8,6 +8,7 @@ import (
 	"time"
 
 	"syncthing-audit/finding"
+	"syncthing-audit/outside"
 	"syncthing-audit/report"
 	"syncthing-audit/summary"
 )
@@ -47,6 +48,6 @@ func tell(output, log io.Writer, asked options, answer *finding.Answer) (int, er
 	if err != nil {
 		return 0, fmt.Errorf("the answer can't be written: %w", err)
 	}
-	fmt.Fprint(log, meaningOf(answer))
+	outside.Print(log, meaningOf(answer))
 	return statusOfAnswer(answer), nil
 }

@@ -9,6 +9,7 @@ import (
 
 	"syncthing-audit/audit"
 	"syncthing-audit/join"
+	"syncthing-audit/outside"
 	"syncthing-audit/report"
 )
 
@@ -22,7 +23,7 @@ func (r *running) ask() error {
 	devices := []*join.Device{}
 	for at, one := range r.places {
 		if one.isOlder {
-			fmt.Fprintf(r.log, "syncthing-audit: %s: the syncthing-audit there is older, and doesn't say what is shared before it hashes: "+
+			outside.Printf(r.log, "syncthing-audit: %s: the syncthing-audit there is older, and doesn't say what is shared before it hashes: "+
 				"whether all devices are named is seen after that\n", one.called())
 			return nil
 		}

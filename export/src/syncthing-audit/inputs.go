@@ -13,6 +13,7 @@ import (
 	"syncthing-audit/finding"
 	"syncthing-audit/gather"
 	"syncthing-audit/join"
+	"syncthing-audit/outside"
 	"syncthing-audit/report"
 	"syncthing-audit/shell"
 )
@@ -195,6 +196,6 @@ func (i *inputs) deviceOf(home *device.Home, asked options) (*gather.Device, err
 // tellDevices tells whose homes and parts these are.
 func tellDevices(log io.Writer, devices []*join.Device) {
 	for _, one := range devices {
-		fmt.Fprintf(log, "syncthing-audit: device %d is %s (%s)\n", one.Number, one.Head.Device, one.From)
+		outside.Printf(log, "syncthing-audit: device %d is %s (%s)\n", one.Number, one.Head.Device, one.From)
 	}
 }

@@ -17,6 +17,7 @@ import (
 	"syncthing-audit/gather"
 	"syncthing-audit/leftover"
 	"syncthing-audit/looks"
+	"syncthing-audit/outside"
 	"syncthing-audit/part"
 	"syncthing-audit/rest"
 )
@@ -69,13 +70,12 @@ func beginPart(asked options, write writing, output, log io.Writer) error {
 	if err != nil {
 		return err
 	}
-	fmt.Fprintf(log, lineOfAge, time.Since(over).Seconds())
+	outside.Printf(log, lineOfAge, time.Since(over).Seconds())
 	token := looks.Token(from.read.ID, from.read.Look.ID)
 	if asked.isStandard {
 		output = log
 	}
-	_, err = fmt.Fprintln(faulty{output}, token)
-	return err
+	return outside.Println(faulty{output}, token)
 }
 
 // openLive opens the home of a device that may run, by the index that its Syncthing writes to, and has it scan first where that is asked for.
@@ -134,7 +134,7 @@ func findIndex(asked options, log io.Writer) (bool, error) {
 func isWrittenTo(home string, about config.GUIConfiguration, log io.Writer) (isOwn, isKnown bool) {
 	started, err := rest.Syncthing{Home: home, GUI: about}.Started()
 	if errors.Is(err, rest.ErrStranger) {
-		fmt.Fprintf(log, "syncthing-audit: %s: Syncthing can't be asked when it was started: %v\n", home, err)
+		outside.Printf(log, "syncthing-audit: %s: Syncthing can't be asked when it was started: %v\n", home, err)
 	}
 	if err != nil {
 		return false, false
@@ -146,7 +146,7 @@ func isWrittenTo(home string, about config.GUIConfiguration, log io.Writer) (isO
 func askedWhere(home string, about config.GUIConfiguration, log io.Writer) string {
 	data, err := rest.Syncthing{Home: home, GUI: about}.DataDirectory()
 	if err != nil {
-		fmt.Fprintf(log, "syncthing-audit: Syncthing can't be asked where its database is: %v\n", err)
+		outside.Printf(log, "syncthing-audit: Syncthing can't be asked where its database is: %v\n", err)
 	}
 	return data
 }
@@ -166,7 +166,7 @@ func heedInput(log io.Writer) {
 	signal.Ignore(syscall.SIGPIPE)
 	go func() {
 		io.Copy(io.Discard, os.Stdin)
-		fmt.Fprintln(log, "syncthing-audit: standard input ended, so nobody waits for this look any more")
+		outside.Print(log, "syncthing-audit: standard input ended, so nobody waits for this look any more\n")
 		leftover.End(syscall.SIGHUP)
 	}()
 }

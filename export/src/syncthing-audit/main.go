@@ -10,6 +10,7 @@ import (
 
 	"syncthing-audit/ask"
 	"syncthing-audit/leftover"
+	"syncthing-audit/outside"
 )
 
 // Exit statuses; syncaudit's own are the same as far as it has them.
@@ -35,7 +36,7 @@ func main() {
 	leftover.WatchSignals()
 	output, err := takeStandardOutput()
 	if err != nil {
-		fmt.Fprintln(os.Stderr, "syncthing-audit: there is no standard output:", err)
+		outside.Printf(os.Stderr, "syncthing-audit: there is no standard output: %v\n", err)
 		os.Exit(statusFault)
 	}
 	os.Exit(run(os.Args[1:], output, os.Stderr))
@@ -86,10 +87,10 @@ func statusOf(err error, output, log io.Writer) int {
 	case errors.Is(err, errHelp):
 		return statusOfText(usage, output, log)
 	case errors.As(err, &wrong):
-		fmt.Fprintf(log, "syncthing-audit: %v\n'syncthing-audit --help' tells how to use it\n", err)
+		outside.Printf(log, "syncthing-audit: %v\n'syncthing-audit --help' tells how to use it\n", err)
 		return statusUsage
 	case !errors.Is(err, errTold):
-		fmt.Fprintln(log, "syncthing-audit:", err)
+		outside.Printf(log, "syncthing-audit: %v\n", err)
 	}
 	switch {
 	case errors.As(err, &failed):
@@ -102,7 +103,7 @@ func statusOf(err error, output, log io.Writer) int {
 
 // statusOfText writes a text that was asked for, and gives the exit status.
 func statusOfText(text string, output, log io.Writer) int {
-	if _, err := io.WriteString(faulty{output}, text); err != nil {
+	if err := outside.Print(faulty{output}, text); err != nil {
 		return statusOf(err, output, log)
 	}
 	return statusDone

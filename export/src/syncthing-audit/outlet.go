@@ -11,6 +11,7 @@ import (
 	"syncthing-audit/document"
 	"syncthing-audit/finding"
 	"syncthing-audit/leftover"
+	"syncthing-audit/outside"
 	"syncthing-audit/shell"
 )
 
@@ -86,7 +87,7 @@ func (o *outlet) end(answer *finding.Answer, log io.Writer) error {
 		return err
 	}
 	leftover.Keep(o.files)
-	fmt.Fprintf(log, "syncthing-audit: %s in %s\n", countOf(o.count, "document"), o.directory)
+	outside.Printf(log, "syncthing-audit: %s in %s\n", countOf(o.count, "document"), o.directory)
 	return nil
 }
 

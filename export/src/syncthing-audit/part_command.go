@@ -12,6 +12,7 @@ import (
 	"syncthing-audit/disk"
 	"syncthing-audit/gather"
 	"syncthing-audit/join"
+	"syncthing-audit/outside"
 	"syncthing-audit/part"
 	"syncthing-audit/shell"
 )
@@ -82,7 +83,7 @@ func onePart(asked options, write writing, log io.Writer) error {
 	from.tellDoubts(log)
 	for _, one := range from.read.Others {
 		if len(asked.folders) == 0 {
-			fmt.Fprintf(log, "syncthing-audit: the part is without folder %s: %s\n", shell.Folder(one.ID, one.Label), join.WhyAway(one))
+			outside.Printf(log, "syncthing-audit: the part is without folder %s: %s\n", shell.Folder(one.ID, one.Label), join.WhyAway(one))
 		}
 	}
 	defer from.startProgress(log, asked)()
@@ -99,7 +100,7 @@ type source struct {
 // tellDoubts says what may be amiss with the index.
 func (s *source) tellDoubts(log io.Writer) {
 	for _, why := range s.home.Doubts() {
-		fmt.Fprintf(log, "syncthing-audit: %s\n", why)
+		outside.Printf(log, "syncthing-audit: %s\n", why)
 	}
 }
 
@@ -152,7 +153,7 @@ func checkFolders(home *device.Home, wanted []string, log io.Writer) error {
 		return fmt.Errorf("refused: %s", strings.Join(lacking, "; "))
 	}
 	for _, why := range lacking {
-		fmt.Fprintf(log, "syncthing-audit: %s. The part is without it\n", why)
+		outside.Printf(log, "syncthing-audit: %s. The part is without it\n", why)
 	}
 	return nil
 }
@@ -200,10 +201,10 @@ func writeLines(to, log io.Writer, read *gather.Device, through func(part.Sink) 
 		return err
 	}
 	if names == 0 && !read.Names.IsAll() {
-		fmt.Fprintf(log, "syncthing-audit: %s, on the disk or in the index: the part has none\n", read.Names.None(" here"))
+		outside.Printf(log, "syncthing-audit: %s, on the disk or in the index: the part has none\n", read.Names.None(" here"))
 	}
 	if damaged > 0 {
-		fmt.Fprintf(log, "syncthing-audit: the disk here fails to give what it has of %s: see the system's log; 'check' tells which these are\n",
+		outside.Printf(log, "syncthing-audit: the disk here fails to give what it has of %s: see the system's log; 'check' tells which these are\n",
 			countOf(damaged, "name"))
 	}
 	return writer.Close()

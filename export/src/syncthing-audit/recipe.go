@@ -5,6 +5,7 @@ import (
 	"io"
 	"strings"
 
+	"syncthing-audit/outside"
 	"syncthing-audit/part"
 	"syncthing-audit/shell"
 )
@@ -23,18 +24,18 @@ func tellCommands(output io.Writer, places []*place, asked options) {
 		}
 		return strings.Join(words, " ")
 	}
-	fmt.Fprintln(output, "# 'run' asks first what each device shares (part --about), and refuses by that before any file is hashed. Here 'check' does, at the end.")
-	fmt.Fprintln(output, "# The first looks, at once or one after another. Each tells its token on standard error.")
+	outside.Print(output, "# 'run' asks first what each device shares (part --about), and refuses by that before any file is hashed. Here 'check' does, at the end.\n")
+	outside.Print(output, "# The first looks, at once or one after another. Each tells its token on standard error.\n")
 	for at, one := range places {
-		fmt.Fprintf(output, "%s < /dev/null > %s 2> %s\n", shell.Words(one.begin(asked)), shell.Quoted(labels[at]+".begin"), shell.Quoted(labels[at]+".log"))
+		outside.Printf(output, "%s < /dev/null > %s 2> %s\n", shell.Words(one.begin(asked)), shell.Quoted(labels[at]+".begin"), shell.Quoted(labels[at]+".log"))
 	}
-	fmt.Fprintf(output, "# Once all are over: the tokens of all, one on a line.\ngrep -hE %s %s > tokens\nsleep %g\n", shell.Word(tokenLine), named(".log"), asked.still)
-	fmt.Fprintln(output, "# The second looks. A device doesn't know whose looks are asked for, so each goes on without the tokens of others (--leave-out\n"+
-		"# absent). 'check' refuses where a device, or a token of one, is missing.")
+	outside.Printf(output, "# Once all are over: the tokens of all, one on a line.\ngrep -hE %s %s > tokens\nsleep %g\n", shell.Word(tokenLine), named(".log"), asked.still)
+	outside.Print(output, "# The second looks. A device doesn't know whose looks are asked for, so each goes on without the tokens of others (--leave-out\n"+
+		"# absent). 'check' refuses where a device, or a token of one, is missing.\n")
 	for at, one := range places {
-		fmt.Fprintf(output, "%s < tokens > %s\n", shell.Words(one.end(asked)), shell.Quoted(labels[at]+".end"))
+		outside.Printf(output, "%s < tokens > %s\n", shell.Words(one.end(asked)), shell.Quoted(labels[at]+".end"))
 	}
-	fmt.Fprintf(output, "%s %s %s\n", shell.Words(places[0].check(asked)), named(".begin"), named(".end"))
+	outside.Printf(output, "%s %s %s\n", shell.Words(places[0].check(asked)), named(".begin"), named(".end"))
 }
 
 // check gives the command that joins all looks, but for their parts.

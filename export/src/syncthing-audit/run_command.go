@@ -16,6 +16,7 @@ import (
 	"syncthing-audit/finding"
 	"syncthing-audit/leftover"
 	"syncthing-audit/looks"
+	"syncthing-audit/outside"
 	"syncthing-audit/part"
 )
 
@@ -174,7 +175,7 @@ func (r *running) await(what string, ended <-chan int, errs []error) error {
 func (r *running) tellFailed(what string, err error) {
 	r.mutex.Lock()
 	defer r.mutex.Unlock()
-	fmt.Fprintf(r.log, "syncthing-audit: %s: %v. There will be no answer; the other devices are awaited, Ctrl-C ends that\n", what, err)
+	outside.Printf(r.log, "syncthing-audit: %s: %v. There will be no answer; the other devices are awaited, Ctrl-C ends that\n", what, err)
 }
 
 // tellAwaited tells which places haven't ended.
@@ -187,7 +188,7 @@ func (r *running) tellAwaited(what string, spent time.Duration, isOver []bool) {
 	}
 	r.mutex.Lock()
 	defer r.mutex.Unlock()
-	fmt.Fprintf(r.log, "syncthing-audit: %s: waiting for %s for %.0f s\n", what, strings.Join(names, ", "), spent.Seconds())
+	outside.Printf(r.log, "syncthing-audit: %s: waiting for %s for %.0f s\n", what, strings.Join(names, ", "), spent.Seconds())
 }
 
 // begin makes the first look at a device.
@@ -225,7 +226,7 @@ func (r *running) end(at int) error {
 func (r *running) tellStep(format string, words ...interface{}) {
 	r.mutex.Lock()
 	defer r.mutex.Unlock()
-	fmt.Fprintf(r.progress, "syncthing-audit: "+format+"\n", words...)
+	outside.Printf(r.progress, "syncthing-audit: "+format+"\n", words...)
 }
 
 // retell tells what was said at a place, but for what is for this program alone.
@@ -234,7 +235,7 @@ func (r *running) retell(at int, told string) {
 	defer r.mutex.Unlock()
 	for _, line := range strings.Split(told, "\n") {
 		if said := strings.TrimPrefix(line, "syncthing-audit: "); said != line && !isForRun.MatchString(line) {
-			fmt.Fprintf(r.log, "syncthing-audit: %s: %s\n", r.places[at].called(), said)
+			outside.Printf(r.log, "syncthing-audit: %s: %s\n", r.places[at].called(), said)
 		}
 	}
 }

@@ -11,6 +11,7 @@ import (
 
 	"syncthing-audit/ask"
 	"syncthing-audit/finding"
+	"syncthing-audit/outside"
 	"syncthing-audit/part"
 	"syncthing-audit/shell"
 )
@@ -29,12 +30,12 @@ func Verdict(answer *finding.Answer) string {
 
 // Lines prints the verdict, the counts of each folder, and all that was found, a line each, in syncaudit's words.
 func Lines(to io.Writer, answer *finding.Answer) {
-	fmt.Fprintln(to, Verdict(answer))
+	outside.Println(to, Verdict(answer))
 	for _, folder := range answer.Folders {
-		fmt.Fprintf(to, "folder %s: %d names, %d deleted, %d devices\n", folder.ID, folder.Names, folder.Deleted, len(folder.Members))
+		outside.Printf(to, "folder %s: %d names, %d deleted, %d devices\n", folder.ID, folder.Names, folder.Deleted, len(folder.Members))
 	}
 	for _, folder := range answer.Folders {
-		folder.EachFailure(func(one *finding.Failure) { fmt.Fprintln(to, ask.Line(folder.ID, one)) })
+		folder.EachFailure(func(one *finding.Failure) { outside.Println(to, ask.Line(folder.ID, one)) })
 	}
 	for _, folder := range answer.Folders {
 		firm(to, folder)
@@ -49,15 +50,15 @@ func firm(to io.Writer, folder *finding.Folder) {
 	}
 	switch folder.HowFirm() {
 	case finding.IsFirm:
-		fmt.Fprintf(to, "firm: %s\n", folder.ID)
+		outside.Printf(to, "firm: %s\n", folder.ID)
 	case finding.NotAsked:
-		fmt.Fprintf(to, "firm wasn't asked: %s\n", folder.ID)
+		outside.Printf(to, "firm wasn't asked: %s\n", folder.ID)
 	case finding.NotKnown:
 		for _, one := range folder.Unsure() {
-			fmt.Fprintf(to, "not known to be firm: %s on %d: %s\n", folder.ID, folder.Members[one.Member].Number, one.Words())
+			outside.Printf(to, "not known to be firm: %s on %d: %s\n", folder.ID, folder.Members[one.Member].Number, one.Words())
 		}
 	case finding.NotFirm:
-		folder.EachLoose(func(one *finding.Failure) { fmt.Fprintf(to, "not firm: %s\n", ask.Line(folder.ID, one)) })
+		folder.EachLoose(func(one *finding.Failure) { outside.Printf(to, "not firm: %s\n", ask.Line(folder.ID, one)) })
 	}
 }
 
@@ -71,10 +72,10 @@ func Rest(to io.Writer, answer *finding.Answer) {
 		leftOut(to, folder)
 		for _, one := range folder.Members {
 			if one.Near > 0 {
-				fmt.Fprintf(to, "times taken for the same: %s %d files on %d, by less than %d s\n", folder.ID, one.Near, one.Number, one.About.TimeWindow)
+				outside.Printf(to, "times taken for the same: %s %d files on %d, by less than %d s\n", folder.ID, one.Near, one.Number, one.About.TimeWindow)
 			}
 			if count := one.Temporary; count != nil && count.Names > 0 {
-				fmt.Fprintf(to, "temporary: %s %d names, %d bytes on %d\n", folder.ID, count.Names, count.Bytes, one.Number)
+				outside.Printf(to, "temporary: %s %d names, %d bytes on %d\n", folder.ID, count.Names, count.Bytes, one.Number)
 			}
 		}
 	}
@@ -82,18 +83,18 @@ func Rest(to io.Writer, answer *finding.Answer) {
 		own(to, answer, folder)
 	}
 	for _, one := range answer.LeftOut {
-		fmt.Fprintf(to, "left out: folder %s, device %s: %s\n", one.Folder, one.Device, one.Why)
+		outside.Printf(to, "left out: folder %s, device %s: %s\n", one.Folder, one.Device, one.Why)
 	}
 	unasked(to, answer)
 	for _, one := range answer.Devices {
 		if one.Index != nil {
-			fmt.Fprintf(to, "maybe an old index: on %d, %s\n", one.Number, ageOf(one.Index))
+			outside.Printf(to, "maybe an old index: on %d, %s\n", one.Number, ageOf(one.Index))
 		}
 		if one.Newer != nil {
-			fmt.Fprintf(to, "maybe an old index: on %d, %s\n", one.Number, besides(one.Newer))
+			outside.Printf(to, "maybe an old index: on %d, %s\n", one.Number, besides(one.Newer))
 		}
 		if one.ToRepair {
-			fmt.Fprintf(to, "to be repaired: the index on %d\n", one.Number)
+			outside.Printf(to, "to be repaired: the index on %d\n", one.Number)
 		}
 	}
 }
@@ -112,9 +113,9 @@ func besides(newer *part.Newer) string {
 func own(to io.Writer, answer *finding.Answer, folder *finding.Folder) {
 	switch {
 	case answer.IsApart(folder):
-		fmt.Fprintf(to, "not shared with one another: folder %s on %d\n", folder.ID, folder.Members[0].Number)
+		outside.Printf(to, "not shared with one another: folder %s on %d\n", folder.ID, folder.Members[0].Number)
 	case folder.Own != "":
-		fmt.Fprintf(to, "not shared: folder %s on %d\n", folder.ID, folder.Members[0].Number)
+		outside.Printf(to, "not shared: folder %s on %d\n", folder.ID, folder.Members[0].Number)
 	}
 }
 
@@ -123,18 +124,18 @@ func own(to io.Writer, answer *finding.Answer, folder *finding.Folder) {
 func unasked(to io.Writer, answer *finding.Answer) {
 	for _, device := range answer.Devices {
 		for _, one := range device.Unasked {
-			fmt.Fprintf(to, "not asked for: folder %s on %d\n", one.ID, device.Number)
+			outside.Printf(to, "not asked for: folder %s on %d\n", one.ID, device.Number)
 		}
 		if device.IsSilent {
-			fmt.Fprintf(to, "not told: other folders of %d\n", device.Number)
+			outside.Printf(to, "not told: other folders of %d\n", device.Number)
 		}
 	}
 	for _, folder := range answer.Folders {
 		if begin := folder.Asked().Prefix; begin != "" {
-			fmt.Fprintf(to, "not asked for: names of %s that don't begin with %s\n", folder.ID, ask.Printed(begin))
+			outside.Printf(to, "not asked for: names of %s that don't begin with %s\n", folder.ID, ask.Printed(begin))
 		}
 		if asked := folder.Asked(); asked.IsOfSlice() {
-			fmt.Fprintf(to, "not asked for: names of %s outside %s\n", folder.ID, asked.SliceWords())
+			outside.Printf(to, "not asked for: names of %s outside %s\n", folder.ID, asked.SliceWords())
 		}
 	}
 }
@@ -143,7 +144,7 @@ func unasked(to io.Writer, answer *finding.Answer) {
 func unwon(to io.Writer, folder *finding.Folder) {
 	folder.Unwon.Each(func(one *finding.Unwon) {
 		for _, at := range one.At {
-			fmt.Fprintf(to, "no winner: %s %s on %d: %s\n", folder.ID, ask.Printed(one.Name), folder.Members[at.Member].Number, at.Kind)
+			outside.Printf(to, "no winner: %s %s on %d: %s\n", folder.ID, ask.Printed(one.Name), folder.Members[at.Member].Number, at.Kind)
 		}
 	})
 }
@@ -151,16 +152,16 @@ func unwon(to io.Writer, folder *finding.Folder) {
 // permissions prints names whose permissions differ.
 func permissions(to io.Writer, folder *finding.Folder) {
 	folder.Permissions.Each(func(one *finding.Permissions) {
-		fmt.Fprintf(to, "permissions: %s %s", folder.ID, ask.Printed(one.Name))
+		outside.Printf(to, "permissions: %s %s", folder.ID, ask.Printed(one.Name))
 		for member, bits := range one.At {
 			if bits.Has {
-				fmt.Fprintf(to, " %d index %04o", folder.Members[member].Number, bits.Index)
+				outside.Printf(to, " %d index %04o", folder.Members[member].Number, bits.Index)
 			}
 			if bits.OnDisk {
-				fmt.Fprintf(to, " disk %04o", bits.Disk)
+				outside.Printf(to, " disk %04o", bits.Disk)
 			}
 		}
-		fmt.Fprintln(to)
+		outside.Print(to, "\n")
 	})
 }
 
@@ -168,7 +169,7 @@ func permissions(to io.Writer, folder *finding.Folder) {
 func damaged(to io.Writer, folder *finding.Folder) {
 	folder.Damaged.Each(func(one *finding.Damaged) {
 		for _, at := range one.At {
-			fmt.Fprintf(to, "damaged: %s %s on %d: %s\n", folder.ID, printed(string(one.Name)), folder.Members[at.Member].Number, at.Why)
+			outside.Printf(to, "damaged: %s %s on %d: %s\n", folder.ID, printed(string(one.Name)), folder.Members[at.Member].Number, at.Why)
 		}
 	})
 }
@@ -181,15 +182,15 @@ func leftOut(to io.Writer, folder *finding.Folder) {
 			if why.Member >= 0 {
 				device = strconv.FormatUint(folder.Members[why.Member].Number, 10)
 			}
-			fmt.Fprintf(to, "left out: %s %s on %s: %s (%s, %d names, %d bytes)\n", folder.ID, printed(one.Name), device, why.Why,
+			outside.Printf(to, "left out: %s %s on %s: %s (%s, %d names, %d bytes)\n", folder.ID, printed(one.Name), device, why.Why,
 				why.Kind, one.Names, one.Bytes)
 		}
 	}
 	if more := folder.Unlisted.LeftOut; more.Names > 0 {
-		fmt.Fprintf(to, "left out: %s %d names more, %d bytes, which aren't listed\n", folder.ID, more.Names, more.Bytes)
+		outside.Printf(to, "left out: %s %d names more, %d bytes, which aren't listed\n", folder.ID, more.Names, more.Bytes)
 	}
 	if folder.Outside.Names > 0 {
-		fmt.Fprintf(to, "ignored: %s %d names, %d bytes, on no device's index\n", folder.ID, folder.Outside.Names, folder.Outside.Bytes)
+		outside.Printf(to, "ignored: %s %d names, %d bytes, on no device's index\n", folder.ID, folder.Outside.Names, folder.Outside.Bytes)
 	}
 }
 
@@ -227,13 +228,13 @@ func tellRefusals(to io.Writer, all []finding.Refusal) {
 		}
 		switch {
 		case told[same] <= mostAlike || one.Name == "":
-			fmt.Fprintf(to, "syncthing-audit: refused: folder %s%s: %s\n", shell.Folder(one.Folder, one.Label), placeOf(one), one.Why)
+			outside.Printf(to, "syncthing-audit: refused: folder %s%s: %s\n", shell.Folder(one.Folder, one.Label), placeOf(one), one.Why)
 		case told[same] == mostAlike+1:
 			more = append(more, same)
 		}
 	}
 	for _, one := range more {
-		fmt.Fprintf(to, "syncthing-audit: refused: folder %s%s: %d more of the kind %s\n", shell.Folder(one.folder, one.label),
+		outside.Printf(to, "syncthing-audit: refused: folder %s%s: %d more of the kind %s\n", shell.Folder(one.folder, one.label),
 			placeOf(finding.Refusal{Device: one.device}), told[one]-mostAlike, one.kind)
 	}
 }
@@ -252,13 +253,13 @@ func Refusals(to io.Writer, answer *finding.Answer) {
 	tellRefusals(to, answer.Refusals)
 	for _, one := range answer.Devices {
 		if one.Index != nil {
-			fmt.Fprintf(to, "syncthing-audit: maybe an old index: device %s, %s. Where Syncthing has its database elsewhere, name it as --data DIR\n", one.ID, ageOf(one.Index))
+			outside.Printf(to, "syncthing-audit: maybe an old index: device %s, %s. Where Syncthing has its database elsewhere, name it as --data DIR\n", one.ID, ageOf(one.Index))
 		}
 		if one.Newer != nil {
-			fmt.Fprintf(to, "syncthing-audit: maybe an old index: device %s, %s. %s\n", one.ID, besides(one.Newer), one.Newer.WhatToDo())
+			outside.Printf(to, "syncthing-audit: maybe an old index: device %s, %s. %s\n", one.ID, besides(one.Newer), one.Newer.WhatToDo())
 		}
 		if one.ToRepair {
-			fmt.Fprintf(to, "syncthing-audit: to be repaired: the index of device %s. Start Syncthing there, and let it finish\n", one.ID)
+			outside.Printf(to, "syncthing-audit: to be repaired: the index of device %s. Start Syncthing there, and let it finish\n", one.ID)
 		}
 	}
 	for _, one := range answer.Refusals {
@@ -266,7 +267,7 @@ func Refusals(to io.Writer, answer *finding.Answer) {
 	}
 	for _, kind := range part.Kinds {
 		if more := answer.Unlisted[kind]; more > 0 {
-			fmt.Fprintf(to, "syncthing-audit: refused: %d more of the kind %s\n", more, kind)
+			outside.Printf(to, "syncthing-audit: refused: %d more of the kind %s\n", more, kind)
 			count += more
 			add(kind)
 		}
@@ -276,6 +277,6 @@ func Refusals(to io.Writer, answer *finding.Answer) {
 		if count == 1 {
 			them = "it"
 		}
-		fmt.Fprintf(to, "syncthing-audit: %d refused; --leave-out %s leaves %s out\n", count, kinds[1:], them)
+		outside.Printf(to, "syncthing-audit: %d refused; --leave-out %s leaves %s out\n", count, kinds[1:], them)
 	}
 }

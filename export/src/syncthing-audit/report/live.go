@@ -6,6 +6,7 @@ import (
 	"strings"
 
 	"syncthing-audit/finding"
+	"syncthing-audit/outside"
 )
 
 // live prints which names were in motion while running devices were looked at, and what hasn't been heard of.
@@ -17,18 +18,18 @@ func live(to io.Writer, folder *finding.Folder) {
 	if folder.Live.Timed {
 		spent = fmt.Sprintf("%.3f s", folder.Live.Seconds)
 	}
-	fmt.Fprintf(to, "still: %s %s, in motion: %d names\n", folder.ID, spent, folder.Live.Moving)
+	outside.Printf(to, "still: %s %s, in motion: %d names\n", folder.ID, spent, folder.Live.Moving)
 	for _, one := range folder.Live.Names {
 		for _, at := range one.At {
-			fmt.Fprintf(to, "in motion: %s %s on %d: %s\n", folder.ID, printed(string(one.Name)), folder.Members[at.Member].Number,
+			outside.Printf(to, "in motion: %s %s on %d: %s\n", folder.ID, printed(string(one.Name)), folder.Members[at.Member].Number,
 				strings.Join(at.Why, ", "))
 		}
 	}
 	if more := folder.Live.Moving - int64(len(folder.Live.Names)); more > 0 {
-		fmt.Fprintf(to, "in motion: %s and %d names more\n", folder.ID, more)
+		outside.Printf(to, "in motion: %s and %d names more\n", folder.ID, more)
 	}
 	for _, one := range folder.Live.Unheard {
-		fmt.Fprintf(to, "not heard of: %s on %d of %d: %d names\n", folder.ID, folder.Members[one.Member].Number, folder.Members[one.Of].Number,
+		outside.Printf(to, "not heard of: %s on %d of %d: %d names\n", folder.ID, folder.Members[one.Member].Number, folder.Members[one.Of].Number,
 			one.Names)
 	}
 }

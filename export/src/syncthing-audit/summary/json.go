@@ -1,13 +1,12 @@
 package summary
 
 import (
-	"encoding/json"
 	"io"
+
+	"syncthing-audit/outside"
 )
 
 // WriteJSON writes a summary for programs, on one line. docs/audit.schema.json is its schema.
 func (s *Summary) WriteJSON(to io.Writer) error {
-	encoder := json.NewEncoder(to)
-	encoder.SetEscapeHTML(false)
-	return encoder.Encode(s)
+	return outside.PrintJSON(to, s)
 }

@@ -8,6 +8,7 @@ import (
 	"time"
 
 	"syncthing-audit/finding"
+	"syncthing-audit/outside"
 	"syncthing-audit/shell"
 )
 
@@ -33,7 +34,9 @@ func (s *Summary) Print(to io.Writer, zone *time.Location, now time.Time) {
 	p.rest(s)
 }
 
-func (p *printer) line(format string, words ...interface{}) { fmt.Fprintf(p.to, format+"\n", words...) }
+func (p *printer) line(format string, words ...interface{}) {
+	outside.Printf(p.to, format+"\n", words...)
+}
 
 // verdict says whether a folder is in step, and firm.
 func (p *printer) verdict(one *Folder) string {

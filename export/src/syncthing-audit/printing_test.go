@@ -1,0 +1,102 @@
+package main
+
+import (
+	"go/ast"
+	"go/parser"
+	"go/token"
+	"io/fs"
+	"path/filepath"
+	"strings"
+	"testing"
+)
+
+// mayWrite are the files that write otherwise than by the package outside, and what they write.
+var mayWrite = map[string]string{
+	"ask/lines.go":        "a digit of an escaped byte, into a text",
+	"shell/shell.go":      "a digit of an escaped byte, into a text",
+	"document/builder.go": "a document for syncaudit",
+	"progress.go":         "counts, and what takes their line away",
+	"run_command.go":      "tokens for a look's standard input",
+}
+
+// isWrapper says whether a function prints by a format that it is given.
+func isWrapper(path, name string) bool {
+	return name == "line" && strings.HasPrefix(path, "summary/") || name == "tellStep"
+}
+
+// All that is printed goes through the package outside, by formats of the program's own: no other file prints or makes a format of a text.
+func TestPrintingIsInOnePlace(t *testing.T) {
+	printed := 0
+	err := filepath.WalkDir(".", func(path string, entry fs.DirEntry, err error) error {
+		isOther := strings.HasPrefix(path, "outside/") || strings.HasPrefix(path, "sample/") || strings.HasSuffix(path, "_test.go")
+		if err != nil || entry.IsDir() || !strings.HasSuffix(path, ".go") || isOther {
+			return err
+		}
+		file, err := parser.ParseFile(token.NewFileSet(), path, nil, 0)
+		if err != nil {
+			return err
+		}
+		ast.Inspect(file, func(node ast.Node) bool {
+			if call, is := node.(*ast.CallExpr); is {
+				printed += checkPrinting(t, path, call)
+			}
+			return true
+		})
+		return nil
+	})
+	if err != nil || printed < 50 {
+		t.Errorf("%d calls that print were found: %v", printed, err)
+	}
+}
+
+// checkPrinting says what is wrong with a call, and gives whether it prints.
+func checkPrinting(t *testing.T, path string, call *ast.CallExpr) int {
+	called, is := call.Fun.(*ast.SelectorExpr)
+	if !is {
+		if name, is := call.Fun.(*ast.Ident); is && (name.Name == "print" || name.Name == "println") {
+			t.Errorf("%s prints by %s", path, name.Name)
+		}
+		return 0
+	}
+	of, _ := called.X.(*ast.Ident)
+	name := called.Sel.Name
+	switch {
+	case of != nil && of.Name == "outside" && (name == "Printf" || name == "Print"):
+		if mayBeOthers(call.Args[1]) && !(name == "Print" && isOwnText(path, call.Args[1])) {
+			t.Errorf("%s prints by a format or a text that may be another's", path)
+		}
+		return 1
+	case of != nil && of.Name == "outside":
+		return 1
+	case isWrapper(path, name) && mayBeOthers(call.Args[0]):
+		t.Errorf("%s prints by a format that may be another's", path)
+	case of != nil && (of.Name == "fmt" && strings.Contains(name, "rint") && !strings.HasPrefix(name, "S") || of.Name == "io" && name == "WriteString" ||
+		of.Name == "log") && mayWrite[path] == "":
+		t.Errorf("%s prints by %s.%s", path, of.Name, name)
+	}
+	return 0
+}
+
+// isOwnText says whether a text is the program's own: what an answer means, or a text of main.go that is asked for (usage, version).
+func isOwnText(path string, one ast.Expr) bool {
+	if call, is := one.(*ast.CallExpr); is {
+		name, is := call.Fun.(*ast.Ident)
+		return is && name.Name == "meaningOf"
+	}
+	name, is := one.(*ast.Ident)
+	return is && name.Name == "text" && path == "main.go"
+}
+
+// mayBeOthers says whether a format may be another's: it isn't made of literals, constants and the format of whoever calls.
+func mayBeOthers(one ast.Expr) bool {
+	switch made := one.(type) {
+	case *ast.BasicLit:
+		return false
+	case *ast.BinaryExpr:
+		return mayBeOthers(made.X) || mayBeOthers(made.Y)
+	case *ast.Ident:
+		isConstant := made.Obj != nil && made.Obj.Kind == ast.Con
+		return !isConstant && made.Name != "format" && made.Name != "lineOfAge"
+	}
+	return true
+}
