@@ -81,6 +81,7 @@ func runningParts(device byte) []*hostile {
 		return linesOf(still, moved, receiving)
 	}
 	idOfLook := func(of byte) string { return strings.Repeat("0", 31) + string(rune('0'+of)) }
-	return []*hostile{{look(func(look *part.Look) { look.ID = idOfLook(device) }), names(false)},
-		{look(func(look *part.Look) { look.After = map[string]string{idOf(1): idOfLook(1), idOf(2): idOfLook(2)} }), names(true)}}
+	second := look(func(look *part.Look) { look.After = map[string]string{idOf(1): idOfLook(1), idOf(2): idOfLook(2)} })
+	second.Folders[0].Rest = &part.Rest{State: part.RestUnasked, Why: "it refuses the key"}
+	return []*hostile{{look(func(look *part.Look) { look.ID = idOfLook(device) }), names(false)}, {second, names(true)}}
 }
