@@ -61,7 +61,7 @@ fn story(alloc: Global, rounds: u32, call: u64) -> Option<Told> {
     Some((counted, dropped, ended(alloc, cluster)?))
 }
 
-// The second reading in compare/ counts the same. The seventh call of the store of device 1 answers a request, the tenth
+// The second reading counts the same. The seventh call of the store of device 1 answers a request, the tenth
 // ends a pull; the others' are scans.
 #[test]
 fn quiet_steps_leave_a_settled_cluster_settled(rt: HostRuntime) {

@@ -95,7 +95,7 @@ fn story<S: Store>(
     Some((counted, kept(alloc, cluster)?))
 }
 
-// The second reading in compare/ counts the same.
+// The second reading counts the same.
 #[test]
 fn resets_and_rescans_leave_the_stores(rt: HostRuntime) {
     let alloc = rt.alloc();

@@ -85,7 +85,7 @@ fn counted(alloc: Global) -> Option<(u64, u64, u64)> {
     Some((first, second, fitting))
 }
 
-// The second reading in compare/ says where device 2 has the file in spite of the reset: where device 1 starts over before it
+// The second reading says where device 2 has the file in spite of the reset: where device 1 starts over before it
 // scans, or once the block is on its way back; and where device 2 does before the link is up, or once the file is there.
 #[test]
 fn a_reset_between_the_steps_leaves_no_part_of_a_file(rt: HostRuntime) {

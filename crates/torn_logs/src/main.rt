@@ -1,6 +1,6 @@
 //! `torn_logs`: makes a scenario's steps on devices and links that log them. For each two moments it copies the first device at
 //! the one and all else at the other, and writes the logs of these copies with the run check's verdict: a line each, in the
-//! form that `compare/fit.py` reads.
+//! form that the second reading reads (`fit.py`).
 #![tactic(auto)]
 
 mod cluster;
