@@ -58,8 +58,14 @@ rm -f "$work/tools/go"
 tools install mkdir
 # install_by PATH: installs where these directories are on PATH.
 install_by() {
-  PATH=$1 "$place/install" "$work/goless" > "$work/output" 2> "$work/error" || true
+  status=0
+  PATH=$1 "$place/install" "$work/goless" > "$work/output" 2> "$work/error" || status=$?
 }
+mkdir -p "$place/export"
+install_by "$work/tools"
+expect "install without Go has status $status, where the exporter's sources are there" [ "$status" = 127 ]
+expect "install without Go puts no program in place" [ -x "$work/goless/bin/syncaudit" ]
+rmdir "$place/export"
 install_by "$work/tools"
 expect "install without Go puts an exporter in place" [ ! -e "$work/goless/bin/syncthing-audit" ]
 expect "install without Go doesn't say what to do: $(cat "$work/error")" says 'apt-get install golang-go' "$work/error"
