@@ -89,7 +89,7 @@ def in_step():
 
 def is_on_firmness(line):
     """Whether a line says that a folder is firm, what keeps it from that, or that it wasn't asked."""
-    return line.startswith(("firm: ", "not firm: ", "not known to be firm: ", "firm wasn't asked: "))
+    return line.startswith(("firm: ", "not firm: ", "not known to be firm: ", "may change by itself: ", "firm wasn't asked: "))
 
 
 def without_firmness(lines):

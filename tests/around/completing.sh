@@ -52,7 +52,7 @@ while IFS='|' read -r words expected; do
 done << END
 ''|--help --version check export part run sum
 ch|check
-part -|--about --begin --data --end --folder --heed-input --help --home --jobs --leave-out --names --rescan --slice --tokens -o
+part -|--about --begin --data --end --folder --heed-input --help --home --jobs --leave-out --names --rescan --slice --still --tokens -o
 run --re|--remote-program --rescan
 run $work/ho|$work/homes
 check --l|--leave-out --lines

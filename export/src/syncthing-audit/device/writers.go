@@ -13,7 +13,7 @@ import (
 )
 
 // writersOf says what else of the device's Syncthing writes into a folder's directory, in words: another folder, which is at it, in it or
-// above it, or the old versions of a folder. By themselves these are in .stversions, which no folder has.
+// above it, or the old versions of a folder, or Syncthing's own data. By themselves old versions are in .stversions, which no folder has.
 func (h *Home) writersOf(folder string) []string {
 	h.written.Do(func() { h.writers = h.allWriters() })
 	return h.writers[folder]
@@ -33,7 +33,9 @@ func (h *Home) allWriters() map[string][]string {
 			made.each(realPath(versions), func(outer int) { made.note(outer, place, "the old versions of ") })
 		}
 	}
-	return made.words()
+	words := made.words()
+	h.addOwnData(made, words)
+	return words
 }
 
 // places are the directories of a home's folders. Each is looked up, and each folder's patterns are read, once.

@@ -31,6 +31,7 @@ type Walker struct {
 	Stamps bool          // stand in the nodes, too
 	Take   func(Found) error
 
+	links     links
 	Temporary part.Count // names that were met and passed over, since Syncthing takes them for its temporary files
 }
 
@@ -145,7 +146,7 @@ func (w *Walker) found(name string, info fs.FileInfo) Found {
 		return out(part.Special, "it is no file, directory or symlink")
 	}
 	if w.Stamps || info.IsRegular() {
-		made.Stamp = w.StampOf(name)
+		made.Stamp = w.stamp(name)
 	}
 	if w.Stamps {
 		node.Stamp = made.Stamp
@@ -154,20 +155,41 @@ func (w *Walker) found(name string, info fs.FileInfo) Found {
 	return made
 }
 
-// StampOf gives the stamp of what stands under a name. No directory that was swapped for a symlink leads to that of something else.
-func (w *Walker) StampOf(name string) string {
+// about gives what stands under a name. No directory that was swapped for a symlink leads to that of something else.
+func (w *Walker) about(name string) (os.FileInfo, error) {
 	beneath, is := w.Disk.(interface {
 		Info(name string) (os.FileInfo, error)
 	})
 	if !is {
-		return Stamp(w.PathOf(name))
+		return os.Lstat(w.PathOf(name))
 	}
-	about, err := beneath.Info(name)
+	return beneath.Info(name)
+}
+
+// StampOf gives the stamp of what stands under a name.
+func (w *Walker) StampOf(name string) string {
+	about, err := w.about(name)
 	if err != nil {
 		return ""
 	}
 	return stampOf(about)
 }
+
+// stamp gives the stamp of a name, and counts the links that its file has.
+func (w *Walker) stamp(name string) string {
+	about, err := w.about(name)
+	if err != nil {
+		return ""
+	}
+	if w.links == nil {
+		w.links = links{}
+	}
+	w.links.add(about)
+	return stampOf(about)
+}
+
+// Linked counts the names of files that have links elsewhere, outside the names that were walked.
+func (w *Walker) Linked() part.Count { return w.links.elsewhere() }
 
 // PathOf gives the path of a name.
 func (w *Walker) PathOf(name string) string { return filepath.Join(w.Disk.URI(), name) }

@@ -1,5 +1,7 @@
 package finding
 
+import "fmt"
+
 // Unsure is something at a device that may change a folder which is in step under one version, and that no document says. So the folder isn't known
 // to be firm.
 type Unsure struct {
@@ -11,14 +13,29 @@ type Unsure struct {
 
 // What makes a folder unsure.
 const (
-	Busy = "busy" // what a scan has found may wait in Syncthing's memory
+	Busy     = "busy"      // what a scan has found may wait in Syncthing's memory
+	ToIgnore = "to-ignore" // .stignore has come to ignore directories that the index has
+	Linked   = "linked"    // files have links elsewhere: another folder may change their times and modes
 )
 
 // KindsOfUnsure are all of these, in the order in which they are told.
-var KindsOfUnsure = []string{Busy}
+var KindsOfUnsure = []string{Busy, ToIgnore, Linked}
 
 // Words says in words what it is.
-func (u *Unsure) Words() string { return u.Kind + ": " + u.Why }
+func (u *Unsure) Words() string {
+	if u.Kind == Busy {
+		return u.Kind + ": " + u.Why
+	}
+	return fmt.Sprintf("%s: %d names", u.Kind, u.Names)
+}
+
+// CallUnsure says what is to be told of what makes a folder unsure: of one that isn't firm anyway, it is that it may change.
+func (f Firm) CallUnsure() string {
+	if f == NotKnown {
+		return "not known to be firm"
+	}
+	return "may change by itself"
+}
 
 // Unsure gives all that makes a folder unsure, by devices.
 func (f *Folder) Unsure() []Unsure {
@@ -29,6 +46,12 @@ func (f *Folder) Unsure() []Unsure {
 		}
 		if why := one.Head.WhyBusy(one.About); why != "" {
 			made = append(made, Unsure{Member: member, Kind: Busy, Why: why})
+		}
+		if one.ToIgnore > 0 {
+			made = append(made, Unsure{Member: member, Kind: ToIgnore, Names: one.ToIgnore})
+		}
+		if one.Linked != nil && one.Linked.Names > 0 {
+			made = append(made, Unsure{Member: member, Kind: Linked, Names: one.Linked.Names})
 		}
 	}
 	return made

@@ -90,7 +90,7 @@ func (d *Device) names(folder Folder, about *part.Folder, end *part.End, sink pa
 	for {
 		next, err := found.next()
 		if next == nil {
-			end.Temporary = &merging.walker.Temporary
+			merging.tellEnd(end)
 			return err
 		}
 		line := next.finish()

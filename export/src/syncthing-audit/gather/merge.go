@@ -28,6 +28,7 @@ type merge struct {
 	to       *queue
 	folder   string
 	hidden   []hidden
+	toIgnore toIgnore
 }
 
 // errStopped says that nobody wants the names any more.
@@ -72,6 +73,16 @@ func (m *merge) run() error {
 		if !m.put(name) {
 			return errStopped
 		}
+	}
+}
+
+// tellEnd writes what was counted on the way. Where some names alone were read, it isn't known where a link leads, and what is below a directory.
+func (m *merge) tellEnd(end *part.End) {
+	end.Temporary = &m.walker.Temporary
+	if m.device.Names.IsAll() {
+		m.toIgnore.end()
+		linked := m.walker.Linked()
+		end.Linked, end.ToIgnore = &linked, m.toIgnore.names
 	}
 }
 
@@ -141,6 +152,10 @@ func (m *merge) put(name string) bool {
 	}
 	if m.isIgnored(name, line.Own) {
 		line.Out = append(line.Out, ignored(line))
+	} else if m.patterns.Match(name).IsIgnored() {
+		m.toIgnore.takeDirectory(name)
+	} else if line.Own != nil && !line.Own.Deleted && line.Disk != nil {
+		m.toIgnore.takeOther(name)
 	}
 	return m.send(line, recorded, stamp)
 }

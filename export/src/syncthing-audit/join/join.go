@@ -31,6 +31,8 @@ type Member struct {
 	Near  int64 // how many of its files have another time than recorded, which its Syncthing takes for the same
 
 	Temporary *part.Count // its names that Syncthing takes for its temporary files, as far as its part tells them
+	Linked    *part.Count // its names of files that have links elsewhere, as far as its part tells them
+	ToIgnore  int64       // its directories whose records the next scan marks as ignored
 }
 
 // Folder is a folder with those of its devices that are audited, their numbers rising.
@@ -244,7 +246,7 @@ func (f *Folder) finish() (int64, error) {
 		if err != nil {
 			return 0, err
 		}
-		one.Temporary = end.Temporary
+		one.Temporary, one.Linked, one.ToIgnore = end.Temporary, end.Linked, end.ToIgnore
 		total += end.Bytes
 	}
 	return total, nil

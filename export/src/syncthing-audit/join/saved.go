@@ -14,10 +14,12 @@ type savedMember struct {
 	Near  int64 `json:",omitempty"`
 
 	Temporary *part.Count `json:",omitempty"`
+	Linked    *part.Count `json:",omitempty"`
+	ToIgnore  int64       `json:",omitempty"`
 }
 
 func (m Member) MarshalJSON() ([]byte, error) {
-	return json.Marshal(savedMember{m.Head, m.From, m.About, m.Near, m.Temporary})
+	return json.Marshal(savedMember{m.Head, m.From, m.About, m.Near, m.Temporary, m.Linked, m.ToIgnore})
 }
 
 func (m *Member) UnmarshalJSON(text []byte) error {
@@ -29,6 +31,6 @@ func (m *Member) UnmarshalJSON(text []byte) error {
 	if read.Head != nil {
 		m.Number = read.Head.Number()
 	}
-	m.About, m.Near, m.Temporary = read.About, read.Near, read.Temporary
+	m.About, m.Near, m.Temporary, m.Linked, m.ToIgnore = read.About, read.Near, read.Temporary, read.Linked, read.ToIgnore
 	return nil
 }

@@ -126,7 +126,7 @@ func (s *Stream) Next() (part.Line, error) {
 		return s.take(*one), nil
 	case one.End != nil && other.End != nil:
 		end := *one.End
-		end.Names, end.Max, end.Temporary = s.names, other.End.Max, other.End.Temporary
+		end.Names, end.Max, end.Temporary, end.Linked, end.ToIgnore = s.names, other.End.Max, other.End.Temporary, other.End.Linked, other.End.ToIgnore
 		return s.take(part.Line{End: &end}), nil
 	case one.Begin != nil || other.Begin != nil:
 		return part.Line{}, fmt.Errorf("the folders of its two looks don't begin together")

@@ -137,8 +137,10 @@ func (r *rules) finish(line *End) error {
 	if line.Last != (r.begun == len(r.head.Folders)) {
 		return fmt.Errorf("folder %q isn't in its place", line.Folder)
 	}
-	if count := line.Temporary; count != nil && (count.Names < 0 || count.Bytes < 0) {
-		return fmt.Errorf("folder %q ends with a count of temporary files below 0", line.Folder)
+	for _, count := range []*Count{line.Temporary, line.Linked, {Names: line.ToIgnore}} {
+		if count != nil && (count.Names < 0 || count.Bytes < 0) {
+			return fmt.Errorf("folder %q ends with a count of names below 0", line.Folder)
+		}
 	}
 	r.in = nil
 	r.ended = line.Last

@@ -141,6 +141,8 @@ type End struct {
 	Last   bool   `json:"last,omitempty"` // no folder follows
 
 	Temporary *Count `json:"temporary,omitempty"` // names that Syncthing takes for its temporary files; nothing where an older program made the part
+	Linked    *Count `json:"linked,omitempty"`    // names of files that have links elsewhere; nothing where some names alone were read, or an older program made the part
+	ToIgnore  int64  `json:"to_ignore,omitempty"` // directories that .stignore ignores by now, and whose records the next scan marks
 }
 
 // Count is of names.

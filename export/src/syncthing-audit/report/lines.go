@@ -53,12 +53,11 @@ func firm(to io.Writer, folder *finding.Folder) {
 		outside.Printf(to, "firm: %s\n", folder.ID)
 	case finding.NotAsked:
 		outside.Printf(to, "firm wasn't asked: %s\n", folder.ID)
-	case finding.NotKnown:
-		for _, one := range folder.Unsure() {
-			outside.Printf(to, "not known to be firm: %s on %d: %s\n", folder.ID, folder.Members[one.Member].Number, one.Words())
-		}
 	case finding.NotFirm:
 		folder.EachLoose(func(one *finding.Failure) { outside.Printf(to, "not firm: %s\n", ask.Line(folder.ID, one)) })
+	}
+	for _, one := range folder.Unsure() {
+		outside.Printf(to, "%s: %s on %d: %s\n", folder.HowFirm().CallUnsure(), folder.ID, folder.Members[one.Member].Number, one.Words())
 	}
 }
 

@@ -17,14 +17,28 @@ type Unsure struct {
 func unsureOf(from *finding.Folder) []Unsure {
 	made := []Unsure{}
 	for _, one := range from.Unsure() {
-		made = append(made, Unsure{from.Members[one.Member].Head.Device, one.Kind, one.Why, one.Names})
+		made = append(made, Unsure{from.Members[one.Member].Head.Device, one.Kind, whyUnsure(one), one.Names})
 	}
 	return made
 }
 
+// whyUnsure says in words what may change a folder.
+func whyUnsure(one finding.Unsure) string {
+	switch one.Kind {
+	case finding.ToIgnore:
+		return counted(one.Names, "directory", "directories") + " in its index that .stignore ignores by now: the next scan marks the records"
+	case finding.Linked:
+		return counted(one.Names, "name", "names") + " of files that have hard links elsewhere: whoever sets time or mode there sets them here, as " +
+			"Syncthing does for a folder that has such a link"
+	}
+	return one.Why
+}
+
 // whatToDo says what to do about what may change a folder.
 var whatToDo = map[string]string{
-	finding.Busy: "What a scan found may wait in its memory, and go to all devices later. Audit again once it is idle, or with a longer --still",
+	finding.Busy:     "What a scan found may wait in its memory, and go to all devices later. Audit again once it is idle, or with a longer --still",
+	finding.ToIgnore: "Have Syncthing scan the folder, and audit again",
+	finding.Linked:   "Bytes stay in step; what the times and modes become isn't known. A copy in place of the link ends that",
 }
 
 // unsure prints what may change a folder in step.
@@ -41,7 +55,7 @@ func (p *printer) unsure(folder *Folder) {
 			continue
 		}
 		told[kind].each(p.named, func(why, devices string) {
-			p.running("not known to be firm: "+shell.Folder(folder.ID, folder.Label)+" on "+devices+":", why+". "+whatToDo[kind]+".")
+			p.running(folder.Firm.CallUnsure()+": "+shell.Folder(folder.ID, folder.Label)+" on "+devices+":", why+". "+whatToDo[kind]+".")
 		})
 	}
 }

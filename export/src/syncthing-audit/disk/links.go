@@ -1,0 +1,45 @@
+package disk
+
+import (
+	"os"
+	"syscall"
+
+	"syncthing-audit/part"
+)
+
+// inode says which file a name leads to.
+type inode struct{ device, number uint64 }
+
+// links counts the names of files that have more than one.
+type links map[inode]*linked
+
+// linked is a file with more than one link: how many it has, and how many of them were met.
+type linked struct {
+	links, met int64
+	bytes      int64
+}
+
+// add adds the name of a file.
+func (l links) add(about os.FileInfo) {
+	said, is := about.Sys().(*syscall.Stat_t)
+	if !is || said.Nlink < 2 || !about.Mode().IsRegular() {
+		return
+	}
+	file := inode{uint64(said.Dev), said.Ino}
+	if l[file] == nil {
+		l[file] = &linked{}
+	}
+	l[file].links, l[file].bytes = int64(said.Nlink), about.Size()
+	l[file].met++
+}
+
+// elsewhere counts the names of files that have links which weren't met.
+func (l links) elsewhere() part.Count {
+	made := part.Count{}
+	for _, one := range l {
+		if one.links > one.met {
+			made.Add(one.met, one.met*one.bytes)
+		}
+	}
+	return made
+}

@@ -1,0 +1,44 @@
+package disk
+
+import (
+	"os"
+	"path/filepath"
+	"testing"
+
+	"github.com/syncthing/syncthing/lib/fs"
+	"syncthing-audit/part"
+)
+
+// Names are counted whose files have links outside the folder; those whose links are all in it aren't.
+func TestLinksThatLeadOutOfAFolder(t *testing.T) {
+	folder, outside := t.TempDir(), t.TempDir()
+	write := func(name string) {
+		if err := os.WriteFile(filepath.Join(folder, name), []byte("12345"), 0o600); err != nil {
+			t.Fatal(err)
+		}
+	}
+	link := func(from, to string) {
+		if err := os.Link(filepath.Join(folder, from), to); err != nil {
+			t.Fatal(err)
+		}
+	}
+	counted := func() part.Count {
+		walker := &Walker{Disk: fs.NewFilesystem(fs.FilesystemTypeBasic, folder), Take: func(Found) error { return nil }}
+		if err := walker.Walk(); err != nil {
+			t.Fatal(err)
+		}
+		return walker.Linked()
+	}
+	write("alone")
+	write("twice")
+	link("twice", filepath.Join(folder, "within"))
+	if made := counted(); made != (part.Count{}) {
+		t.Errorf("%+v lead out of the folder, where none does", made)
+	}
+	write("shared")
+	link("shared", filepath.Join(outside, "shared"))
+	link("twice", filepath.Join(outside, "twice"))
+	if made := counted(); made != (part.Count{Names: 3, Bytes: 15}) {
+		t.Errorf("%+v lead out of the folder, and not 3 names", made)
+	}
+}

@@ -1,0 +1,40 @@
+package gather
+
+import "github.com/syncthing/syncthing/lib/fs"
+
+// toIgnore counts the directories that an index has, that .stignore ignores by now, and whose records the next scan marks. It goes through the
+// index as the scan does (scanSubdirsDeletedAndIgnored, lib/model/folder.go): such a directory stays the folder's if the next name that isn't ignored
+// is below it and is there.
+type toIgnore struct {
+	names   int64
+	waiting int64  // names that are marked unless such a name follows
+	above   string // the first of these
+}
+
+// takeDirectory takes an ignored directory of which the index has a record.
+func (t *toIgnore) takeDirectory(name string) {
+	t.leave(name)
+	t.waiting++
+	if t.above == "" {
+		t.above = name
+	}
+}
+
+// takeOther takes a name of the index that isn't ignored, and that is there.
+func (t *toIgnore) takeOther(name string) {
+	t.leave(name)
+	t.waiting, t.above = 0, ""
+}
+
+// leave counts what waits, where a name isn't below it.
+func (t *toIgnore) leave(name string) {
+	if t.above != "" && !fs.IsParent(name, t.above) {
+		t.end()
+	}
+}
+
+// end counts what waits: no more names follow below it.
+func (t *toIgnore) end() {
+	t.names += t.waiting
+	t.waiting, t.above = 0, ""
+}

@@ -1,0 +1,64 @@
+package summary
+
+import (
+	"strings"
+	"testing"
+
+	"syncthing-audit/finding"
+	"syncthing-audit/part"
+)
+
+// A folder that something may change without a record is in step as far as audited, and not known to be firm. What that is stands below, with what
+// to do; so it does as JSON.
+func TestWhatMayChangeAFirmFolder(t *testing.T) {
+	for kind, one := range map[string]struct {
+		change func(folder *finding.Folder)
+		told   string
+	}{
+		finding.Busy: {func(folder *finding.Folder) {
+			folder.Members[1].Head.Look = &part.Look{}
+			folder.Members[1].About.Rest = &part.Rest{State: "scanning"}
+		}, "docs (Documents) on server: Syncthing was never seen idle between the looks: it was 'scanning'. What a scan found may wait"},
+		finding.ToIgnore: {func(folder *finding.Folder) { folder.Members[1].ToIgnore = 2 },
+			"docs (Documents) on server: 2 directories in its index that .stignore ignores by now: the next scan marks the records. Have Syncthing scan"},
+		finding.Linked: {func(folder *finding.Folder) { folder.Members[1].Linked = &part.Count{Names: 1, Bytes: 5} },
+			"docs (Documents) on server: 1 name of files that have hard links elsewhere: "},
+	} {
+		answer := answerOf(2, func(folder *finding.Folder) {
+			folder.Firmness = finding.Firmness{Asked: true}
+			one.change(folder)
+		})
+		text := strings.Join(strings.Fields(printed(answer)), " ")
+		if !strings.Contains(text, "in step as far as audited, not known to be firm; ") || !strings.Contains(text, "not known to be firm: "+one.told) {
+			t.Errorf("%s: %s", kind, text)
+		}
+		folder := Of(answer).Folders[0]
+		if len(folder.Unsure) != 1 || folder.Unsure[0].Kind != kind || folder.Firm != finding.NotKnown || folder.Verdict != AsFar {
+			t.Errorf("%s: %+v", kind, folder.Unsure)
+		}
+	}
+	loose := answerOf(2, func(folder *finding.Folder) {
+		folder.Firmness = finding.Firmness{Asked: true, First: &finding.Failure{Reason: finding.VersionDiffers, Name: "a", Device: 1}}
+		folder.Members[1].ToIgnore = 1
+	})
+	if text := printed(loose); !strings.Contains(text, "may change by itself: docs (Documents) on server: 1 directory") || strings.Contains(text, "not known") {
+		t.Error(text)
+	}
+	calm := answerOf(2, func(folder *finding.Folder) {
+		folder.Firmness = finding.Firmness{Asked: true}
+		folder.Members[1].Linked = &part.Count{}
+	})
+	if text := printed(calm); strings.Contains(text, "known") || Of(calm).Firm != finding.IsFirm {
+		t.Error(text)
+	}
+}
+
+// Where no Syncthing ran on a device, that is told of its folders.
+func TestADeviceThatDoesNotRunIsTold(t *testing.T) {
+	text := printed(answerOf(2, func(folder *finding.Folder) {
+		folder.Members[0].About.Rest, folder.Members[1].About.Rest = &part.Rest{State: part.RestIdle}, &part.Rest{State: part.RestStopped}
+	}))
+	if !strings.Contains(text, "not running: Syncthing on server (docs): it takes and sends nothing until it is started there.") || strings.Contains(text, "Syncthing on laptop") {
+		t.Error(text)
+	}
+}
