@@ -141,5 +141,5 @@ func (b *back) time(rank int64) int64 {
 	if b.times == nil {
 		return rank
 	}
-	return b.timesByRank[rank]
+	return b.timesByRank[rank+b.epoch]
 }

@@ -156,5 +156,5 @@ func (l *loader) timeBack(rank int64) int64 {
 	case rank >= presentTime:
 		return Now
 	}
-	return l.timesByRank[rank]
+	return l.timesByRank[rank+l.epoch]
 }

@@ -12,6 +12,7 @@ type loader struct {
 	*machine
 	times       map[int64]int64
 	timesByRank []int64
+	epoch       int64 // its place among these
 	counters    map[Counter]uint64
 	numbers     map[uint64]uint64 // of devices
 	sizeOf      map[int64]int64
@@ -89,14 +90,15 @@ func eachRecord(names []Name, call func(*Record)) {
 	}
 }
 
-// rankTimes gives each time of a file its rank. Where times within a window are one, they stay as they are.
+// rankTimes gives each time its rank. The epoch has rank 0: Syncthing gives no time to a symlink, and takes that for it. Where times within
+// a window are one, they stay as they are.
 func (l *loader) rankTimes(names []Name) {
 	for place := range l.devices {
 		if l.devices[place].TimeWindow > 0 {
 			return
 		}
 	}
-	var all []int64
+	all := []int64{0}
 	eachRecord(names, func(r *Record) { all = append(all, r.Time) })
 	for place := range names {
 		for _, what := range names[place].Disk {
@@ -108,10 +110,13 @@ func (l *loader) rankTimes(names []Name) {
 	sort.Slice(all, func(a, b int) bool { return all[a] < all[b] })
 	l.times = make(map[int64]int64, len(all))
 	for _, time := range all {
-		if _, is := l.times[time]; !is {
-			l.times[time] = int64(len(l.times))
+		if count := len(l.timesByRank); count == 0 || time != l.timesByRank[count-1] {
 			l.timesByRank = append(l.timesByRank, time)
 		}
+	}
+	l.epoch = int64(sort.Search(len(l.timesByRank), func(place int) bool { return l.timesByRank[place] >= 0 }))
+	for place, time := range l.timesByRank {
+		l.times[time] = int64(place) - l.epoch
 	}
 }
 
