@@ -4,12 +4,15 @@ side by side. The last line is 'N passed, M failed', and ', K skipped' after it 
 
     export/test/run.py [SECONDS]
     SYNCTHING=syncthing:OTHER/syncthing export/test/run.py [SECONDS]    devices run these by turns
+    export/test/run.py --list                                           says what each class has, and runs nothing
 
 It installs nothing. Where something is missing it says what, and skips all; a class and Go's tests count as one each
 then. With SECONDS, cases that aren't begun by then are skipped; so are all where building takes longer. What was begun
-goes on to its end, for which it has more time than a slow machine needs: what hangs fails.
+goes on to its end, for which it has more time than a slow machine needs: what hangs fails. The number of commits says with
+which class it begins then, so that each class has its turn.
 """
 
+import ast
 import os
 import re
 import signal
@@ -36,6 +39,8 @@ CLASSES = [("rot", "BlockSizes"), ("large_folders", "LargeFiles"), ("large_folde
 # The classes and Go's tests.
 ALL = len(CLASSES) + 1
 SIDE_BY_SIDE = 4
+# By how many classes a commit moves the beginning, where time is short.
+COMMITS_APART = 7
 # What devices may run.
 VERSIONS = ("syncthing v1.19", "syncthing v1.29")
 # Go's tests take some seconds. One of the others fails by itself where a wait takes 300; this is for what else may hang.
@@ -142,14 +147,36 @@ def run_class(module, name, environment, deadline):
     return passed, max(failed, 1), count, skipped
 
 
-def run_classes(environment, deadline):
+def in_turn():
+    """The classes, from the one on whose turn it is by the number of commits; from the first one without git."""
+    counted = subprocess.run(["git", "rev-list", "--count", "HEAD"], cwd=HERE, capture_output=True, text=True)
+    first = int(counted.stdout or 0) * COMMITS_APART % len(CLASSES)
+    return CLASSES[first:] + CLASSES[:first]
+
+
+def list_classes():
+    """Prints what each class has, and each of its cases, by their docstrings."""
+    for module, name in CLASSES:
+        found = next(one for one in ast.parse((HERE / f"{module}.py").read_text()).body if isinstance(one, ast.ClassDef) and one.name == name)
+        print(f"{module}.py {name}: {first_line(found)}")
+        for case in found.body:
+            if isinstance(case, ast.FunctionDef) and case.name.startswith("test_"):
+                print(f"    {case.name.removeprefix('test_').replace('_', ' ')}: {first_line(case)}".removesuffix(": "))
+
+
+def first_line(found):
+    """A docstring on one line."""
+    return " ".join((ast.get_docstring(found) or "").split())
+
+
+def run_classes(classes, environment, deadline):
     """Runs all classes, some side by side, and gives how many cases passed and failed, and of each class how many were
     skipped, with a line that says why."""
     passed = failed = 0
     unfinished = []
     with ThreadPoolExecutor(SIDE_BY_SIDE) as workers:
-        counts = workers.map(lambda one: run_class(*one, environment, deadline), CLASSES)
-        for (_, name), (good, bad, skipped, why) in zip(CLASSES, counts):
+        counts = workers.map(lambda one: run_class(*one, environment, deadline), classes)
+        for (_, name), (good, bad, skipped, why) in zip(classes, counts):
             passed, failed = passed + good, failed + bad
             if skipped:
                 unfinished.append((skipped, f"{skipped} cases of {name}: {'; '.join(sorted(why)) or 'no reason is told'}"))
@@ -157,6 +184,8 @@ def run_classes(environment, deadline):
 
 
 def main():
+    if sys.argv[1:] == ["--list"]:
+        return list_classes()
     lacking = missing()
     if lacking:
         return told(0, 0, [(ALL, f"all tests of the audit of real devices; missing: {', '.join(lacking)}")])
@@ -177,7 +206,7 @@ def told(passed, failed, unfinished):
 
 def run_all(room, deadline):
     """Builds the audit and runs all tests; gives how many passed and failed, and what was skipped."""
-    from exporting import PROGRAM, STAND_IN, UNTIL, auditor, go_environment
+    from exporting import STAND_IN, UNTIL, auditor, go_environment
     program = auditor()
     print("tests of the audit of real devices of", " and ".join(said.partition(" \"")[0] for said in versions()) + ",",
           "answered by", "compare/ in place of the program" if program == str(STAND_IN) else program)
@@ -189,7 +218,7 @@ def run_all(room, deadline):
         return 0, 1, []
     passed, failed = run_go(for_go)
     environment = {**os.environ, "SYNCTHING_AUDIT": str(room), "TMPDIR": str(room), UNTIL: str(deadline)}
-    more = run_classes(environment, deadline)
+    more = run_classes(in_turn() if len(sys.argv) > 1 else CLASSES, environment, deadline)
     return passed + more[0], failed + more[1], more[2]
 
 
