@@ -1,10 +1,17 @@
--- What is proved of cuts that prevail; the functions of src/laws.rt have these as contracts.
-use Rattle.std.specs.Prelude.{◌≡◌, List}
+-- What is proved of cuts that prevail; the functions of src/laws.rt and src/steps.rt have these as contracts.
+use Rattle.std.specs.Prelude.{◌≡◌, ℕ, List, [], Option}
 use Rattle.bep_record.specs.declared.entry.Entry.{Entry}
 use Rattle.bep_model.specs.Tables.{Tables, Folder, FileName}
 use Rattle.bep_model.specs.Free.{IsFreeRun}
 use Rattle.bep_record.specs.Content.{content_of}
 use Rattle.bep_model.specs.Firm.{AreEqual}
+use Rattle.bep_machine.specs.declared.step.Step.{Step}
+use Rattle.bep_machine.specs.Answer.{Answer}
+use Rattle.bep_machine.specs.Cluster.{Cluster}
+use Rattle.bep_machine.specs.Steps.{IsStep, Event, IsRun, IsQuiet, AreQuiet, reset_by, HasNoReset}
+use Rattle.bep_machine.specs.Said.{tables_of_cluster}
+use Rattle.bep_machine.specs.Sound.{IsSound}
+use Rattle.bep_converge.specs.Received.{AllHaveHashes}
 use Rattle.bep_converge.specs.Prevails.{Prevails, AllPrevail}
 use Rattle.bep_converge.specs.Orderly.{IsOrderlyStep, IsOrderlyRun}
 use Rattle.bep_converge.specs.Rises.{GoesOnPrevailing}
@@ -25,3 +32,32 @@ StepsKeepPrevailing = (old new : Tables) → AllPrevail old → IsOrderlyStep ol
 -- and after every run of theirs
 abbrev pub RunsKeepPrevailing : Type 0
 RunsKeepPrevailing = (old new : Tables) (between : List Tables) → AllPrevail old → IsOrderlyRun old between new → GoesOnPrevailing old new
+
+-- ---- this project's peers
+
+-- each quiet step that is no reset is one of orderly peers, where received blocks have their hashes
+abbrev pub StepsAreOrderly : Type 0
+StepsAreOrderly = (step : Step) (failed : Option ℕ) (old new : Cluster) (answer : Answer) →
+    IsQuiet step → reset_by step ≡ [] → IsSound old → AllHaveHashes old → IsStep step failed old new answer →
+    IsOrderlyStep (tables_of_cluster old) (tables_of_cluster new)
+
+-- and they have them after every step
+abbrev pub StepsKeepHashes : Type 0
+StepsKeepHashes = (step : Step) (failed : Option ℕ) (old new : Cluster) (answer : Answer) →
+    AllHaveHashes old → IsStep step failed old new answer → AllHaveHashes new
+
+-- so each quiet run without a reset is one of orderly peers
+abbrev pub RunsAreOrderly : Type 0
+RunsAreOrderly = (cluster later : Cluster) (events : List Event) →
+    IsSound cluster → AllHaveHashes cluster → IsRun cluster events later → AreQuiet events → HasNoReset events →
+    (between : List Tables) × IsOrderlyRun (tables_of_cluster cluster) between (tables_of_cluster later)
+
+-- After every quiet run without a reset from a cluster with these tables, in any interleaving and with any failing calls of the
+-- stores: what prevails goes on prevailing.
+abbrev pub GoesOnInRuns : Tables → Type 0
+GoesOnInRuns tables = (cluster later : Cluster) (events : List Event) →
+    IsSound cluster → AllHaveHashes cluster → tables_of_cluster cluster ≡ tables → IsRun cluster events later → AreQuiet events → HasNoReset events →
+    GoesOnPrevailing tables (tables_of_cluster later)
+
+abbrev pub PrevailingGoesOn : Type 0
+PrevailingGoesOn = (tables : Tables) → AllPrevail tables → GoesOnInRuns tables

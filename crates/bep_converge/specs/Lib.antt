@@ -1,4 +1,5 @@
 pub mod Prevails
 pub mod Orderly
+pub mod Received
 pub mod Rises
 pub mod Laws

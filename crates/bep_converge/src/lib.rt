@@ -2,12 +2,14 @@
 //! lost on the way.
 //!
 //! ```rust
-//! runs_keep_prevailing();
+//! prevailing_goes_on();
 //! ```
 #![tactic(auto)]
 
 mod laws;
+mod steps;
 
 pub use laws::{
     orderly_runs_are_free, prevailing_is_unique, runs_keep_prevailing, steps_keep_prevailing,
 };
+pub use steps::{prevailing_goes_on, runs_are_orderly, steps_are_orderly, steps_keep_hashes};
