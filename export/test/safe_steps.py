@@ -5,6 +5,7 @@
 """
 
 import os
+import subprocess
 
 from exporting import main
 from late_rot import KEPT, LOST, LateRot
@@ -216,6 +217,43 @@ class RotThatAnOldDeviceFetches(LateRot):
         self.stop()
         for device in self.devices:
             self.assertEqual(text_of(device.files / KEPT), "changed " + KEPT)
+
+
+class BelowAFile(LateRot):
+    """On the second device a file stands in place of a directory, below which files are missing."""
+
+    @classmethod
+    def synchronise(cls):
+        (cls.one.files / "folder" / "inner").mkdir(parents=True)
+        for name in (KEPT, LOST):
+            (cls.one.files / "folder" / "inner" / name).write_text("binary " + name)
+        cls.scan_and_wait()
+
+    def test_what_is_said_can_be_done_from_the_top(self):
+        inner = self.two.files / "folder" / "inner"
+        for name in (KEPT, LOST):
+            (inner / name).unlink()
+        inner.rmdir()
+        inner.write_text("a file")
+        one, two = self.label(self.one), self.label(self.two)
+        text = self.answer()[1]
+        first, *entries = [" ".join(part.split()) for part in text.split("\n\n")[1:]]
+        self.assertTrue(first.startswith("folder/inner "), text)
+        self.assertIn("to do: before Syncthing scans there (the scan takes all that was below the directory for deleted, and sends that on), "
+                      f"copy it from {one} to {two} as it is (cp -a, ", first)
+        for name, entry in zip((KEPT, LOST), entries):
+            self.assertTrue(entry.startswith(f"folder/inner/{name} "), text)
+            self.assertIn(f"first copy the directory folder/inner, in which it is, from {one} to {two} as it is (cp -a, ", entry)
+            self.assertIn("with all that is below, once the file that stands in its place is moved away, while Syncthing is stopped there", entry)
+        inner.rename(self.room / "moved away")
+        subprocess.run(["cp", "-a", self.one.files / "folder" / "inner", inner], check=True)
+        self.assertEqual(self.verdict(), "settled")
+        self.start()
+        self.two.scan()
+        wait_until("both devices are in step", lambda: self.one.is_in_step_with(self.two) and self.two.is_in_step_with(self.one))
+        self.stop()
+        for device in self.devices:
+            self.assertEqual([text_of(device.files / "folder" / "inner" / name) for name in (KEPT, LOST)], ["binary " + KEPT, "binary " + LOST])
 
 
 if __name__ == "__main__":

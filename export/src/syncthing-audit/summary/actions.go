@@ -73,7 +73,7 @@ func (f *File) losesAt(one *Fault) bool {
 		lack := f.lackOn(one.Device)
 		return one.isSeen || one.isFetched || one.mayShow() || one.isAsked || one.mayMove || lack != nil && lack.Cause == Conflicting
 	}
-	return one.Cause == Back || one.Cause == Damaged || one.isDamagedChange()
+	return one.Cause == Back || one.Cause == Damaged || one.isDamagedChange() || one.isReplacedDirectory()
 }
 
 // toStart gives the devices on which Syncthing is told to run or to scan for this name, and those from which others fetch it.

@@ -192,7 +192,7 @@ func changedAdvice(one *Fault, file *File, at string, named labels) string {
 	told += file.spread(file.say("the change then goes ", "the changes then go ")+file.toAll(one.Device, named),
 		file.say("the change is then recorded", "the changes are then recorded"))
 	told += file.orBytes(one, named)
-	if one.isDamagedChange() { // so that is told before
+	if one.isDamagedChange() || one.isReplacedDirectory() { // so that is told before
 		return told
 	}
 	return told + file.say(". If the change isn't wanted", ". If they aren't wanted") + ", first " + copying(one, file, named, how)

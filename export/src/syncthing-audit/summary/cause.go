@@ -70,6 +70,7 @@ type Fault struct {
 	// Syncthing may move the other bytes to another name that comes; that name, where it is known.
 	mayMove bool
 	movesTo comer
+	lacks   parent // a directory above the name that isn't on the disk
 	// A scan of another device records another change there, of which neither's record knows.
 	isRival bool
 	// What is in conflict isn't a file on each side, so Syncthing may keep no copy of it.

@@ -17,6 +17,9 @@ func copying(one *Fault, file *File, named labels, to way) string {
 		what = "what is lost"
 	}
 	at := named.of(one.Device)
+	if one.lacks.name != "" {
+		return copyingParent(one, file, named)
+	}
 	if len(file.Have) == 0 {
 		return "look among old versions and backups for " + file.say("a file", "files") + " with the recorded bytes, which no audited device has, and copy " +
 			file.say("it", "them") + " to " + at + file.manner(one, to)

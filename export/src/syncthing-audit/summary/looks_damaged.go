@@ -82,6 +82,10 @@ func wordsOfChanged(faults []*Fault) string {
 // orDamaged gives what is said of a fault, where it looks like damage only for the case that it is wanted: else it is to be mended before a scan. Where
 // others have something newer, that stays once what is damaged is moved away: what they have goes before a deletion.
 func (f *File) orDamaged(one *Fault, wanted string, named labels) string {
+	if one.isReplacedDirectory() {
+		return "before Syncthing scans there (the scan takes all that was below the directory for deleted, and sends that on), " + copying(one, f, named, overAnother) +
+			". If it is wanted as it is: " + wanted
+	}
 	if !one.isDamagedChange() {
 		return wanted
 	}

@@ -245,6 +245,7 @@ func folderOf(answer *finding.Answer, from *finding.Folder, all *folding) *Folde
 		one.isOfSum = answer.IsSum
 		one.noteStuck(from, below)
 		one.noteBlocked(from)
+		one.noteParents(from)
 		one.noteMoved(from, from.Rows[told.Name], coming)
 		one.noteUnseen(unseen)
 		one.localsBelow = locals[string(one.Name)]
