@@ -73,7 +73,12 @@ func (f *File) losesAt(one *Fault) bool {
 		lack := f.lackOn(one.Device)
 		return one.isSeen || one.isFetched || one.mayShow() || one.isAsked || one.mayMove || lack != nil && lack.Cause == Conflicting
 	}
-	return one.Cause == Back || one.Cause == Damaged || one.isDamagedChange() || one.isReplacedDirectory()
+	return one.mayBeMissing() || one.Cause == Back || one.Cause == Damaged || one.isDamagedChange() || one.isReplacedDirectory()
+}
+
+// mayBeMissing says whether the disk isn't as recorded in a way of which no details were kept: the name may be missing there, or have other bytes.
+func (f *Fault) mayBeMissing() bool {
+	return f.Cause == Differs && slices.Contains(f.Reasons, "StoreDiffers")
 }
 
 // toStart gives the devices on which Syncthing is told to run or to scan for this name, and those from which others fetch it.

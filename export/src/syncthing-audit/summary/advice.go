@@ -113,7 +113,11 @@ func adviceOfFault(one *Fault, file *File, named labels) string {
 		}
 		return told + ". Where neither is of a later version, it may keep " + file.say("a conflict copy, which has", "conflict copies, which have") + " the same bytes"
 	}
-	return file.detailsBy(file.say("audit it by itself: --names with this name tells more", "audit some of them by themselves: --names with how they begin tells more"))
+	before := ""
+	if one.mayBeMissing() {
+		before = "before Syncthing starts or scans on " + at + " (" + file.say("it", "they") + " may be missing there, which a scan takes for deleted), "
+	}
+	return before + file.detailsBy(file.say("audit it by itself: --names with this name tells more", "audit some of them by themselves: --names with how they begin tells more"))
 }
 
 const (

@@ -155,3 +155,20 @@ func TestAModeComesBeforeAStart(t *testing.T) {
 		t.Error(text)
 	}
 }
+
+// Where no details of names were kept, they may be missing on the disk: that comes before a start, too.
+func TestNamesWithoutDetailsComeFirst(t *testing.T) {
+	for names, it := range map[int]string{1: "it", mostAlone + 1: "they"} {
+		text := printed(answerOf(2, func(folder *finding.Folder) {
+			for place := 0; place < names; place++ {
+				fails(folder, fmt.Sprint("a", place), nil, "StoreDiffers 2")
+			}
+			fresh(folder, 1)
+		}))
+		for _, has := range []string{"first, on server: do what the entries below", "to do: before Syncthing starts or scans on server (" + it + " may be missing there, which a scan takes for deleted), audit"} {
+			if !strings.Contains(text, has) {
+				t.Errorf("%d: %q isn't in %s", names, has, text)
+			}
+		}
+	}
+}
