@@ -93,8 +93,8 @@ def is_on_firmness(line):
 
 
 def without_firmness(lines):
-    """The lines but for those on firmness."""
-    return [line for line in lines if not is_on_firmness(line)]
+    """The lines but for those on firmness, and but for the names of devices, which stand last."""
+    return [line for line in lines if not is_on_firmness(line) and not line.startswith("device ")]
 
 
 def is_over():

@@ -41,6 +41,16 @@ func Lines(to io.Writer, answer *finding.Answer) {
 		firm(to, folder)
 	}
 	Rest(to, answer)
+	names(to, answer)
+}
+
+// names prints the name of each device beside its number, which the other lines have.
+func names(to io.Writer, answer *finding.Answer) {
+	for _, device := range answer.Devices {
+		if device.Name != "" {
+			outside.Printf(to, "device %d: %s\n", device.Number, printed(device.Name))
+		}
+	}
 }
 
 // firm prints of a folder that is settled whether it is firm, and all that keeps it from that.

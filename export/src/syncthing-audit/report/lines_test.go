@@ -174,12 +174,13 @@ firm wasn't asked: pics
 
 // Which folders of the devices weren't audited is told; without --folder that isn't settled.
 func TestLinesOfOtherFolders(t *testing.T) {
-	answer := &finding.Answer{Folders: []*finding.Folder{folderOf("docs", 2)}, Devices: []finding.Device{{Number: 1, IsSilent: true},
-		{Number: 2, Unasked: []finding.Unasked{{ID: "music", Label: "My music"}}}}}
+	answer := &finding.Answer{Folders: []*finding.Folder{folderOf("docs", 2)}, Devices: []finding.Device{{Number: 1, Name: "laptop", IsSilent: true},
+		{Number: 2, Name: "my server", Unasked: []finding.Unasked{{ID: "music", Label: "My music"}}}}}
 	for _, verdict := range []string{"settled as far as audited", "settled"} {
 		var written strings.Builder
 		Lines(&written, answer)
-		if written.String() != verdict+"\nfolder docs: 2 names, 0 deleted, 2 devices\nfirm: docs\nnot told: other folders of 1\nnot asked for: folder music on 2\n" {
+		if written.String() != verdict+"\nfolder docs: 2 names, 0 deleted, 2 devices\nfirm: docs\nnot told: other folders of 1\nnot asked for: folder music on 2\n"+
+			"device 1: laptop\ndevice 2: my\\x20server\n" {
 			t.Errorf("%s", written.String())
 		}
 		answer.IsByName = true
