@@ -26,7 +26,8 @@ from pathlib import Path
 
 HERE = Path(__file__).resolve().parent
 # The longest first.
-CLASSES = [("rot", "BlockSizes"), ("large_folders", "LargeFiles"), ("large_folders", "LargeFolder"), ("large_folders", "ManyFiles"), ("three_devices", "LeftBehind"), ("three_devices", "EachKind"),
+CLASSES = [("worlds", "Worlds"),
+           ("rot", "BlockSizes"), ("large_folders", "LargeFiles"), ("large_folders", "LargeFolder"), ("large_folders", "ManyFiles"), ("three_devices", "LeftBehind"), ("three_devices", "EachKind"),
            ("live_changes", "LiveWriter"), ("live_changes", "LiveReceiver"), ("live_devices", "LiveDevices"), ("live_run", "LiveRun"), ("emulated", "OnARM"),
            ("firm_devices", "Firm"), ("writers", "OldVersionsInside"), ("unasked", "OtherFolders"), ("unasked", "OwnFolders"), ("unasked", "AwayFolders"), ("data_elsewhere", "DataElsewhere"), ("data_elsewhere", "OldIndex"), ("near_times", "NearTimes"), ("to_repair", "ToRepair"), ("damage", "Damage"), ("encrypted", "Encrypted"), ("conflict", "Conflict"), ("conflict", "ConflictOfSymlinks"), ("conflict", "ConflictOfAConflictCopy"), ("sliced", "Slices"), ("sliced", "SlicesOfRunningDevices"), ("outside", "TemporaryNames"), ("strangers", "Strangers"), ("started", "StartedMeanwhile"), ("at_rest", "ScanUnderWay"), ("unsure", "LinkedFiles"), ("unsure", "ToIgnore"), ("unsure", "OwnData"), ("outside", "Whitelist"), ("outside", "WhitelistOnOneDevice"),
            ("two_devices", "TwoDevices"), ("one_way", "SendOnly"), ("one_way", "ReceiveOnly"), ("one_way", "OwnReceiveOnly"), ("one_way", "ReceiveOnlyOfWhatIsDeleted"), ("one_way", "ReceiveOnlyThatChangedItBefore"), ("local_changes", "ReceiveOnlyChangedAgain"), ("local_changes", "ReceiveOnlyThatOthersPassed"), ("one_way", "ReceiveOnlyThatKeepsItsChange"), ("local_changes", "ReceiveOnlyChangedItsOwnAgain"), ("one_way", "OwnReceiveOnlyWithAFile"),

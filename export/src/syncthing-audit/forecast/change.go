@@ -1,0 +1,60 @@
+package forecast
+
+import (
+	"path"
+	"strings"
+)
+
+// Copied gives a world whose disks may be changed while this one stays as it is.
+func (w World) Copied() World {
+	made := World{Devices: w.Devices, Names: make([]Name, len(w.Names))}
+	for place, name := range w.Names {
+		name.Disk = append([]*Node{}, name.Disk...)
+		made.Names[place] = name
+	}
+	return made
+}
+
+// At gives what stands at a name on a device's disk, or nothing.
+func (w *World) At(device int, name string) *Node {
+	if found := w.find(name); found != nil {
+		return found.Disk[device]
+	}
+	return nil
+}
+
+func (w *World) find(name string) *Name {
+	for place := range w.Names {
+		if w.Names[place].Name == name {
+			return &w.Names[place]
+		}
+	}
+	return nil
+}
+
+// Put sets what stands at a name on a device's disk, with the directories above it.
+func (w *World) Put(device int, name string, what Node) {
+	if above := path.Dir(name); above != "." && w.find(above) != nil && w.At(device, above) == nil {
+		w.Put(device, above, Node{Type: Directory, Mode: usualDirectory})
+	}
+	found := w.find(name)
+	if found == nil {
+		count := len(w.Devices)
+		made := Name{Name: name, Own: make([]*Record, count), Views: make([][]*Record, count), Disk: make([]*Node, count)}
+		for place := range made.Views {
+			made.Views[place] = make([]*Record, count)
+		}
+		w.Names = append(w.Names, made)
+		found = &w.Names[len(w.Names)-1]
+	}
+	found.Disk[device] = &what
+}
+
+// Remove takes away what stands at a name on a device's disk, and all below it.
+func (w *World) Remove(device int, name string) {
+	for place := range w.Names {
+		if one := &w.Names[place]; one.Name == name || strings.HasPrefix(one.Name, name+"/") {
+			one.Disk[device] = nil
+		}
+	}
+}
