@@ -1,37 +1,48 @@
 package forecast
 
-import "sort"
-
 // takeFiles takes the files that are to be renamed or fetched, in the order of the queue. That may be any, so where the order matters it is
 // drawn.
 func (p *pull) takeFiles(queue []int) {
-	sort.SliceStable(queue, func(a, b int) bool { return !p.dependsOnOrder(queue[a], queue) && p.dependsOnOrder(queue[b], queue) })
-	for len(queue) > 0 {
-		place := 0
-		if len(queue) > 1 && p.dependsOnOrder(queue[0], queue) {
-			place = p.draw(len(queue))
+	depends := p.dependOnOrder(queue)
+	var last []int
+	for _, n := range queue {
+		if depends[n] {
+			last = append(last, n)
+		} else {
+			p.note(n, p.takeFile(n))
 		}
-		n := queue[place]
-		queue = append(queue[:place:place], queue[place+1:]...)
+	}
+	for len(last) > 0 {
+		place := 0
+		if len(last) > 1 {
+			place = p.draw(len(last))
+		}
+		n := last[place]
+		last = append(last[:place:place], last[place+1:]...)
 		p.note(n, p.takeFile(n))
 	}
 }
 
-// dependsOnOrder says whether another file of the queue may take what a file would be renamed from, or is below it or above.
-func (p *pull) dependsOnOrder(n int, queue []int) bool {
-	for _, other := range queue {
-		if other == n {
-			continue
-		}
-		if p.isBelow(n, other) || p.isBelow(other, n) {
-			return true
-		}
-		content := p.wanted(n).content
-		if len(p.buckets[content]) > 0 && p.wanted(other).content == content {
-			return true
+// dependOnOrder gives the files of a queue of which one may take what another would be renamed from, or one is below the other.
+func (p *pull) dependOnOrder(queue []int) map[int]bool {
+	due, takers, made := map[int]bool{}, map[int32]int{}, map[int]bool{}
+	for _, n := range queue {
+		due[n] = true
+		if content := p.wanted(n).content; len(p.buckets[content]) > 0 {
+			takers[content]++
 		}
 	}
-	return false
+	for _, n := range queue {
+		if takers[p.wanted(n).content] > 1 {
+			made[n] = true
+		}
+		for above := p.names[n].parent; above >= 0; above = p.names[above].parent {
+			if due[above] {
+				made[n], made[above] = true, true
+			}
+		}
+	}
+	return made
 }
 
 func (p *pull) takeFile(n int) Why {
@@ -109,11 +120,10 @@ func (p *pull) hasBytes(n int, content int32) bool {
 	if what := p.at(p.i, n); what.kind == File && what.content == content {
 		return true
 	}
-	for other := 0; other < p.count(); other++ {
-		own := p.recorded(other)
-		if own.kind != File || own.deleted || own.flag != Valid || own.content != content {
-			continue
-		}
+	if p.holders == nil {
+		p.holders = p.old.byContent(p.i)
+	}
+	for _, other := range p.holders[content] {
 		if what := p.at(p.i, other); what.kind == File && what.content == content {
 			return true
 		}

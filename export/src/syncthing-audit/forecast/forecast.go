@@ -11,6 +11,19 @@ type Budget struct {
 	Walks  int // beyond that so many in random order
 }
 
+// of gives the budget for so many names that hang together: each state of many takes longer.
+func (b Budget) of(names int) Budget {
+	const most, fewest = 16, 5
+	if names <= most {
+		return b
+	}
+	walks := b.Walks * most / names
+	if walks < fewest {
+		walks = fewest
+	}
+	return Budget{States: b.States * most / names, Walks: walks}
+}
+
 // Usual is the budget of an answer to a person.
 var Usual = Budget{States: 4000, Walks: 100}
 
@@ -79,11 +92,12 @@ func sortNames(names []Name) {
 // find tries all orders, or walks where there are too many.
 func (f *Forecaster) find(first *state, count int) *result {
 	starts, all := first.withLists()
-	ends, states, done := explore(starts, f.budget.States)
+	budget := f.budget.of(count)
+	ends, states, done := explore(starts, budget.States)
 	made := &result{isAll: all && done, states: states}
 	if !done {
 		random := rand.New(rand.NewSource(int64(count)))
-		for made.orders < f.budget.Walks {
+		for made.orders < budget.Walks {
 			made.orders++
 			if end := walk(starts[random.Intn(len(starts))], random); end != nil {
 				ends = append(ends, end)

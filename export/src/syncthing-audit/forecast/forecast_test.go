@@ -117,3 +117,21 @@ func TestStuck(t *testing.T) {
 		t.Fatalf("%+v", answer)
 	}
 }
+
+// Many names that differ in time, bytes and versions are foretold within the time of an answer.
+func BenchmarkNames(b *testing.B) {
+	names := make([]Name, 10000)
+	for place := range names {
+		number := int64(place)
+		name := inStep(fmt.Sprint("name", place), fmt.Sprint("old", place), 3, 1+number%977)
+		name.changed(place%3, fmt.Sprint("new", place), 2000+number%13)
+		if place%2 == 0 {
+			name.changed((place+1)%3, fmt.Sprint("other", place), 2000+number%17)
+		}
+		names[place] = name
+	}
+	b.ResetTimer()
+	for round := 0; round < b.N; round++ {
+		New(Usual).Of(World{Devices: three(), Names: append([]Name{}, names...)})
+	}
+}

@@ -29,6 +29,7 @@ type pull struct {
 	buckets map[int32][]int // files to be deleted, by their bytes
 	due     map[int]bool    // those of them that are still to be deleted
 	dirs    []int
+	holders map[int32][]int // files by the bytes that the device recorded, once they were asked for
 }
 
 type job struct {
@@ -155,14 +156,8 @@ func (p *pull) finish() {
 	for _, job := range p.jobs {
 		p.put(p.i, p.i, job.n, job.entry)
 	}
-	var names []int
-	for n := 0; n < p.count(); n++ {
-		if p.scans[n] {
-			names = append(names, n)
-		}
-	}
-	if len(names) > 0 {
-		p.scan(p.i, names)
+	if len(p.scans) > 0 {
+		p.scan(p.i, p.scans)
 	}
 	for _, one := range p.rescans {
 		own := *p.own(one.j, one.n)
@@ -171,6 +166,6 @@ func (p *pull) finish() {
 		}
 		own.flag, own.content = MustBeHashed, 0
 		p.put(one.j, one.j, one.n, own)
-		p.scan(one.j, []int{one.n})
+		p.scan(one.j, map[int]bool{one.n: true})
 	}
 }

@@ -1,34 +1,46 @@
 package forecast
 
 // everything has a scan go over the whole folder.
-var everything []int
+var everything map[int]bool
 
 // scan has a device scan its folder, or only these names with what is below them. It says whether that changed a record.
-func (s *state) scan(i int, names []int) bool {
+func (s *state) scan(i int, names map[int]bool) bool {
 	names = s.withParents(i, names)
 	changed := s.scanFound(i, names)
 	return s.scanMissing(i, names) || changed
 }
 
 // withParents gives for each name the highest directory above it that the device hasn't recorded, or the name: Syncthing's unifySubs.
-func (s *state) withParents(i int, names []int) []int {
-	made := make([]int, 0, len(names))
-	for _, n := range names {
+func (s *state) withParents(i int, names map[int]bool) map[int]bool {
+	made := make(map[int]bool, len(names))
+	for n := range names {
 		for above := s.names[n].parent; above >= 0 && !s.own(i, above).isThere(); above = s.names[above].parent {
 			n = above
 		}
-		made = append(made, n)
+		made[n] = true
 	}
 	return made
 }
 
-func (s *state) isScanned(n int, names []int) bool {
-	for _, one := range names {
-		if n == one || s.isBelow(n, one) {
+// isScanned says whether a name is one of these, or below one.
+func (s *state) isScanned(n int, names map[int]bool) bool {
+	for at := n; at >= 0; at = s.names[at].parent {
+		if names[at] {
 			return true
 		}
 	}
 	return len(names) == 0
+}
+
+// byContent gives the files that a device recorded, by their bytes.
+func (s *state) byContent(i int) map[int32][]int {
+	made := map[int32][]int{}
+	for n := 0; n < s.count(); n++ {
+		if own := s.own(i, n); own.kind == File && !own.deleted && own.flag == Valid && own.content != 0 {
+			made[own.content] = append(made[own.content], n)
+		}
+	}
+	return made
 }
 
 // globals are the records that prevail at a device, as they were when a step began.
@@ -43,7 +55,7 @@ func (s *state) globals(i int) globals {
 }
 
 // scanFound takes what stands on the disk.
-func (s *state) scanFound(i int, names []int) bool {
+func (s *state) scanFound(i int, names map[int]bool) bool {
 	var found []int
 	for n := 0; n < s.count(); n++ {
 		if what := s.at(i, n); what.isThere() && s.isScanned(n, names) && !s.isUnchanged(i, n, what) {
@@ -55,12 +67,12 @@ func (s *state) scanFound(i int, names []int) bool {
 	}
 	before := s.globals(i)
 	old := s.copied()
-	used := map[int]bool{}
+	r := renames{old, old.byContent(i), before, map[int]bool{}}
 	for _, n := range found {
 		entry := old.found(i, n)
 		s.update(i, n, entry, before)
 		if s.devices[i].Kind != ReceiveOnly {
-			s.findRename(i, n, &entry, old, before, used)
+			s.findRename(i, n, &entry, &r)
 		}
 	}
 	return true
@@ -119,27 +131,26 @@ func (s *state) update(i, n int, entry record, before globals) {
 	s.put(i, i, n, entry)
 }
 
+// renames is what a scan needs to find what was renamed.
+type renames struct {
+	old    *state          // as it was when the scan began
+	files  map[int32][]int // those recorded then, by their bytes
+	before globals
+	used   map[int]bool // those that were found, or that are still there
+}
+
 // findRename takes the record of a file with the same bytes that is gone for deleted.
-func (s *state) findRename(i, n int, entry *record, old *state, before globals, used map[int]bool) {
+func (s *state) findRename(i, n int, entry *record, r *renames) {
 	if entry.kind != File || s.sizes[entry.content] == 0 {
 		return
 	}
-	for other := 0; other < s.count(); other++ {
-		own := old.own(i, other)
-		if !own.isThere() || own.kind != File || own.deleted || own.flag != Valid || own.content != entry.content {
-			continue
-		}
-		if other == n {
-			used[other] = true
-		}
-		if used[other] {
-			continue
-		}
-		used[other] = true
-		if !s.at(i, other).isThere() {
-			s.update(i, other, s.gone(i, own), before)
+	for _, other := range r.files[entry.content] {
+		if other != n && !r.used[other] && !s.at(i, other).isThere() {
+			r.used[other] = true
+			s.update(i, other, s.gone(i, r.old.own(i, other)), r.before)
 			return
 		}
+		r.used[other] = true
 	}
 }
 
@@ -157,7 +168,7 @@ func (s *state) gone(i int, own *record) record {
 }
 
 // scanMissing takes what isn't there any more for deleted.
-func (s *state) scanMissing(i int, names []int) bool {
+func (s *state) scanMissing(i int, names map[int]bool) bool {
 	var before globals
 	changed := false
 	for n := 0; n < s.count(); n++ {

@@ -5,7 +5,8 @@ import (
 	"sort"
 )
 
-// split gives groups of names that hang together: a directory with all below it, and files that share bytes which aren't empty.
+// split gives groups of names that hang together: a directory with all below it, unless it is in step, and files that share bytes which
+// aren't empty.
 func split(names []Name) [][]Name {
 	groups := newGroups(len(names))
 	places := make(map[string]int, len(names))
@@ -15,7 +16,7 @@ func split(names []Name) [][]Name {
 	first := map[Content]int{}
 	for place := range names {
 		for above := path.Dir(names[place].Name); above != "."; above = path.Dir(above) {
-			if found, is := places[above]; is {
+			if found, is := places[above]; is && !names[found].isDirectoryInStep() {
 				groups.join(place, found)
 			}
 		}
@@ -28,6 +29,26 @@ func split(names []Name) [][]Name {
 		})
 	}
 	return groups.of(names)
+}
+
+// isDirectoryInStep says whether all have a directory there, have recorded it so, and know that of each other. Nothing changes it then.
+func (n *Name) isDirectoryInStep() bool {
+	first := n.Own[0]
+	isSame := func(entry *Record) bool {
+		return entry != nil && entry.Type == Directory && !entry.Deleted && entry.Flag == Valid && compareVectors(entry.Version, first.Version) == equal
+	}
+	for i, own := range n.Own {
+		what := n.Disk[i]
+		if !isSame(own) || what == nil || what.Type != Directory || own.Mode != NoMode && what.Mode != own.Mode {
+			return false
+		}
+		for j, view := range n.Views[i] {
+			if j != i && !isSame(view) {
+				return false
+			}
+		}
+	}
+	return true
 }
 
 // eachContent calls for all bytes that a name has somewhere.
