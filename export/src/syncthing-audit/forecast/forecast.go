@@ -58,8 +58,17 @@ func New(budget Budget) *Forecaster { return &Forecaster{budget, map[string]*res
 // Of gives an answer for each group of names of a world that hang together.
 func (f *Forecaster) Of(world World) []Answer {
 	var made []Answer
-	for _, names := range split(world.Names) {
-		made = append(made, f.OfGroup(world.Devices, names))
+	for _, group := range world.Groups() {
+		made = append(made, f.OfGroup(group.Devices, group.Names))
+	}
+	return made
+}
+
+// Groups gives a world for each group of names that hang together.
+func (w World) Groups() []World {
+	var made []World
+	for _, names := range split(w.Names) {
+		made = append(made, World{Devices: w.Devices, Names: names})
 	}
 	return made
 }

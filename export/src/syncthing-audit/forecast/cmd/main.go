@@ -16,14 +16,15 @@ func main() {
 	folder := flag.String("folder", "docs", "the folder's id")
 	states := flag.Int("states", forecast.Usual.States, "up to so many states all orders are tried")
 	walks := flag.Int("walks", forecast.Usual.Walks, "beyond that so many in random order")
+	seed := flag.Int64("plans", 0, "a plan for a goal drawn with this seed, too, for each group of names")
 	flag.Parse()
-	if err := run(*folder, forecast.Budget{States: *states, Walks: *walks}, flag.Args()); err != nil {
+	if err := run(*folder, forecast.Budget{States: *states, Walks: *walks}, *seed, flag.Args()); err != nil {
 		fmt.Fprintln(os.Stderr, err)
 		os.Exit(2)
 	}
 }
 
-func run(folder string, budget forecast.Budget, paths []string) error {
+func run(folder string, budget forecast.Budget, seed int64, paths []string) error {
 	var parts []part.Stream
 	for _, path := range paths {
 		file, err := os.Open(path)
@@ -41,5 +42,9 @@ func run(folder string, budget forecast.Budget, paths []string) error {
 	if err != nil {
 		return err
 	}
-	return json.NewEncoder(os.Stdout).Encode(map[string]interface{}{"world": world, "answers": forecast.New(budget).Of(world)})
+	made := map[string]interface{}{"answers": forecast.New(budget).Of(world)}
+	if seed != 0 {
+		made["plans"] = plans(world, seed)
+	}
+	return json.NewEncoder(os.Stdout).Encode(made)
 }

@@ -1,0 +1,86 @@
+// Package advice finds what to do on the disks of Syncthing devices so that a name comes to an end that someone wants. It searches in the
+// forecast: a plan is given only if each of its ends is the goal.
+//
+// Plans are carried out while the devices are stopped, and then all of them are started; or they run, and all of them scan. A plan is
+// followed from the top, and may be left after each step: then nothing is lost that wouldn't be lost by the whole plan, or without one.
+//
+// The package says nothing in words. It reads nothing, and changes nothing.
+package advice
+
+import "syncthing-audit/forecast"
+
+// Goal is what is to stand at a name on all devices; without a node nothing is.
+type Goal struct {
+	Name string
+	Node *forecast.Node
+}
+
+// isReached says whether an end is the goal: the same kind, bytes and target stand on each device.
+func (g Goal) isReached(end *forecast.End) bool {
+	for _, disk := range end.Disks {
+		var there *forecast.Node
+		for place := range disk {
+			if disk[place].Name == g.Name && !disk[place].IsCopy {
+				there = &disk[place].Node
+			}
+		}
+		if !isSame(there, g.Node) {
+			return false
+		}
+	}
+	return true
+}
+
+func isSame(a, b *forecast.Node) bool {
+	if a == nil || b == nil {
+		return a == b
+	}
+	return a.Type == b.Type && a.Content == b.Content && a.Target == b.Target
+}
+
+// contents are sets of files' bytes.
+type contents map[forecast.Content]bool
+
+// onDisks gives the bytes that a world has on disks.
+func onDisks(world *forecast.World) contents {
+	made := contents{}
+	for place := range world.Names {
+		for _, what := range world.Names[place].Disk {
+			if what != nil && what.Content.Size > 0 {
+				made[what.Content] = true
+			}
+		}
+	}
+	return made
+}
+
+// lostIn adds the bytes that stand on no disk at some end.
+func (c contents) lostIn(ends []forecast.End, lost contents) {
+	for _, end := range ends {
+		left := contents{}
+		for _, disk := range end.Disks {
+			for _, place := range disk {
+				left[place.Node.Content] = true
+			}
+		}
+		for content := range c {
+			if !left[content] {
+				lost[content] = true
+			}
+		}
+	}
+}
+
+// isWithin says whether all of these are among others.
+func (c contents) isWithin(others ...contents) bool {
+	for content := range c {
+		found := false
+		for _, other := range others {
+			found = found || other[content]
+		}
+		if !found {
+			return false
+		}
+	}
+	return true
+}

@@ -1,0 +1,207 @@
+package advice
+
+import (
+	"sort"
+
+	"syncthing-audit/forecast"
+)
+
+// Act is what a step does.
+type Act uint8
+
+const (
+	Touch  Act = iota + 1 // gives the present time to what is there
+	Copy                  // copies from another device, with the time and the mode
+	Delete                // with all below it
+)
+
+// Step is one step on one device's disk.
+type Step struct {
+	Act    Act
+	Device int
+	From   int // of a copy
+	Name   string
+}
+
+// Plan is what to do, and what comes of it.
+type Plan struct {
+	Steps  []Step
+	Answer forecast.Answer    // each end is the goal
+	Lost   []forecast.Content // bytes that are on some disk now, and on none at some end
+}
+
+// MostSteps is how many steps a plan has at most.
+const MostSteps = 3
+
+// Search says how to search.
+type Search struct {
+	Forecaster *forecast.Forecaster
+	Present    int64 // the present time, in nanoseconds
+}
+
+// Plans gives the shortest plans of a goal, the ones that lose least first: nothing if there is none. The world's names must hang together.
+func (s Search) Plans(world forecast.World, goal Goal) []Plan {
+	t := task{Search: s, world: world, goal: goal, before: onDisks(&world), unavoidable: contents{}}
+	t.before.lostIn(s.answer(world).Ends, t.unavoidable)
+	for count := 0; count <= MostSteps; count++ {
+		var made []Plan
+		choose(t.steps(), count, func(steps []Step) {
+			if plan := t.plan(steps); plan != nil {
+				made = append(made, *plan)
+			}
+		})
+		if len(made) > 0 {
+			sort.SliceStable(made, func(a, b int) bool { return len(made[a].Lost) < len(made[b].Lost) })
+			return made
+		}
+	}
+	return nil
+}
+
+type task struct {
+	Search
+	world       forecast.World
+	goal        Goal
+	before      contents // on disks now
+	unavoidable contents // what is lost if nobody does anything
+}
+
+func (s Search) answer(world forecast.World) forecast.Answer {
+	return s.Forecaster.OfGroup(world.Devices, world.Copied().Names)
+}
+
+// steps gives all steps that may serve.
+func (t *task) steps() []Step {
+	var made []Step
+	from := -1
+	for i := range t.world.Devices {
+		if there := t.world.At(i, t.goal.Name); t.goal.Node != nil && isSame(there, t.goal.Node) {
+			made = append(made, Step{Touch, i, 0, t.goal.Name})
+			if from < 0 {
+				from = i
+			}
+		}
+	}
+	for i := range t.world.Devices {
+		there := t.world.At(i, t.goal.Name)
+		if from >= 0 && !isSame(there, t.goal.Node) && t.goal.Node.Type != forecast.Directory {
+			made = append(made, Step{Copy, i, from, t.goal.Name})
+		}
+		if there != nil && !isSame(there, t.goal.Node) {
+			made = append(made, Step{Delete, i, 0, t.goal.Name})
+		}
+	}
+	return made
+}
+
+// choose calls for each choice of some of these steps, in their order.
+func choose(steps []Step, count int, call func([]Step)) {
+	var chosen []Step
+	var next func(from int)
+	next = func(from int) {
+		if len(chosen) == count {
+			call(append([]Step{}, chosen...))
+			return
+		}
+		for place := from; place < len(steps); place++ {
+			chosen = append(chosen, steps[place])
+			next(place + 1)
+			chosen = chosen[:len(chosen)-1]
+		}
+	}
+	next(0)
+}
+
+// plan gives the plan of these steps, in an order that is safe from the top; nothing if they have another end, or no such order.
+func (t *task) plan(steps []Step) *Plan {
+	var found *Plan
+	if t.leads(steps) == nil {
+		return nil
+	}
+	permute(steps, func(order []Step) bool {
+		if made := t.leads(order); made != nil && t.isSafe(order, made.Lost) {
+			found = made
+		}
+		return found == nil
+	})
+	return found
+}
+
+// leads gives the plan of steps in this order if each of its ends is the goal.
+func (t *task) leads(steps []Step) *Plan {
+	made := &Plan{Steps: append([]Step{}, steps...), Answer: t.answer(t.after(steps))}
+	if len(made.Answer.Ends) == 0 || made.Answer.Endless > 0 {
+		return nil
+	}
+	for place := range made.Answer.Ends {
+		if !t.goal.isReached(&made.Answer.Ends[place]) {
+			return nil
+		}
+	}
+	lost := contents{}
+	t.before.lostIn(made.Answer.Ends, lost)
+	for content := range lost {
+		made.Lost = append(made.Lost, content)
+	}
+	sort.Slice(made.Lost, func(a, b int) bool { return made.Lost[a].Hash < made.Lost[b].Hash })
+	return made
+}
+
+// isSafe says whether one may stop after each step: nothing is lost then but what the plan loses, or what is lost without it.
+func (t *task) isSafe(steps []Step, lost []forecast.Content) bool {
+	allowed := contents{}
+	for _, content := range lost {
+		allowed[content] = true
+	}
+	for count := 1; count < len(steps); count++ {
+		onTheWay := contents{}
+		t.before.lostIn(t.answer(t.after(steps[:count])).Ends, onTheWay)
+		if !onTheWay.isWithin(allowed, t.unavoidable) {
+			return false
+		}
+	}
+	return true
+}
+
+// permute calls for each order of some steps until a call says that this was enough.
+func permute(steps []Step, call func([]Step) bool) bool {
+	var made func(chosen, rest []Step) bool
+	made = func(chosen, rest []Step) bool {
+		if len(rest) == 0 {
+			return call(chosen)
+		}
+		for place := range rest {
+			others := append(append([]Step{}, rest[:place]...), rest[place+1:]...)
+			if !made(append(append([]Step{}, chosen...), rest[place]), others) {
+				return false
+			}
+		}
+		return true
+	}
+	return made(nil, steps)
+}
+
+// after gives the world after these steps.
+func (t *task) after(steps []Step) forecast.World {
+	made := t.world.Copied()
+	for _, step := range steps {
+		step.On(&made, t.Present)
+	}
+	return made
+}
+
+// On carries out a step in a world.
+func (s Step) On(world *forecast.World, present int64) {
+	switch s.Act {
+	case Touch:
+		what := *world.At(s.Device, s.Name)
+		what.Time = present
+		world.Put(s.Device, s.Name, what)
+	case Copy:
+		what := *world.At(s.From, s.Name)
+		world.Remove(s.Device, s.Name)
+		world.Put(s.Device, s.Name, what)
+	case Delete:
+		world.Remove(s.Device, s.Name)
+	}
+}
