@@ -36,9 +36,9 @@ def make_parts(program, devices, room):
     return made
 
 
-def foretell(program, parts):
+def foretell(program, parts, *words):
     """What the program foretells of devices, from their parts."""
-    ran = subprocess.run([program, "--folder", FOLDER, *parts], capture_output=True, text=True)
+    ran = subprocess.run([program, "--folder", FOLDER, *words, *parts], capture_output=True, text=True)
     if ran.returncode:
         raise AssertionError(ran.stderr)
     return json.loads(ran.stdout)

@@ -3,6 +3,7 @@
 what they had before must have that end, exactly: kinds, bytes and conflict copies on each device.
 
     export/test/storm.py SEED [ROUNDS] [--devices COUNT] [--runs COUNT] [--keep DIRECTORY]
+    export/test/storm.py SEED [ROUNDS] --plans ..     some goal for each name that goes with others, and a plan for it, which is carried out
     export/test/storm.py --again DIRECTORY
 
 SYNCTHING names the programs that devices run, as in the other tests: each round takes one of them for all devices, or all by turns. It
@@ -23,6 +24,7 @@ from pathlib import Path
 import syncthing
 from exporting import built, go_environment
 from foretold import compare, foretell, make_parts
+from planned import carry_out, with_plans
 from quick import Quick, come_to_an_end, rest, start, stop, tree_of
 from storming import ALL, Storm
 from syncthing import programs
@@ -109,15 +111,19 @@ class Round:
         shutil.rmtree(kept)
 
 
-def run_round(seed, count, runs, audit, keep):
-    """Runs a round, and leaves its parts and what came of it."""
+def run_round(seed, count, runs, audit, keep, planner):
+    """Runs a round, and leaves its parts and what came of it; with a program that plans, plans are carried out first."""
     with tempfile.TemporaryDirectory(prefix="storm-") as room:
         one = Round(seed, Path(room) / "room", count)
         try:
             one.begin()
             one.rage()
             keep.mkdir(parents=True, exist_ok=True)
-            make_parts(audit, one.devices, keep)
+            parts = make_parts(audit, one.devices, keep)
+            if planner:
+                planned = foretell(planner, parts, "--plans", str(seed))
+                (keep / "plans.json").write_text(json.dumps(planned))
+                carry_out(planned["plans"], one.devices)
             ends = list(one.ends(runs))
         finally:
             stop(one.devices)
@@ -129,7 +135,10 @@ def run_round(seed, count, runs, audit, keep):
 def judge(kept, program):
     """Foretells a round, prints what was untrue, and gives a finding for each name and run."""
     made = json.loads((kept / "round.json").read_text())
-    findings = compare(foretell(program, [kept / f"{name}.part" for name in made["names"]]), made["names"], made["ends"])
+    if (kept / "plans.json").exists():
+        findings = compare(with_plans(json.loads((kept / "plans.json").read_text())), made["names"], made["ends"])
+    else:
+        findings = compare(foretell(program, [kept / f"{name}.part" for name in made["names"]]), made["names"], made["ends"])
     print(f"round {made['seed']}", made["kinds"], made["programs"])
     print(told(findings), flush=True)
     return findings
@@ -143,19 +152,21 @@ def main():
     asked.add_argument("--runs", type=int, default=2)
     asked.add_argument("--keep", type=Path)
     asked.add_argument("--again", type=Path)
+    asked.add_argument("--plans", action="store_true")
     asked = asked.parse_args()
     os.umask(0o022)
     with tempfile.TemporaryDirectory(prefix="storm-programs-") as room:
         audit, program = built(Path(room)) / "syncthing-audit", Path(room) / "foretell"
         subprocess.run(["go", "build", "-o", program, "syncthing-audit/forecast/cmd"], env=go_environment(Path(room)), check=True)
         total = []
+        planner = program if asked.plans else None
         if asked.again:
             for kept in sorted(path.parent for path in asked.again.glob("*/round.json")):
                 total += judge(kept, program)
         else:
             for seed in range(asked.seed, asked.seed + asked.rounds):
                 kept = (asked.keep or Path(room)) / str(seed)
-                run_round(seed, asked.devices, asked.runs, audit, kept)
+                run_round(seed, asked.devices, asked.runs, audit, kept, planner)
                 total += judge(kept, program)
         print("all:", told(total))
     return any(not finding.is_true for finding in total)
