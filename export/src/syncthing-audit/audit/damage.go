@@ -9,6 +9,14 @@ import (
 // addDamaged adds a name of which a disk itself fails to give what it has. A file goes into a document all the same, with bytes
 // of no file, so that the other devices are compared. What else fails so has no document: a directory's names aren't known, say.
 func (n *names) addDamaged(row *join.Row) {
+	if made := damagedOf(row); len(made.At) > 0 {
+		made.IsFile = made.IsFile && !hasOut(row)
+		n.found.Damaged.Add(made)
+	}
+}
+
+// damagedOf gives of which devices the disk itself fails to give what it has, and whether that is a file.
+func damagedOf(row *join.Row) finding.Damaged {
 	made := finding.Damaged{Name: part.Bytes(row.Name)}
 	for member, one := range row.At {
 		if one == nil || one.IsIgnored() {
@@ -24,7 +32,5 @@ func (n *names) addDamaged(row *join.Row) {
 			}
 		}
 	}
-	if made.IsFile = made.IsFile && !hasOut(row); len(made.At) > 0 {
-		n.found.Damaged.Add(made)
-	}
+	return made
 }

@@ -20,9 +20,9 @@ func TestWhatADiskFailsToGive(t *testing.T) {
 		told     string
 		first    string
 	}{
-		{"a directory", rowOf(&part.Name{Out: []part.LeftOut{damaged}}, nil), "", 0, "[{0 input/output error}]", "&{StoreDiffers d/ 1}"},
+		{"a directory", rowOf(&part.Name{Out: []part.LeftOut{damaged}}, nil), "", 0, "[{0 input/output error false}]", "&{StoreDiffers d/ 1}"},
 		{"a directory on both", rowOf(&part.Name{Out: []part.LeftOut{damaged}}, &part.Name{Out: []part.LeftOut{damaged}}), "", 0,
-			"[{0 input/output error} {1 input/output error}]", "&{StoreDiffers d/ 1}"},
+			"[{0 input/output error false} {1 input/output error false}]", "&{StoreDiffers d/ 1}"},
 		{"what one of them ignores", rowOf(&part.Name{Out: []part.LeftOut{damaged, {Kind: part.Ignored}}}, &part.Name{Own: record}), "", 1, "", "<nil>"},
 		{"the same, left out", rowOf(&part.Name{Out: []part.LeftOut{damaged, {Kind: part.Ignored}}}, &part.Name{Own: record}), part.Ignored, 0, "", "<nil>"},
 	} {

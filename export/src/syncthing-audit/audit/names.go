@@ -29,12 +29,14 @@ func (n *names) row(row *join.Row) error {
 	}
 	switch {
 	case n.isBelow(row):
+		n.addOwnFaults(row)
 	case row.IsMoving():
 		n.addMoving(row)
+		n.addOwnFaults(row)
 	case isOutside(row):
 		n.found.Outside.Add(1, row.Size())
 	case hasOut(row):
-		n.addDamaged(row)
+		n.addOwnFaults(row)
 		n.leaveOut(row, reasonsOf(row))
 	default:
 		return n.audit(row)

@@ -5,7 +5,7 @@ import (
 	"syncthing-audit/spill"
 )
 
-// Damaged is a name of which a disk itself fails to give what it has.
+// Damaged is a name of which a disk itself fails to give what it has, or of one that isn't audited, has other bytes than its own index says.
 type Damaged struct {
 	Name   part.Bytes
 	IsFile bool // whether a document has it, so that syncaudit tells that it isn't as it is due
@@ -16,6 +16,7 @@ type Damaged struct {
 type DamagedAt struct {
 	Member int
 	Why    string
+	IsRot  bool // the disk gives bytes, and they aren't those that the device's own index records
 }
 
 const storeDiffers = "StoreDiffers"

@@ -13,9 +13,9 @@ func TestDamageAmongFailures(t *testing.T) {
 	for _, name := range []string{"a", "c", "e"} {
 		folder.Failures.Add(Failure{storeDiffers, name, 2})
 	}
-	folder.Damaged.Add(Damaged{Name: "b/", At: []DamagedAt{{0, "why"}, {1, "why"}}})
-	folder.Damaged.Add(Damaged{Name: "c", IsFile: true, At: []DamagedAt{{1, "why"}}})
-	folder.Damaged.Add(Damaged{Name: "z", At: []DamagedAt{{1, "why"}}})
+	folder.Damaged.Add(Damaged{Name: "b/", At: []DamagedAt{{Member: 0, Why: "why"}, {Member: 1, Why: "why"}}})
+	folder.Damaged.Add(Damaged{Name: "c", IsFile: true, At: []DamagedAt{{Member: 1, Why: "why"}}})
+	folder.Damaged.Add(Damaged{Name: "z", At: []DamagedAt{{Member: 1, Why: "why"}}})
 	failures, names := "", ""
 	folder.EachFailure(func(one *Failure) { failures += fmt.Sprint(one.Name, one.Device, " ") })
 	folder.EachName(func(one *Told) { names += fmt.Sprint(one.Name, len(one.Failures), one.Damaged != nil, " ") })

@@ -23,7 +23,7 @@ func withLists(count int) *Answer {
 			name := fmt.Sprintf("%d <ü> %d", folder, number)
 			next.Unwon.Add(Unwon{name, []Cause{{1, Unscanned}}})
 			next.Permissions.Add(Permissions{name, []Bits{{Has: true, Index: 0o644}, {}}})
-			next.Damaged.Add(Damaged{Name: part.Bytes(name + "\xff"), IsFile: number%2 == 0, At: []DamagedAt{{1, "input/output error"}}})
+			next.Damaged.Add(Damaged{Name: part.Bytes(name + "\xff"), IsFile: number%2 == 0, At: []DamagedAt{{Member: 1, Why: "input/output error"}}})
 			next.Loose.Add(Loose{name, []LooseAt{{2, VersionDiffers, true}}})
 		}
 		made.Folders = append(made.Folders, next)

@@ -174,11 +174,15 @@ func permissions(to io.Writer, folder *finding.Folder) {
 	})
 }
 
-// damaged prints of which names a disk itself fails to give what it has.
+// damaged prints of which names a disk itself fails to give what it has, or has something else than its own index says.
 func damaged(to io.Writer, folder *finding.Folder) {
 	folder.Damaged.Each(func(one *finding.Damaged) {
 		for _, at := range one.At {
-			outside.Printf(to, "damaged: %s %s on %d: %s\n", folder.ID, printed(string(one.Name)), folder.Members[at.Member].Number, at.Why)
+			kind := "damaged"
+			if at.IsRot {
+				kind = "differs"
+			}
+			outside.Printf(to, "%s: %s %s on %d: %s\n", kind, folder.ID, printed(string(one.Name)), folder.Members[at.Member].Number, at.Why)
 		}
 	})
 }

@@ -7,6 +7,11 @@ import "syncthing-audit/finding"
 func (f *File) addDamage(folder *finding.Folder, one *finding.Damaged) {
 	for _, at := range one.At {
 		member := folder.Members[at.Member]
+		if at.IsRot {
+			f.Faults = append(f.Faults, Fault{Device: member.Head.Device, Cause: Differs, Kind: kindOf(member), Why: at.Why, Reasons: []string{"StoreDiffers"},
+				isWide: isWide(member)})
+			continue
+		}
 		if fault := f.damageOf(member.Head.Device); fault != nil {
 			fault.Cause, fault.Why = Damaged, at.Why
 			continue

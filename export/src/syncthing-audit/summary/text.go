@@ -201,6 +201,8 @@ func (p *printer) fault(one *Fault) {
 
 func (p *printer) wordsOf(one *Fault) string {
 	switch {
+	case one.Cause == Differs && one.Why != "":
+		return one.Why
 	case one.isSeen:
 		return "other bytes on the disk; size and time are as recorded, the mode isn't, so the next scan sees it"
 	case one.mayShow():

@@ -1,0 +1,45 @@
+package audit
+
+import (
+	"sort"
+
+	"syncthing-audit/finding"
+	"syncthing-audit/join"
+	"syncthing-audit/part"
+)
+
+// whyRot says that a disk has other bytes than its own index records, and why no more is told.
+const whyRot = "other bytes on the disk than its own index records; size and time are as recorded. The name wasn't compared with other devices'"
+
+// addOwnFaults adds what is wrong at each device by itself of a name that isn't audited. It may be another device that says that it changes or
+// can't be read, and what a device's own disk and index say is so whatever others say.
+func (n *names) addOwnFaults(row *join.Row) {
+	made := damagedOf(row)
+	made.IsFile = false // no document has it
+	for member, one := range row.At {
+		if one != nil && isRotten(one, n.found.Members[member].About) {
+			made.At = append(made.At, finding.DamagedAt{Member: member, Why: whyRot, IsRot: true})
+		}
+	}
+	if len(made.At) > 0 {
+		sort.SliceStable(made.At, func(one, other int) bool { return made.At[one].Member < made.At[other].Member })
+		n.found.Damaged.Add(made)
+		n.audited++
+	}
+}
+
+// isRotten says whether a file isn't what its device's own record says, while its size and time are.
+func isRotten(one *part.Name, in *part.Folder) bool {
+	own, disk := one.Own, one.Disk
+	if own == nil || own.Invalid || own.Content == nil || disk == nil || disk.Lost != "" || len(one.Out) > 0 || len(one.Moved) > 0 ||
+		!one.IsAsRecorded(in.Window()) {
+		return false
+	}
+	for _, found := range disk.Contents {
+		isOneBlock := part.CountOfBlocks(own.Content.Size, own.Content.BlockSize) == 1 && part.CountOfBlocks(found.Size, found.BlockSize) == 1
+		if found.BlockSize == own.Content.BlockSize || isOneBlock {
+			return found.Size != own.Content.Size || found.Hash != own.Content.Hash
+		}
+	}
+	return false
+}
