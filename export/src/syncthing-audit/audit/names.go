@@ -3,7 +3,6 @@ package audit
 import (
 	"strings"
 
-	"golang.org/x/exp/slices"
 	"syncthing-audit/document"
 	"syncthing-audit/finding"
 	"syncthing-audit/join"
@@ -150,15 +149,24 @@ func outsOf(one *part.Name) []part.LeftOut {
 }
 
 // hasOut says whether a member has something of the name that no document says.
-func hasOut(row *join.Row) bool { return len(reasonsOf(row)) > 0 }
+func hasOut(row *join.Row) bool {
+	for _, one := range row.At {
+		if len(outsOf(one)) > 0 {
+			return true
+		}
+	}
+	return false
+}
 
 // reasonsOf gives why a name can't be audited, at each member, each reason once: a member's record and its disk may have
 // the same one.
 func reasonsOf(row *join.Row) []finding.Reason {
 	var reasons []finding.Reason
+	seen := map[finding.Reason]bool{}
 	for member, one := range row.At {
 		for _, out := range outsOf(one) {
-			if next := (finding.Reason{Member: member, Kind: out.Kind, Why: out.Why}); !slices.Contains(reasons, next) {
+			if next := (finding.Reason{Member: member, Kind: out.Kind, Why: out.Why}); !seen[next] {
+				seen[next] = true
 				reasons = append(reasons, next)
 			}
 		}
