@@ -1,6 +1,7 @@
 package main
 
 import (
+	"bytes"
 	"fmt"
 	"os"
 	"path/filepath"
@@ -86,12 +87,15 @@ type hostile struct {
 
 // write writes a part as a device may that keeps to no rule.
 func (h *hostile) write(t *testing.T, path string) {
-	file, err := os.Create(path)
-	if err != nil {
+	if err := os.WriteFile(path, h.written(t), 0o600); err != nil {
 		t.Fatal(err)
 	}
-	defer file.Close()
-	to, err := part.NewWriter(file, h.Head)
+}
+
+// written gives the bytes of such a part.
+func (h *hostile) written(t *testing.T) []byte {
+	var written bytes.Buffer
+	to, err := part.NewWriter(&written, h.Head)
 	for at := 0; at < len(h.Lines) && err == nil; at++ {
 		err = to.Take(*h.Lines[at])
 	}
@@ -101,6 +105,7 @@ func (h *hostile) write(t *testing.T, path string) {
 	if err != nil {
 		t.Fatal(err)
 	}
+	return written.Bytes()
 }
 
 // toldOf audits parts, and gives all that is printed of them, in each form, and whether there was an answer.

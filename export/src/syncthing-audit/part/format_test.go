@@ -13,7 +13,7 @@ import (
 // version that they had.
 func TestVersions(t *testing.T) {
 	const other = "by what it says of looks and slices"
-	first := &Look{Home: "home", ID: "id", At: time.Unix(0, 0)}
+	first := &Look{Home: "home", ID: strings.Repeat("0", 32), At: time.Unix(0, 0)}
 	begun, sliced := choice.Names{Prefix: "a"}, choice.Names{Slice: 3, Slices: 7}
 	for _, one := range []struct {
 		names   choice.Names

@@ -20,6 +20,9 @@ func checkHead(head *Head) error {
 	if err := checkLook(head); err != nil {
 		return err
 	}
+	if err := checkLookID(head.Look); err != nil {
+		return err
+	}
 	if err := head.Names.Check(); err != nil {
 		return fmt.Errorf("the part's names are none: %w", err)
 	}
@@ -68,7 +71,7 @@ func checkFolder(one *Folder) error {
 	}
 	seen := map[string]bool{}
 	for _, of := range one.Views {
-		if Number(of.Device) == 0 || seen[of.Device] || of.Max < 0 {
+		if Number(of.Device) == 0 || seen[of.Device] || of.Max < 0 || of.Heard != 0 {
 			return fmt.Errorf("its view of %q is none", of.Device)
 		}
 		seen[of.Device] = true
@@ -116,6 +119,9 @@ func (r *rules) take(line Line) error {
 	}
 	r.last = line.Name.Name
 	r.names++
+	if err := checkStanding(line.Name, r.head); err != nil {
+		return err
+	}
 	return checkName(line.Name, r.in, r.head.hasBytes())
 }
 
