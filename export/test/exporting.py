@@ -92,9 +92,14 @@ def is_on_firmness(line):
     return line.startswith(("firm: ", "not firm: ", "not known to be firm: ", "may change by itself: ", "firm wasn't asked: "))
 
 
+def without_devices(lines):
+    """The lines but for the names of devices, which stand last."""
+    return [line for line in lines if not line.startswith("device ")]
+
+
 def without_firmness(lines):
-    """The lines but for those on firmness, and but for the names of devices, which stand last."""
-    return [line for line in lines if not is_on_firmness(line) and not line.startswith("device ")]
+    """The lines but for those on firmness, and for the names of devices."""
+    return [line for line in without_devices(lines) if not is_on_firmness(line)]
 
 
 def is_over():

@@ -13,7 +13,7 @@ import subprocess
 import time
 import unittest
 
-from exporting import STAND_IN, Exporting, in_step, knows_firm, main, run, without_firmness
+from exporting import STAND_IN, Exporting, in_step, knows_firm, main, run, without_devices, without_firmness
 from syncthing import FOLDER, wait_until, wait_until_in_step
 
 SECONDS_OF_STANDING = float(os.environ.get("SECONDS_OF_STANDING", 20))
@@ -93,14 +93,13 @@ class Firm(Exporting):
         missing."""
         into = self.room / "documents"
         self.assertEqual(self.export("--into", into).returncode, 0)
-        alone = self.check().stdout
-        for words, said in ((("check", "explain", "firm"), alone.splitlines()),
-                            (("check", "explain"), without_firmness(alone.splitlines()) + [f"firm wasn't asked: {FOLDER}"])):
+        alone = without_devices(self.check().stdout.splitlines())
+        for words, said in ((("check", "explain", "firm"), alone), (("check", "explain"), without_firmness(alone) + [f"firm wasn't asked: {FOLDER}"])):
             for document in into.glob("cut-*.json"):
                 certified = self.answered("certify", document.read_bytes())
                 document.with_suffix(".reply").write_bytes(b"".join(self.answered(word, certified) for word in words))
             ran = run([self.program, "sum", into, "--lines"])
-            self.assertEqual((ran.returncode, ran.stdout.splitlines()), (0, said), ran.stderr)
+            self.assertEqual((ran.returncode, without_devices(ran.stdout.splitlines())), (0, said), ran.stderr)
             self.assertIn("merge versions", ran.stderr)
 
     def answered(self, word, document):
