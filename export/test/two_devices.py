@@ -17,7 +17,7 @@ from contextlib import contextmanager
 from pathlib import Path
 
 from answers import Answers
-from exporting import Exporting, main, run, without_firmness
+from exporting import Exporting, main, run, without_firmness, without_devices
 from syncthing import FOLDER, files_of, version_of, wait_until_in_step
 
 
@@ -81,7 +81,7 @@ class TwoDevices(Answers, Exporting):
         told = f"not asked for: names of {FOLDER} that don't begin with folder/"
         for words, status, verdict in (((), 6, "settled as far as audited"), (("--names", "folder/"), 0, "settled")):
             ran = self.check_parts(parts, *words)
-            lines = ran.stdout.splitlines()
+            lines = without_devices(ran.stdout.splitlines())
             self.assertEqual((ran.returncode, lines[0], lines[-1]), (status, verdict, told))
         for made, words, why in ((parts, ("--names", "text"), "has the names that begin with folder/: make it anew with --names text"),
                                  ([self.part(self.one), parts[1]], (), "has all names(:|, and).* make all parts with the same --names")):
