@@ -79,7 +79,7 @@ class DataElsewhere(Exporting):
         if version_of(self.two.program).startswith("syncthing v1.19"):
             self.assertEqual((ran.returncode, ran.stdout), (2, ""))
             self.assertIn(f"{self.two.home}: its command ended with exit status 2: syncthing-audit: Syncthing can't be asked where its database is: "
-                          "this Syncthing doesn't say it, as 1.19 doesn't\n", ran.stderr)
+                          "this Syncthing doesn't say it, as 1.19 doesn't; ", ran.stderr)
             self.assertIn("name that behind the home as --data DIR", ran.stderr)
             self.assertNotIn("look", ran.stderr)
         else:

@@ -164,6 +164,11 @@ const (
 	pathOfUsers  = `PATH="$PATH:$HOME/.local/bin" `
 )
 
+// onOneLine gives what a command said on standard error as one line: a line feed of another machine is no end of a line here.
+func onOneLine(told string) string {
+	return strings.Join(strings.FieldsFunc(told, func(letter rune) bool { return letter == '\n' || letter == '\r' }), "; ")
+}
+
 // run runs a command with what it reads, has what it writes go into a file, and gives what it says on standard error.
 func (p *place) run(words []string, input io.Reader, path string) (string, error) {
 	file, err := os.OpenFile(path, os.O_WRONLY|os.O_CREATE|os.O_EXCL, 0o600)
@@ -180,7 +185,7 @@ func (p *place) run(words []string, input io.Reader, path string) (string, error
 	err = command.Run()
 	var ended *exec.ExitError
 	if errors.As(err, &ended) {
-		return "", fmt.Errorf("%s: its command ended with %w: %s%s", p.called(), ended, strings.TrimSpace(told.String()), p.whereIs(ended))
+		return "", fmt.Errorf("%s: its command ended with %w: %s%s", p.called(), ended, onOneLine(told.String()), p.whereIs(ended))
 	}
 	if err != nil {
 		return "", fmt.Errorf("%s: %s can't be run: %w", p.called(), shell.Quoted(words[0]), err)
