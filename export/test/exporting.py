@@ -45,7 +45,7 @@ def missing_packages():
 def go_environment(room):
     """The environment for Go: these sources and Debian's packages; what it keeps stands in this room where it has no place of its own
     that can be written."""
-    made = {**os.environ, "GO111MODULE": "off", "GOPATH": f"{SOURCES}:{GOPATH}"}
+    made = {**os.environ, "GO111MODULE": "off", "GOPATH": f"{SOURCES}:{GOPATH}", "GOENV": "off", "GOFLAGS": "", "GOTOOLCHAIN": "local"}
     cache = subprocess.run(["go", "env", "GOCACHE"], env=made, capture_output=True, text=True).stdout.strip()
     if cache.startswith("/"):
         try:

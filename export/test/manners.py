@@ -170,6 +170,33 @@ class Manners(unittest.TestCase):
         other.wait(SECONDS_TO_WAIT)
         self.assertEqual(copies(), set())
 
+    def test_a_crash_has_a_status_of_its_own(self):
+        """That isn't the status of a refusal, and no core is left."""
+        endless = self.room / "device1" / "files" / "endless"
+        make_endless(endless)
+        self.addCleanup(shutil.rmtree, endless)
+        process = self.start("part", "--home", self.homes[0], "-o", self.temporary / "one.part", stderr=subprocess.PIPE, cwd=self.temporary)
+        wait_until("a file is hashed", lambda: has_open_below(process, endless))
+        process.send_signal(signal.SIGSEGV)
+        told = process.communicate(timeout=SECONDS_TO_WAIT)[1]
+        self.assertEqual(process.returncode, -signal.SIGABRT, told[-300:])
+        self.assertEqual([path.name for path in self.temporary.iterdir() if not path.name.startswith("syncthing-audit-")], [])
+
+    def test_closed_descriptors(self):
+        """They lead to nothing: no file of the home is in the place of a standard one. Without an output there is no answer."""
+        endless = self.room / "device1" / "files" / "endless"
+        make_endless(endless)
+        self.addCleanup(shutil.rmtree, endless)
+        closed = (0, 2)
+        process = subprocess.Popen([self.program, "part", "--home", self.homes[0], "-o", self.temporary / "one.part"],
+                                   env={**os.environ, "TMPDIR": str(self.temporary)}, preexec_fn=lambda: [os.close(number) for number in closed])
+        self.addCleanup(process.wait)
+        self.addCleanup(process.kill)
+        wait_until("a file is hashed", lambda: has_open_below(process, endless))
+        self.assertEqual([os.readlink(f"/proc/{process.pid}/fd/{number}") for number in closed], ["/dev/null"] * 2)
+        ran = run(["sh", "-c", f"{self.program} check {self.parts[0]} {self.parts[1]} >&-"])
+        self.assertEqual(ran.returncode, 5, ran.stderr)
+
     def test_a_signal_while_documents_are_exported_leaves_none(self):
         """Nor does it leave the directories that were made for them."""
         endless, into = self.room / "device1" / "files" / "zz endless", self.temporary / "above" / "into"

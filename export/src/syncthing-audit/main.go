@@ -32,9 +32,14 @@ type command func(words []string, output, log io.Writer) (int, error)
 var commands = map[string]command{"part": runPart, "check": runCheck, "run": runRun, "export": runExport, "sum": runSum}
 
 func main() {
+	err := fillDescriptors()
+	var output *os.File
+	if err == nil {
+		output, err = takeStandardOutput()
+	}
+	abortWhereItCrashes()
 	limitMemory()
 	leftover.WatchSignals()
-	output, err := takeStandardOutput()
 	if err != nil {
 		outside.Printf(os.Stderr, "syncthing-audit: there is no standard output: %v\n", err)
 		os.Exit(statusFault)

@@ -97,7 +97,7 @@ func (n *names) isBelow(row *join.Row) bool {
 		return false
 	}
 	n.below.Names++
-	n.below.Bytes += row.Size()
+	n.below.Bytes = part.Sum(n.below.Bytes, row.Size())
 	if n.isBelowUnlisted {
 		n.found.Unlisted.LeftOut.Add(1, row.Size())
 	}

@@ -247,7 +247,7 @@ func (f *Folder) finish() (int64, error) {
 			return 0, err
 		}
 		one.Temporary, one.Linked, one.ToIgnore = end.Temporary, end.Linked, end.ToIgnore
-		total += end.Bytes
+		total = part.Sum(total, end.Bytes)
 	}
 	return total, nil
 }

@@ -34,11 +34,11 @@ func Place() string {
 	return os.TempDir()
 }
 
-// New makes a file at a path where nothing is yet, to be gone in the end unless it is kept.
+// New makes a file for its user alone at a path where nothing is yet, to be gone in the end unless it is kept.
 func New(path string) (*os.File, error) {
 	mutex.Lock()
 	defer mutex.Unlock()
-	file, err := os.OpenFile(path, os.O_WRONLY|os.O_CREATE|os.O_EXCL, 0o666)
+	file, err := os.OpenFile(path, os.O_WRONLY|os.O_CREATE|os.O_EXCL, 0o600)
 	if err == nil {
 		paths[path] = true
 	}

@@ -4,6 +4,7 @@
 package part
 
 import (
+	"math"
 	"time"
 
 	"github.com/syncthing/syncthing/lib/protocol"
@@ -153,8 +154,16 @@ type Count struct {
 
 // Add counts more names.
 func (c *Count) Add(names, bytes int64) {
-	c.Names += names
-	c.Bytes += bytes
+	c.Names = Sum(c.Names, names)
+	c.Bytes = Sum(c.Bytes, bytes)
+}
+
+// Sum adds what parts count, up to the greatest number: a part may say any size, and a sum of many isn't below 0.
+func Sum(one, other int64) int64 {
+	if one > 0 && other > math.MaxInt64-one {
+		return math.MaxInt64
+	}
+	return one + other
 }
 
 // Name is all that the device has of one name.

@@ -41,7 +41,7 @@ func (s Syncthing) data() string {
 // Scan has Syncthing scan a folder, and waits until that is done.
 func (s Syncthing) Scan(folder, label string) error {
 	called := shell.Folder(folder, label)
-	answer, err := s.ask(http.MethodPost, "db/scan?"+url.Values{"folder": {folder}}.Encode(), forAsLongAsItTakes)
+	answer, err := s.ask(http.MethodPost, "db/scan?"+url.Values{"folder": {folder}}.Encode(), aDay)
 	if err != nil {
 		return fmt.Errorf("folder %s isn't scanned: does Syncthing run there? %w", called, err)
 	}
@@ -58,10 +58,10 @@ func (s Syncthing) Scan(folder, label string) error {
 	return nil
 }
 
-// Syncthing answers a question at once, and a scan takes its time.
+// Syncthing answers a question at once, and a scan takes its time, though not more than a day.
 const (
-	atOnce             = 20 * time.Second
-	forAsLongAsItTakes = 0
+	atOnce = 20 * time.Second
+	aDay   = 24 * time.Hour
 )
 
 // DataDirectory gives the directory in which Syncthing has its database.
@@ -134,8 +134,11 @@ func (s Syncthing) ask(method, what string, most time.Duration) (*http.Response,
 		return nil, err
 	}
 	asked.Header.Set("X-API-Key", s.GUI.APIKey)
-	return (&http.Client{Transport: s.transport(), Timeout: most}).Do(asked)
+	return (&http.Client{Transport: s.transport(), Timeout: most, CheckRedirect: stay}).Do(asked)
 }
+
+// stay follows no redirection: the key would go with it.
+func stay(*http.Request, []*http.Request) error { return http.ErrUseLastResponse }
 
 // transport gives how Syncthing is spoken to: at its own address alone, and where it is seen to be this home's, with TLS by its certificate.
 func (s Syncthing) transport() *http.Transport {
@@ -150,14 +153,31 @@ func (s Syncthing) transport() *http.Transport {
 // dial connects with Syncthing.
 func (s Syncthing) dial(ctx context.Context) (net.Conn, error) {
 	made, err := (&net.Dialer{}).DialContext(ctx, s.GUI.Network(), localAddress(s.GUI))
-	if err != nil || s.GUI.UseTLS() {
-		return made, err
+	if err != nil {
+		return nil, err
 	}
-	if err := s.checkFar(made); err != nil {
+	err = checkHere(made.LocalAddr(), made.RemoteAddr())
+	if err == nil && !s.GUI.UseTLS() {
+		err = s.checkFar(made)
+	}
+	if err != nil {
 		made.Close()
 		return nil, err
 	}
 	return made, nil
+}
+
+// checkHere refuses a connection to another machine: its two ends have one address, or the far one is a loopback address.
+func checkHere(near, far net.Addr) error {
+	there, is := far.(*net.TCPAddr)
+	if !is {
+		return nil
+	}
+	here, is := near.(*net.TCPAddr)
+	if is && (there.IP.IsLoopback() || there.IP.Equal(here.IP)) {
+		return nil
+	}
+	return fmt.Errorf("the GUI's address in config.xml leads to %s, which isn't this machine: the API key isn't sent there", there.IP)
 }
 
 // localAddress gives the address on this machine: Syncthing may listen on all.

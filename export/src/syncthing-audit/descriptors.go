@@ -1,0 +1,52 @@
+package main
+
+import (
+	"os"
+	"runtime/debug"
+	"syscall"
+)
+
+// fillDescriptors has the standard input and error that are closed lead to nothing, as OpenSSH's sanitise_stdfd does. Else the next file that is
+// opened, as of an index, would be one of them. By now Go may have opened something there, so the program begins anew. Without an output there
+// is an error: an answer that nobody reads isn't one.
+func fillDescriptors() error {
+	if isClosed(syscall.Stdout) {
+		return syscall.EBADF
+	}
+	filled := false
+	for _, number := range []int{syscall.Stdin, syscall.Stderr} {
+		if !isClosed(number) {
+			continue
+		}
+		filled = true
+		nothing, err := syscall.Open("/dev/null", syscall.O_RDWR, 0)
+		if err != nil {
+			return err
+		}
+		if nothing == number {
+			continue
+		}
+		if err := syscall.Dup3(nothing, number, 0); err != nil {
+			return err
+		}
+		syscall.Close(nothing)
+	}
+	if !filled {
+		return nil
+	}
+	return syscall.Exec("/proc/self/exe", os.Args, os.Environ())
+}
+
+// isClosed says whether the program was started without a descriptor. What it has opened there itself is closed once another program is started,
+// which nothing is that it was started with.
+func isClosed(number int) bool {
+	flags, _, err := syscall.Syscall(syscall.SYS_FCNTL, uintptr(number), syscall.F_GETFD, 0)
+	return err != 0 || flags&syscall.FD_CLOEXEC != 0
+}
+
+// abortWhereItCrashes has a crash end the program by the signal of an abort, since Go's own status for that is the one of a refusal. No core is
+// written: it would have names and hashes.
+func abortWhereItCrashes() {
+	_ = syscall.Setrlimit(syscall.RLIMIT_CORE, &syscall.Rlimit{})
+	debug.SetTraceback("crash")
+}
