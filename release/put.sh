@@ -13,7 +13,7 @@ has_exporter() {
 # build_exporter TO: builds the exporter. It is static: it needs no C library and no loader. 32-bit ARM is that of the oldest
 # Raspberry Pi. Its bytes don't tell where it was built.
 build_exporter() {
-  CGO_ENABLED=0 GO111MODULE=off GOPATH=$top/export:$packages GOARCH=$architecture GOARM=6 \
+  GOENV=off GOFLAGS='' GOTOOLCHAIN=local CGO_ENABLED=0 GO111MODULE=off GOPATH=$top/export:$packages GOARCH=$architecture GOARM=6 \
     go build -trimpath -ldflags='-s -w' -o "$1" syncthing-audit < /dev/null
 }
 
