@@ -9,3 +9,4 @@ mod CleanDecided
 mod PlaceMoves
 mod StepsOrderly
 mod HashesKept
+mod EndFirm

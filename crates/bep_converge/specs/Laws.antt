@@ -1,10 +1,12 @@
 -- What is proved of cuts that prevail; the functions of src/laws.rt and src/steps.rt have these as contracts.
-use Rattle.std.specs.Prelude.{◌≡◌, ℕ, List, [], Option}
+use Rattle.std.specs.Prelude.{◌≡◌, ℕ, List, [], Option, Some}
 use Rattle.bep_record.specs.declared.entry.Entry.{Entry}
-use Rattle.bep_model.specs.Tables.{Tables, Folder, FileName}
+use Rattle.bep_model.specs.Tables.{Tables, Device, Folder, FileName, Shares}
+use Rattle.bep_model.specs.declared.row.Row.{Row}
+use Rattle.bep_model.specs.Settled.{IsListOfWinners}
 use Rattle.bep_model.specs.Free.{IsFreeRun}
 use Rattle.bep_record.specs.Content.{content_of}
-use Rattle.bep_model.specs.Firm.{AreEqual}
+use Rattle.bep_model.specs.Firm.{AreEqual, IsFirm}
 use Rattle.bep_machine.specs.declared.step.Step.{Step}
 use Rattle.bep_machine.specs.Answer.{Answer}
 use Rattle.bep_machine.specs.Cluster.{Cluster}
@@ -13,7 +15,8 @@ use Rattle.bep_machine.specs.Said.{tables_of_cluster}
 use Rattle.bep_machine.specs.Sound.{IsSound}
 use Rattle.bep_converge.specs.Received.{AllHaveHashes}
 use Rattle.bep_converge.specs.Prevails.{Prevails, AllPrevail}
-use Rattle.bep_converge.specs.Orderly.{IsOrderlyStep, IsOrderlyRun}
+use Rattle.bep_converge.specs.Orderly.{StaysAt, IsOrderlyStep, IsOrderlyRun}
+use Rattle.bep_converge.specs.Ended.{IsEnded, HearsOfNone}
 use Rattle.bep_converge.specs.Rises.{GoesOnPrevailing}
 
 -- each orderly run is one of free peers
@@ -32,6 +35,17 @@ StepsKeepPrevailing = (old new : Tables) → AllPrevail old → IsOrderlyStep ol
 -- and after every run of theirs
 abbrev pub RunsKeepPrevailing : Type 0
 RunsKeepPrevailing = (old new : Tables) (between : List Tables) → AllPrevail old → IsOrderlyRun old between new → GoesOnPrevailing old new
+
+-- where it has come to all, and nothing is heard of that isn't deleted at a device that has no record, the cut is firm for the
+-- list of its winners: nothing changes any more
+abbrev pub EndIsFirm : Type 0
+EndIsFirm = (t : Tables) (rows : List Row) → IsEnded t → HearsOfNone t → IsListOfWinners t rows → IsFirm t rows
+
+-- a device that is at the top with a record of its own goes on having this very record and file
+abbrev pub TopStays : Type 0
+TopStays = (old new : Tables) (folder : Folder) (name : FileName) (top own : Entry) (device : Device) → AllPrevail old → IsOrderlyStep old new →
+    Prevails old folder name top → Shares old device folder → old.own device folder name ≡ Some own → AreEqual own.version top.version →
+    StaysAt old new device folder name
 
 -- ---- this project's peers
 

@@ -2,4 +2,5 @@ pub mod Prevails
 pub mod Orderly
 pub mod Received
 pub mod Rises
+pub mod Ended
 pub mod Laws

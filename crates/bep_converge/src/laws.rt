@@ -1,5 +1,5 @@
 //! What prevails goes on prevailing, whatever orderly peers do. Each function does nothing; its contract is the law.
-ghost use Rattle.bep_converge.specs.Laws.{OrderlyRunsAreFree, PrevailingIsUnique, RunsKeepPrevailing, StepsKeepPrevailing};
+ghost use Rattle.bep_converge.specs.Laws.{EndIsFirm, OrderlyRunsAreFree, PrevailingIsUnique, RunsKeepPrevailing, StepsKeepPrevailing, TopStays};
 
 /// Each run of orderly peers is one of free peers.
 pub fn orderly_runs_are_free()
@@ -24,3 +24,14 @@ pub fn runs_keep_prevailing()
 {
     steps_keep_prevailing();
 }
+
+/// A device that is at the top with a record of its own goes on having this very record and file.
+pub fn top_stays()
+    ensures { TopStays }
+{}
+
+/// Where what prevails has come to all, and no device hears of a file that isn't deleted and of which it has no record, the
+/// cut is firm for the list of its winners. So nothing changes any more.
+pub fn end_is_firm()
+    ensures { EndIsFirm }
+{}

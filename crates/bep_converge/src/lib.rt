@@ -10,6 +10,7 @@ mod laws;
 mod steps;
 
 pub use laws::{
-    orderly_runs_are_free, prevailing_is_unique, runs_keep_prevailing, steps_keep_prevailing,
+    end_is_firm, orderly_runs_are_free, prevailing_is_unique, runs_keep_prevailing,
+    steps_keep_prevailing, top_stays,
 };
 pub use steps::{prevailing_goes_on, runs_are_orderly, steps_are_orderly, steps_keep_hashes};
