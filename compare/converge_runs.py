@@ -10,8 +10,8 @@ starting again. After each one the cut must prevail, with the same tops. Each de
 at first, or the content and version of a record that was known then and is above its own one. No name may have come.
 
 A run of the second kind has a link between each two devices, and takes steps of this project's peers alone, each of
-which has something to do, in any order. Such a run must end, with each device at the top of each name, and the cut
-firm.
+which has something to do, in any order. Such a run must end, with each device at the top of each name. Then the cut must
+be firm, unless a device without a record hears of an old one that isn't deleted.
 """
 
 import contextlib
@@ -21,7 +21,6 @@ import sys
 from collections import Counter
 from functools import partial
 
-import verdict
 from cluster.core import Cluster
 from cluster.link import Index, IndexUpdate, Link
 from cluster.refusal import Moved
@@ -130,6 +129,12 @@ def come_to_end(walk: Walk, was: Prevailing | None = None) -> bool:
     return False
 
 
+def hears_of_none(cluster: Cluster) -> bool:
+    """Whether each device hears only of deletions where it has no record."""
+    return all(entry["deleted"] for at in names_of(cluster).values() for device in at.devices
+               if at.name not in device.own for entry in device.held(at.name))
+
+
 def run_to_the_end(making: PrevailingMaking, answers: Counter) -> None:
     """A run of this project's peers, none of whose steps is refused for good, to its end."""
     cluster = settled_cluster(making)
@@ -142,6 +147,8 @@ def run_to_the_end(making: PrevailingMaking, answers: Counter) -> None:
         for device in at.devices:
             if not at.is_at_top(device):
                 raise Contradiction("a device isn't at the top in the end", key, device.number)
+    if hears_of_none(cluster) and firm_rows(cluster) is None:
+        raise Contradiction("all devices are at the top, and the cut isn't firm")
     answers.update(walk.answers)
 
 
