@@ -10,3 +10,4 @@ mod PlaceMoves
 mod StepsOrderly
 mod HashesKept
 mod EndFirm
+mod TakesBounded

@@ -362,7 +362,7 @@ module _ (t : Tables) (all : AllPrevail t) (new : Tables) (step : IsOrderlyStep 
 
   -- ---- the whole
 
-  rises : (device : Device) (folder : Folder) (name : FileName) → Shares t device folder → Takes t new device folder name → RisesAt t new device folder name
+  pub rises : (device : Device) (folder : Folder) (name : FileName) → Shares t device folder → Takes t new device folder name → RisesAt t new device folder name
   rises device folder name shares takes = record {
     entry = takes.wants.entry;
     known = wanted_anywhere t device folder name shares takes.wants;

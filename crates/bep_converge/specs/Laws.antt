@@ -1,5 +1,5 @@
 -- What is proved of cuts that prevail; the functions of src/laws.rt and src/steps.rt have these as contracts.
-use Rattle.std.specs.Prelude.{◌≡◌, ℕ, List, [], Option, Some}
+use Rattle.std.specs.Prelude.{◌≡◌, ◌≤◌, ℕ, List, [], length, Option, Some}
 use Rattle.bep_record.specs.declared.entry.Entry.{Entry}
 use Rattle.bep_model.specs.Tables.{Tables, Device, Folder, FileName, Shares}
 use Rattle.bep_model.specs.declared.row.Row.{Row}
@@ -16,6 +16,7 @@ use Rattle.bep_machine.specs.Sound.{IsSound}
 use Rattle.bep_converge.specs.Received.{AllHaveHashes}
 use Rattle.bep_converge.specs.Prevails.{Prevails, AllPrevail}
 use Rattle.bep_converge.specs.Orderly.{StaysAt, IsOrderlyStep, IsOrderlyRun}
+use Rattle.bep_converge.specs.Bound.{TakesTimes, HasAllAbove}
 use Rattle.bep_converge.specs.Ended.{IsEnded, HearsOfNone}
 use Rattle.bep_converge.specs.Rises.{GoesOnPrevailing}
 
@@ -35,6 +36,17 @@ StepsKeepPrevailing = (old new : Tables) → AllPrevail old → IsOrderlyStep ol
 -- and after every run of theirs
 abbrev pub RunsKeepPrevailing : Type 0
 RunsKeepPrevailing = (old new : Tables) (between : List Tables) → AllPrevail old → IsOrderlyRun old between new → GoesOnPrevailing old new
+
+-- in a run of orderly peers a device takes over no more records of a name than were known above its own one
+abbrev pub TakesAreBounded : Type 0
+TakesAreBounded = (old new : Tables) (between : List Tables) (device : Device) (folder : Folder) (name : FileName) (above : List Entry) (times : ℕ) →
+    AllPrevail old → IsOrderlyRun old between new → Shares old device folder → HasAllAbove old device folder name above →
+    TakesTimes device folder name old between times → times ≤ length above
+
+-- and each step either takes a record over or leaves all as it is there, so some number fits each run
+abbrev pub TakesAreCounted : Type 0
+TakesAreCounted = (old new : Tables) (between : List Tables) (device : Device) (folder : Folder) (name : FileName) →
+    AllPrevail old → IsOrderlyRun old between new → Shares old device folder → (times : ℕ) × TakesTimes device folder name old between times
 
 -- where it has come to all, and nothing is heard of that isn't deleted at a device that has no record, the cut is firm for the
 -- list of its winners: nothing changes any more

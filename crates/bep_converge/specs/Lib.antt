@@ -3,4 +3,5 @@ pub mod Orderly
 pub mod Received
 pub mod Rises
 pub mod Ended
+pub mod Bound
 pub mod Laws

@@ -1,5 +1,5 @@
 //! What prevails goes on prevailing, whatever orderly peers do. Each function does nothing; its contract is the law.
-ghost use Rattle.bep_converge.specs.Laws.{EndIsFirm, OrderlyRunsAreFree, PrevailingIsUnique, RunsKeepPrevailing, StepsKeepPrevailing, TopStays};
+ghost use Rattle.bep_converge.specs.Laws.{EndIsFirm, OrderlyRunsAreFree, PrevailingIsUnique, RunsKeepPrevailing, StepsKeepPrevailing, TakesAreBounded, TakesAreCounted, TopStays};
 
 /// Each run of orderly peers is one of free peers.
 pub fn orderly_runs_are_free()
@@ -28,6 +28,13 @@ pub fn runs_keep_prevailing()
 /// A device that is at the top with a record of its own goes on having this very record and file.
 pub fn top_stays()
     ensures { TopStays }
+{}
+
+/// In a run of orderly peers from a cut that prevails, each step takes a record of a name over at a device or leaves record
+/// and file there as they are. It takes over no more records than were known above the own one.
+pub fn takes_are_bounded()
+    ensures counted { TakesAreCounted }
+    ensures bounded { TakesAreBounded }
 {}
 
 /// Where what prevails has come to all, and no device hears of a file that isn't deleted and of which it has no record, the

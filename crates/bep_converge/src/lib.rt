@@ -11,6 +11,6 @@ mod steps;
 
 pub use laws::{
     end_is_firm, orderly_runs_are_free, prevailing_is_unique, runs_keep_prevailing,
-    steps_keep_prevailing, top_stays,
+    steps_keep_prevailing, takes_are_bounded, top_stays,
 };
 pub use steps::{prevailing_goes_on, runs_are_orderly, steps_are_orderly, steps_keep_hashes};
