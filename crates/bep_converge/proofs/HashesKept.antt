@@ -34,7 +34,7 @@ use Rattle.bep_converge.proofs.OverLinks.{IsReading, begin_reads, deliver_reads,
 -- ---- pulls of a replica
 
 -- these pulls have blocks with their hashes
-abbrev HaveTheirs : ByName Pull → Type 0
+abbrev pub HaveTheirs : ByName Pull → Type 0
 HaveTheirs pulls = (name : FileName) (pull : Pull) → get pulls name ≡ Some pull → HaveHashes pull.target.blocks pull.received
 
 -- where one replica's pulls have, those of the other have
@@ -47,10 +47,10 @@ keeps_some old new keeps had replica is = let same : new ≡ replica = cc in sub
 keeps_same : (replica : Option Replica) → Keeps replica replica
 keeps_same replica had = had
 
-none_pulled : HaveTheirs empty
+pub none_pulled : HaveTheirs empty
 none_pulled name pull found = nothing_in_empty (slice_cmp nat_cmp) name pull found
 
-one_more : (pulls : ByName Pull) (name : FileName) (pull : Pull) → HaveHashes pull.target.blocks pull.received → HaveTheirs pulls → HaveTheirs (insert pulls name pull)
+pub one_more : (pulls : ByName Pull) (name : FileName) (pull : Pull) → HaveHashes pull.target.blocks pull.received → HaveTheirs pulls → HaveTheirs (insert pulls name pull)
 one_more pulls name pull has had other found is =
     ⊎_elim
     (λ here. subst (λ (p : Pull). HaveHashes p.target.blocks p.received) (sym here.1) has)
@@ -66,7 +66,7 @@ one_less pulls name had other found is =
     (λ apart. had other found (sym (get-remove_apart nat_list_cmp_total exact_bytes pulls name other apart) ∙ is))
     (same_name other name)
 
-nothing_received : (blocks : List Block) → HaveHashes blocks (map (λ (block : Block). None) blocks)
+pub nothing_received : (blocks : List Block) → HaveHashes blocks (map (λ (block : Block). None) blocks)
 nothing_received [] = tt
 nothing_received (block ∷ blocks) = nothing_received blocks
 

@@ -11,3 +11,4 @@ mod StepsOrderly
 mod HashesKept
 mod EndFirm
 mod TakesBounded
+mod CutHashes

@@ -13,6 +13,8 @@ use Rattle.bep_machine.specs.Cluster.{Cluster}
 use Rattle.bep_machine.specs.Steps.{IsStep, Event, IsRun, IsQuiet, AreQuiet, reset_by, HasNoReset}
 use Rattle.bep_machine.specs.Said.{tables_of_cluster}
 use Rattle.bep_machine.specs.Sound.{IsSound}
+use Rattle.bep_tables.specs.declared.cut.CutParts.{CutParts}
+use Rattle.bep_origin.specs.FromCut.{cluster_from}
 use Rattle.bep_converge.specs.Received.{AllHaveHashes}
 use Rattle.bep_converge.specs.Prevails.{Prevails, AllPrevail}
 use Rattle.bep_converge.specs.Orderly.{StaysAt, IsOrderlyStep, IsOrderlyRun}
@@ -87,3 +89,7 @@ GoesOnInRuns tables = (cluster later : Cluster) (events : List Event) →
 
 abbrev pub PrevailingGoesOn : Type 0
 PrevailingGoesOn = (tables : Tables) → AllPrevail tables → GoesOnInRuns tables
+
+-- the cluster that a cut is of has received no block, so what is said of clusters with hashes is said of one with its tables
+abbrev pub CutsHaveHashes : Type 0
+CutsHaveHashes = (cut : CutParts) → AllHaveHashes (cluster_from cut)

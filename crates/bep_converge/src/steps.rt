@@ -1,6 +1,6 @@
 //! This project's peers are orderly peers while none is reset, so what prevails goes on prevailing whatever they do. Each
 //! function does nothing; its contract is the law.
-ghost use Rattle.bep_converge.specs.Laws.{PrevailingGoesOn, RunsAreOrderly, StepsAreOrderly, StepsKeepHashes};
+ghost use Rattle.bep_converge.specs.Laws.{CutsHaveHashes, PrevailingGoesOn, RunsAreOrderly, StepsAreOrderly, StepsKeepHashes};
 
 use crate::laws::runs_keep_prevailing;
 use bep_machine::{steps_are_free, steps_keep_sound};
@@ -37,3 +37,9 @@ pub fn prevailing_goes_on()
     runs_are_orderly();
     runs_keep_prevailing();
 }
+
+/// The sound cluster that a cut is of has received no block. So there is a cluster with the cut's tables of which the above
+/// is said.
+pub fn cuts_have_hashes()
+    ensures { CutsHaveHashes }
+{}
