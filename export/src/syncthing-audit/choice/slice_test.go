@@ -92,3 +92,9 @@ func TestCheck(t *testing.T) {
 		}
 	}
 }
+
+func TestWhyAPartHasNoSuchSlice(t *testing.T) {
+	if err := (Names{Slice: 9, Slices: 7}).Check(); err == nil || err.Error() != "it says that it has slice 9 of 7" {
+		t.Errorf("slice 9 of 7: %v", err)
+	}
+}
