@@ -20,7 +20,7 @@ func (s *state) revert(i int) {
 				continue
 			}
 			p.remove(i, n)
-			entry = s.deletedBy(entry, i)
+			entry = s.deletedBy(entry, i, n)
 			entry.version = 0
 		case global.flag != LocalChange && s.isEquivalent(global, &entry, comparison{localChange: true, window: s.devices[i].TimeWindow}):
 			entry = *global
@@ -31,7 +31,7 @@ func (s *state) revert(i int) {
 	}
 	for place := len(p.dirs) - 1; place >= 0; place-- {
 		if n := p.dirs[place]; p.removeDirectory(n) == NoReason {
-			p.done(n, record{kind: Directory, deleted: true, time: presentTime})
+			p.done(n, record{kind: Directory, deleted: true, time: s.now(n)})
 		}
 	}
 	p.finish()
@@ -45,7 +45,7 @@ func (s *state) override(i int) {
 		case !entry.isThere() || own.isThere() && own.isInvalid():
 			continue
 		case !own.isThere():
-			s.put(i, i, n, s.deletedBy(entry, i))
+			s.put(i, i, n, s.deletedBy(entry, i, n))
 		default:
 			version := merged(s.vectors[own.version], s.vectors[entry.version])
 			own.version = s.vectorNumber(raised(version, s.devices[i].Number))

@@ -120,7 +120,7 @@ func (x *search) step(s *state, actions []action) bool {
 	moved := false
 	for _, act := range actions {
 		for _, next := range s.outcomes(act) {
-			if !next.isSame(s) {
+			if next.rankPresent(); !next.isSame(s) {
 				moved = true
 				x.add(next)
 			}

@@ -56,10 +56,10 @@ func isSameTime(a, b, window int64) bool {
 }
 
 // deletedBy gives the record of the same name deleted by a device now.
-func (m *machine) deletedBy(entry record, i int) record {
+func (s *state) deletedBy(entry record, i, n int) record {
 	entry.deleted = true
-	entry.version = m.vectorNumber(raised(m.vectors[entry.version], m.devices[i].Number))
-	entry.time = presentTime + int64(i)
+	entry.version = s.vectorNumber(raised(s.vectors[entry.version], s.devices[i].Number))
+	entry.time = s.now(n)
 	entry.content = 0
 	return entry
 }

@@ -147,7 +147,7 @@ func (s *state) findRename(i, n int, entry *record, r *renames) {
 	for _, other := range r.files[entry.content] {
 		if other != n && !r.used[other] && !s.at(i, other).isThere() {
 			r.used[other] = true
-			s.update(i, other, s.gone(i, r.old.own(i, other)), r.before)
+			s.update(i, other, s.gone(i, other, r.old.own(i, other)), r.before)
 			return
 		}
 		r.used[other] = true
@@ -155,8 +155,8 @@ func (s *state) findRename(i, n int, entry *record, r *renames) {
 }
 
 // gone gives the record of what a scan doesn't find any more.
-func (s *state) gone(i int, own *record) record {
-	entry := s.deletedBy(*own, i)
+func (s *state) gone(i, n int, own *record) record {
+	entry := s.deletedBy(*own, i, n)
 	entry.flag = Valid
 	if s.devices[i].Kind == ReceiveOnly {
 		entry.flag = LocalChange
@@ -180,7 +180,7 @@ func (s *state) scanMissing(i int, names map[int]bool) bool {
 			before = s.globals(i)
 		}
 		if !own.deleted {
-			s.update(i, n, s.gone(i, own), before)
+			s.update(i, n, s.gone(i, n, own), before)
 			changed = true
 		} else if s.settle(i, n, own, before) {
 			changed = true

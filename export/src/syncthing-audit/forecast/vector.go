@@ -11,7 +11,7 @@ const (
 	concurrentGreater
 )
 
-// presentTime is above each counter and each time that a world may have.
+// presentTime is above each counter and each time that a world may have. What is done now has this time, or one above.
 const presentTime = 1 << 62
 
 // compareVectors is Syncthing's Vector.Compare. No counter is 0.
