@@ -7,9 +7,13 @@ import (
 
 // Budget says how long a forecast may try.
 type Budget struct {
-	States int // up to so many states all orders are tried
+	States int // up to so many states of a group all orders are tried
 	Walks  int // beyond that so many in random order
+	Total  int // once so many states of all groups were tried, only small groups have all orders tried
 }
+
+// statesOfSmall is how many states a small group has at most.
+const statesOfSmall = 200
 
 // of gives the budget for so many names that hang together: each state of many takes longer.
 func (b Budget) of(names int) Budget {
@@ -21,11 +25,11 @@ func (b Budget) of(names int) Budget {
 	if walks < fewest {
 		walks = fewest
 	}
-	return Budget{States: b.States * most / names, Walks: walks}
+	return Budget{b.States * most / names, walks, b.Total}
 }
 
 // Usual is the budget of an answer to a person.
-var Usual = Budget{States: 4000, Walks: 100}
+var Usual = Budget{States: 4000, Walks: 100, Total: 300000}
 
 // Answer is what comes of names that hang together.
 type Answer struct {
@@ -41,6 +45,7 @@ type Answer struct {
 type Forecaster struct {
 	budget Budget
 	known  map[string]*result
+	tried  int // states
 }
 
 // result is an answer by the numbers of a machine.
@@ -53,7 +58,7 @@ type result struct {
 }
 
 // New gives a forecaster.
-func New(budget Budget) *Forecaster { return &Forecaster{budget, map[string]*result{}} }
+func New(budget Budget) *Forecaster { return &Forecaster{budget: budget, known: map[string]*result{}} }
 
 // Of gives an answer for each group of names of a world that hang together.
 func (f *Forecaster) Of(world World) []Answer {
@@ -102,7 +107,11 @@ func sortNames(names []Name) {
 func (f *Forecaster) find(first *state, count int) *result {
 	starts, all := first.withLists()
 	budget := f.budget.of(count)
+	if f.tried > f.budget.Total && budget.States > statesOfSmall {
+		budget.States = statesOfSmall
+	}
 	ends, states, done := explore(starts, budget.States)
+	f.tried += states
 	made := &result{isAll: all && done, states: states}
 	if !done {
 		random := rand.New(rand.NewSource(int64(count)))

@@ -2,6 +2,7 @@ package forecast
 
 import (
 	"fmt"
+	"math/rand"
 	"reflect"
 	"testing"
 )
@@ -99,7 +100,7 @@ func TestGroups(t *testing.T) {
 // Where there are more states than the budget has, walks find the end, and the answer says so.
 func TestWalks(t *testing.T) {
 	names := []Name{inStep("a.txt", "old", 3, 5).changed(0, "of 0", 70).changed(1, "of 1", 60)}
-	answer := New(Budget{States: 3, Walks: 20}).OfGroup(three(), names)
+	answer := New(Budget{States: 3, Walks: 20, Total: 100}).OfGroup(three(), names)
 	if answer.IsAll || answer.Orders != 20 || answer.Endless != 0 || len(answer.Ends) != 1 {
 		t.Fatalf("%+v", answer)
 	}
@@ -118,20 +119,70 @@ func TestStuck(t *testing.T) {
 	}
 }
 
-// Many names that differ in time, bytes and versions are foretold within the time of an answer.
+// Once the budget of all groups is spent, only small ones have all orders tried.
+func TestTheWholeBudget(t *testing.T) {
+	forecaster := New(Budget{States: 4000, Walks: 10, Total: 300})
+	later := inStep("b", "old", 3, 5).changed(0, "of 0", 60).changed(1, "of 1", 70)
+	earlier := inStep("a", "old", 3, 5).changed(0, "of 0", 70).changed(1, "of 1", 60)
+	one := inStep("c", "old", 3, 5).changed(0, "of 0", 70)
+	for place, due := range []struct {
+		name  Name
+		isAll bool
+	}{{earlier, true}, {later, false}, {earlier, true}, {one, true}} {
+		answer := forecaster.OfGroup(three(), []Name{due.name})
+		if answer.IsAll != due.isAll || (answer.Orders == 0) != due.isAll || len(answer.Ends) != 1 || answer.States < 10 {
+			t.Errorf("%d: %+v", place, answer)
+		}
+	}
+}
+
+// Many names at fault: on each device each may have been changed, lost or have rotted, and one device may be behind, at times of their own.
 func BenchmarkNames(b *testing.B) {
+	random := rand.New(rand.NewSource(1))
 	names := make([]Name, 10000)
 	for place := range names {
-		number := int64(place)
-		name := inStep(fmt.Sprint("name", place), fmt.Sprint("old", place), 3, 1+number%977)
-		name.changed(place%3, fmt.Sprint("new", place), 2000+number%13)
-		if place%2 == 0 {
-			name.changed((place+1)%3, fmt.Sprint("other", place), 2000+number%17)
-		}
-		names[place] = name
+		names[place] = faulty(inStep(fmt.Sprint("name", place), fmt.Sprint("old", place), 3, 1+random.Int63n(1000)), random)
 	}
 	b.ResetTimer()
 	for round := 0; round < b.N; round++ {
-		New(Usual).Of(World{Devices: three(), Names: append([]Name{}, names...)})
+		forecaster, states, walked := New(Usual), 0, 0
+		for _, answer := range forecaster.Of(World{Devices: three(), Names: append([]Name{}, names...)}) {
+			states += answer.States
+			if !answer.IsAll {
+				walked++
+			}
+		}
+		b.ReportMetric(float64(len(forecaster.known)), "kinds")
+		b.ReportMetric(float64(states), "states")
+		b.ReportMetric(float64(walked), "walked")
 	}
+}
+
+// faulty changes a name that is in step.
+func faulty(name Name, random *rand.Rand) Name {
+	if behind := random.Intn(6); behind < 3 {
+		newer := *name.Own[0]
+		newer.Version, newer.Time, newer.Content = []Counter{{10, newer.Version[0].Value}, {30, 7}}, 1500, Content{6, "newer " + name.Name}
+		for i := range name.Own {
+			if i != behind {
+				name.Own[i], name.Disk[i] = &newer, &Node{File, newer.Time, newer.Content, "", newer.Mode}
+			}
+			for j := range name.Own {
+				if i != behind && j != behind && i != j {
+					name.Views[i][j] = &newer
+				}
+			}
+		}
+	}
+	for i := range name.Disk {
+		switch random.Intn(8) {
+		case 0, 1:
+			name.changed(i, fmt.Sprint("new", name.Name, i), 2000+random.Int63n(1000))
+		case 2:
+			name.changed(i, fmt.Sprint("rot", name.Name, i), name.Own[i].Time)
+		case 3:
+			name.Disk[i] = nil
+		}
+	}
+	return name
 }

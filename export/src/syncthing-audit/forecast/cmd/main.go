@@ -18,7 +18,7 @@ func main() {
 	walks := flag.Int("walks", forecast.Usual.Walks, "beyond that so many in random order")
 	seed := flag.Int64("plans", 0, "a plan for a goal drawn with this seed, too, for each group of names")
 	flag.Parse()
-	if err := run(*folder, forecast.Budget{States: *states, Walks: *walks}, *seed, flag.Args()); err != nil {
+	if err := run(*folder, forecast.Budget{States: *states, Walks: *walks, Total: forecast.Usual.Total}, *seed, flag.Args()); err != nil {
 		fmt.Fprintln(os.Stderr, err)
 		os.Exit(2)
 	}

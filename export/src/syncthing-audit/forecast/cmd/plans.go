@@ -16,7 +16,7 @@ type plan struct {
 }
 
 // budgetOfPlans is that of each step of a search.
-var budgetOfPlans = forecast.Budget{States: 1500, Walks: 40}
+var budgetOfPlans = forecast.Budget{States: 1500, Walks: 40, Total: 3000000}
 
 // plans draws a goal for each group of names, and finds a plan: that what some device has at a name stands on all, or that it stays away.
 func plans(world forecast.World, seed int64) []plan {
