@@ -12,3 +12,4 @@ mod HashesKept
 mod EndFirm
 mod TakesBounded
 mod CutHashes
+mod ConvergeFaultless

@@ -1,5 +1,5 @@
 -- What is proved of cuts that prevail; the functions of src/laws.rt and src/steps.rt have these as contracts.
-use Rattle.std.specs.Prelude.{◌≡◌, ◌≤◌, ℕ, List, [], length, Option, Some}
+use Rattle.std.specs.Prelude.{◌≡◌, ◌≤◌, ◌↔◌, ℕ, List, [], length, Option, Some}
 use Rattle.bep_record.specs.declared.entry.Entry.{Entry}
 use Rattle.bep_model.specs.Tables.{Tables, Device, Folder, FileName, Shares}
 use Rattle.bep_model.specs.declared.row.Row.{Row}
@@ -18,6 +18,9 @@ use Rattle.bep_origin.specs.FromCut.{cluster_from}
 use Rattle.bep_converge.specs.Received.{AllHaveHashes}
 use Rattle.bep_converge.specs.Prevails.{Prevails, AllPrevail}
 use Rattle.bep_converge.specs.Orderly.{StaysAt, IsOrderlyStep, IsOrderlyRun}
+use Rattle.bep_model.specs.Reasons.{Place}
+use Rattle.bep_converge.specs.declared.converge_reason.ConvergeReason.{ConvergeReason}
+use Rattle.bep_converge.specs.ConvergeReasons.{AsksToConverge}
 use Rattle.bep_converge.specs.Bound.{TakesTimes, HasAllAbove}
 use Rattle.bep_converge.specs.Ended.{IsEnded, HearsOfNone}
 use Rattle.bep_converge.specs.Rises.{GoesOnPrevailing}
@@ -25,6 +28,10 @@ use Rattle.bep_converge.specs.Rises.{GoesOnPrevailing}
 -- each orderly run is one of free peers
 abbrev pub OrderlyRunsAreFree : Type 0
 OrderlyRunsAreFree = (old new : Tables) (between : List Tables) → IsOrderlyRun old between new → IsFreeRun old between new
+
+-- a cut prevails exactly where none of the eight reasons fails anywhere
+abbrev pub ConvergingIsFaultless : Type 0
+ConvergingIsFaultless = (t : Tables) → AllPrevail t ↔ ((reason : ConvergeReason) (place : Place) → AsksToConverge t reason place)
 
 -- of a name one version prevails at most, with one content
 abbrev pub PrevailingIsUnique : Type 0

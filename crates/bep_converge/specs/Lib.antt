@@ -4,4 +4,5 @@ pub mod Received
 pub mod Rises
 pub mod Ended
 pub mod Bound
+pub mod ConvergeReasons
 pub mod Laws

@@ -1,9 +1,14 @@
 //! What prevails goes on prevailing, whatever orderly peers do. Each function does nothing; its contract is the law.
-ghost use Rattle.bep_converge.specs.Laws.{EndIsFirm, OrderlyRunsAreFree, PrevailingIsUnique, RunsKeepPrevailing, StepsKeepPrevailing, TakesAreBounded, TakesAreCounted, TopStays};
+ghost use Rattle.bep_converge.specs.Laws.{ConvergingIsFaultless, EndIsFirm, OrderlyRunsAreFree, PrevailingIsUnique, RunsKeepPrevailing, StepsKeepPrevailing, TakesAreBounded, TakesAreCounted, TopStays};
 
 /// Each run of orderly peers is one of free peers.
 pub fn orderly_runs_are_free()
     ensures { OrderlyRunsAreFree }
+{}
+
+/// A cut prevails exactly where none of the eight reasons fails anywhere.
+pub fn converging_is_faultless()
+    ensures { ConvergingIsFaultless }
 {}
 
 /// Of a name one version prevails at most, with one content.
