@@ -93,7 +93,7 @@ class Emptied(LateRot):
         text = " ".join(self.answer()[1].split())
         self.assertIn(f"first, on {two}: 8 files look damaged, not edited. Copy back what is to stay, as said below, before Syncthing starts or scans there", text)
         self.assertIn(f"6 names in docs: 90 bytes {two}: looks damaged: 90 bytes recorded, 0 bytes on the disk: EMPTY the first: emptied0", text)
-        self.assertIn(f"{two}: looks damaged: 10 bytes recorded, 3 bytes on the disk: another size under the recorded time (modified", text)
+        self.assertIn(f"{two}: looks damaged: 10 bytes recorded, 3 bytes on the disk: cut short under the recorded time (modified", text)
         self.assertIn(f"{two}: looks damaged: a block of it is all zeros now (modified", text)
         self.assertEqual(text.count("this looks like damage, not like an edit. Before Syncthing scans there (the scan takes "), 3)
         self.assertEqual(text.count(f"from {one} to {two} with its time alone (cp --preserve=timestamps,"), 2)

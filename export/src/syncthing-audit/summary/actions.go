@@ -8,6 +8,7 @@ type actions struct {
 	entries int              // so far
 	safe    map[string][]int // the entries that tell to make something on a device safe before Syncthing starts or scans there
 	damaged map[string]int64 // how many files look damaged there, and a scan sends that
+	grown   map[string]int64 // how many have more bytes there than recorded under the recorded time, and a scan sends these
 	started map[string][]int // those that tell to start Syncthing, to scan or to touch there, or for which others fetch from there
 }
 
@@ -18,7 +19,11 @@ func (a *actions) note(file *File) {
 		a.safe[one] = append(a.safe[one], a.entries)
 	}
 	for place := range file.Faults {
-		if one := &file.Faults[place]; one.isDamagedChange() {
+		switch one := &file.Faults[place]; {
+		case !one.isDamagedChange():
+		case one.damage == isGrown:
+			a.grown[one.Device]++
+		default:
 			a.damaged[one.Device]++
 		}
 	}

@@ -12,7 +12,7 @@ func (p *printer) first(s *Summary) {
 			unseen = append(unseen, one.ID)
 		}
 	}
-	if len(unseen)+len(first)+len(s.actions.damaged) > 0 {
+	if len(unseen)+len(first)+len(s.actions.damaged)+len(s.actions.grown) > 0 {
 		p.line("")
 	}
 	p.damaged(s)

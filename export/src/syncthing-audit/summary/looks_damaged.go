@@ -7,11 +7,13 @@ import (
 	"syncthing-audit/part"
 )
 
-// Why what stands on a disk looks like damage, and not like an edit.
+// Why what stands on a disk looks like damage, and not like an edit. What is longer than recorded may as well be what was put back: then what was
+// recorded is the damage.
 const (
-	isEmptied   = "EMPTY"
-	isOtherSize = "another size under the recorded time"
-	isZeroed    = "a block of it is all zeros now"
+	isEmptied = "EMPTY"
+	isCut     = "cut short under the recorded time"
+	isGrown   = "more bytes than recorded under the recorded time"
+	isZeroed  = "a block of it is all zeros now"
 )
 
 // looksDamaged says why what stands in place of a recorded file looks like damage; nothing where it doesn't.
@@ -20,11 +22,14 @@ func looksDamaged(at *part.Name) string {
 		return ""
 	}
 	content, disk := at.Own.Content, at.Disk
+	isAtItsTime := at.Own.ModifiedS == disk.ModifiedS && at.Own.ModifiedNs == disk.ModifiedNs
 	switch {
 	case disk.Size == 0 && content.Size > 0:
 		return isEmptied
-	case disk.Size != content.Size && at.Own.ModifiedS == disk.ModifiedS && at.Own.ModifiedNs == disk.ModifiedNs:
-		return isOtherSize
+	case disk.Size < content.Size && isAtItsTime:
+		return isCut
+	case disk.Size > content.Size && isAtItsTime:
+		return isGrown
 	case isZeroedBlock(disk, content.BlockSize):
 		return isZeroed
 	}
@@ -67,7 +72,7 @@ func wordsOfChanged(faults []*Fault) string {
 		recorded, found = recorded+one.Recorded.Size, found+one.Found.Size
 	}
 	words := wordsOf[Changed]
-	if faults[0].damage != "" {
+	if faults[0].damage != "" && faults[0].damage != isGrown {
 		words = "looks damaged"
 	}
 	if recorded != found {
@@ -90,6 +95,10 @@ func (f *File) orDamaged(one *Fault, wanted string, named labels) string {
 		return wanted
 	}
 	it, at := f.say("it", "them"), named.of(one.Device)
+	if one.damage == isGrown {
+		return "before Syncthing starts or scans there, copy " + it + " from " + at + " to a place outside the folder: nobody can tell which bytes are the right ones. " +
+			"If those on the disk are, as after they were put back: " + wanted + ". If the recorded ones are, put these back then"
+	}
 	told := "this looks like damage, not like an edit. Before Syncthing scans there (the scan takes " + it + " for changed), "
 	switch {
 	case one.late != notLate:
@@ -105,6 +114,10 @@ func (f *File) orDamaged(one *Fault, wanted string, named labels) string {
 // damaged says, above all entries, on which devices a scan would send what looks like damage.
 func (p *printer) damaged(s *Summary) {
 	for _, one := range s.Devices {
+		if count := s.actions.grown[one.ID]; count > 0 {
+			p.line("first, on %s: %s more bytes than recorded under the recorded time. Keep a copy outside the folder before Syncthing starts or scans there",
+				p.named.of(one.ID), counted(count, "file has", "files have"))
+		}
 		if count := s.actions.damaged[one.ID]; count > 0 {
 			p.line("first, on %s: %s damaged, not edited. Copy back what is to stay, as said below, before Syncthing starts or scans there: a scan sends the damage on",
 				p.named.of(one.ID), counted(count, "file looks", "files look"))

@@ -23,6 +23,12 @@ func resized(one *part.Name) {
 	one.Disk.Size = 1000
 }
 
+// grown has more bytes on the disk than were recorded.
+func grown(one *part.Name) {
+	rotten(one)
+	one.Disk.Size = 400000
+}
+
 // zeroed has zeros in place of its last block, which is shorter than the others.
 func zeroed(one *part.Name) {
 	rotten(one)
@@ -44,7 +50,7 @@ var looking = []struct {
 }{
 	{"emptied at the recorded time", emptied, "server: looks damaged: 300.0 kB recorded, 0 bytes on the disk: EMPTY (modified", true},
 	{"emptied later", afterwards(emptied), "server: looks damaged: 300.0 kB recorded, 0 bytes on the disk: EMPTY (modified", true},
-	{"cut at the recorded time", resized, "server: looks damaged: 300.0 kB recorded, 1.0 kB on the disk: another size under the recorded time (modified", true},
+	{"cut at the recorded time", resized, "server: looks damaged: 300.0 kB recorded, 1.0 kB on the disk: cut short under the recorded time (modified", true},
 	{"cut later", afterwards(resized), "server: changed on the disk since the last scan: 300.0 kB recorded, 1.0 kB on the disk (modified", false},
 	{"zeros later", afterwards(zeroed), "server: looks damaged: a block of it is all zeros now (modified", true},
 	{"zeros at the recorded time", zeroed, "server: other bytes on the disk; size and time are as recorded, so no scan sees it: a block of it is all zeros now (modified", false},
@@ -65,6 +71,24 @@ func TestWhatLooksDamaged(t *testing.T) {
 			if strings.Contains(text, has) != one.isDamaged {
 				t.Errorf("%s: whether %q is told is wrong: %s", one.why, has, text)
 			}
+		}
+	}
+}
+
+// More bytes than recorded, under the recorded time, may be what was put back in place of what was emptied and recorded so: nobody is told to
+// copy the recorded bytes over them.
+func TestMoreBytesThanRecordedAreKept(t *testing.T) {
+	text := toldOf([]*part.Name{file(1, 1), with(file(1, 1), grown)}, "StoreDiffers 2", 0, 1, func(*finding.Folder) {})
+	for _, has := range []string{"first, on server: 1 file has more bytes than recorded under the recorded time. Keep a copy outside the folder before Syncthing starts or scans there",
+		"server: changed on the disk since the last scan: 300.0 kB recorded, 400.0 kB on the disk: more bytes than recorded under the recorded time",
+		"to do: before Syncthing starts or scans there, copy it from server to a place outside the folder: nobody can tell which bytes are the right ones"} {
+		if !strings.Contains(text, has) {
+			t.Errorf("%q isn't in %s", has, text)
+		}
+	}
+	for _, hasnt := range []string{"looks damaged", "this looks like damage", "copy it from laptop to server"} {
+		if strings.Contains(text, hasnt) {
+			t.Errorf("%q is in %s", hasnt, text)
 		}
 	}
 }
