@@ -9,6 +9,8 @@ type actions struct {
 	safe    map[string][]int // the entries that tell to make something on a device safe before Syncthing starts or scans there
 	damaged map[string]int64 // how many files look damaged there, and a scan sends that
 	grown   map[string]int64 // how many have more bytes there than recorded under the recorded time, and a scan sends these
+	added   map[string]int64 // how many names stand on a device that only receives, and aren't the others'
+	reverts map[string]bool  // whether an entry tells to revert local changes there
 	started map[string][]int // those that tell to start Syncthing, to scan or to touch there, or for which others fetch from there
 }
 
@@ -20,6 +22,10 @@ func (a *actions) note(file *File) {
 	}
 	for place := range file.Faults {
 		switch one := &file.Faults[place]; {
+		case one.Cause == LocalAddition || one.Cause == NotScanned && one.Kind == receiveOnly:
+			a.added[one.Device]++
+		case one.Cause == LocalChange:
+			a.reverts[one.Device] = true
 		case !one.isDamagedChange():
 		case one.damage == isGrown:
 			a.grown[one.Device]++
@@ -30,6 +36,14 @@ func (a *actions) note(file *File) {
 	for _, one := range file.toStart() {
 		a.started[one] = append(a.started[one], a.entries)
 	}
+}
+
+// loses says how many names 'Revert Local Changes' would delete on a device where an entry of another name tells it.
+func (a *actions) loses(device string) int64 {
+	if !a.reverts[device] {
+		return 0
+	}
+	return a.added[device]
 }
 
 // isFirst says whether something on a device is to be made safe before that is done there which another entry tells.

@@ -12,10 +12,14 @@ func (p *printer) first(s *Summary) {
 			unseen = append(unseen, one.ID)
 		}
 	}
-	if len(unseen)+len(first)+len(s.actions.damaged)+len(s.actions.grown) > 0 {
+	if len(unseen)+len(first)+len(s.actions.damaged)+len(s.actions.grown)+len(s.losingByRevert()) > 0 {
 		p.line("")
 	}
 	p.damaged(s)
+	for _, device := range s.losingByRevert() {
+		p.line("first, on %s: %s added there. 'Revert Local Changes' deletes all of these, whichever entry below tells it: copy elsewhere before what is to stay",
+			p.named.of(device), counted(s.actions.added[device], "name was", "names were"))
+	}
 	if len(first) > 0 {
 		p.line("first, on %s: do what the entries below say to do before Syncthing starts or scans there. As it starts, it scans all folders", p.named.all(first))
 	}
@@ -23,6 +27,17 @@ func (p *printer) first(s *Summary) {
 		p.line("before a start, on %s: names that weren't asked for may be missing there. As Syncthing starts, it scans all folders, and takes "+
 			"them for deleted", p.named.all(unseen))
 	}
+}
+
+// losingByRevert gives the devices on which reverting what one entry tells of would delete what another one tells of.
+func (s *Summary) losingByRevert() []string {
+	devices := []string{}
+	for _, one := range s.Devices {
+		if s.actions.loses(one.ID) > 0 {
+			devices = append(devices, one.ID)
+		}
+	}
+	return devices
 }
 
 // isLive says whether the devices were looked at while they ran, and so scan as they did.

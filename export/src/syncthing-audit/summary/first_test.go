@@ -172,3 +172,23 @@ func TestNamesWithoutDetailsComeFirst(t *testing.T) {
 		}
 	}
 }
+
+// 'Revert Local Changes' is of the whole folder: where one entry tells it, what another one tells of and it would delete is told above both.
+func TestWhatARevertWouldDeleteComesFirst(t *testing.T) {
+	const first = "first, on server: 1 name was added there. 'Revert Local Changes' deletes all of these, whichever entry below tells it: copy elsewhere before what is to stay"
+	for _, one := range []struct {
+		why              string
+		changed, isFirst bool
+	}{{"beside a local change", true, true}, {"alone", false, false}} {
+		text := printed(answerOf(2, func(folder *finding.Folder) {
+			folder.Members[1].About.Kind = receiveOnly
+			if one.changed {
+				fails(folder, "a", []*part.Name{file(1, 1), local(file(2, 2), onFirst...)}, "LocalOnly 2")
+			}
+			unwon(folder, "new", 1, finding.LocalChange, local(file(1, 1)))
+		}))
+		if strings.Contains(text, first) != one.isFirst || one.isFirst && strings.Index(text, first) > strings.Index(text, "takes back what was changed") {
+			t.Errorf("%s: whether %q is told above is wrong: %s", one.why, first, text)
+		}
+	}
+}

@@ -175,7 +175,8 @@ func Of(answer *finding.Answer) *Summary {
 		made.Devices = append(made.Devices, Device{one.ID, one.Name, one.Made, one.From, one.Runs, Text(names.Prefix), sliceOf(names), one.Index, one.Newer, one.ToRepair, names})
 	}
 	named := made.labels()
-	made.actions = &actions{safe: map[string][]int{}, damaged: map[string]int64{}, grown: map[string]int64{}, started: map[string][]int{}}
+	made.actions = &actions{safe: map[string][]int{}, damaged: map[string]int64{}, grown: map[string]int64{}, added: map[string]int64{},
+		reverts: map[string]bool{}, started: map[string][]int{}}
 	names := []*folding{}
 	for _, one := range answer.Folders {
 		all := &folding{named: named, to: made.actions, alike: map[string]*alike{}}
