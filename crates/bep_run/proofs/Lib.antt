@@ -2,3 +2,4 @@ mod Begins
 mod Places
 mod StayQuiet
 mod Still
+mod Vain

@@ -1,4 +1,5 @@
 -- What only private contracts say: no public contract rests on it.
+pub mod Dropping
 pub mod Tally
 pub mod Starting
 pub mod Unchanged

@@ -14,6 +14,7 @@
 
 mod actions;
 mod cuts;
+mod dropping;
 mod kept_link;
 mod kept_peer;
 mod origin;

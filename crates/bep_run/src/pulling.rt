@@ -1,5 +1,6 @@
 //! A puller's turn.
 
+use crate::dropping::pulled_in_vain;
 use crate::shared::Held;
 use crate::starting::has_no_pull;
 use crate::tally::tally;
@@ -13,9 +14,9 @@ use std::sync::Wait;
 
 impl<S: Store, O: Origin> Locked<S, O> {
     /// Takes each name that the device wants one step on, and answers how many actions answered Ok: a pull is begun where
-    /// there is none, the next block is asked for over each link, and the pull is ended if it can be. What is refused is
-    /// passed over. Refuses `NotShared` where the device isn't there; else only for want of memory, which ends the turn. May
-    /// wait.
+    /// there is none, the next block is asked for over each link, and the pull is ended if it can be. Then it ends the pulls of
+    /// the names that aren't wanted, which are dropped. What is refused is passed over. Refuses `NotShared` where the device
+    /// isn't there; else only for want of memory, which ends the turn. May wait.
     pub fn puller_turn<R: Wait>(&self, rt: &R, device: DeviceId) -> Result<u64, LogError> {
         let held = self.device(device)?;
         let mut done = 0;
@@ -24,8 +25,39 @@ impl<S: Store, O: Origin> Locked<S, O> {
             for (name, _) in names.iter() {
                 done = self.pull_on(rt, held, folder, name, done)?;
             }
+            done = self.end_in_vain(rt, held, folder, done)?;
         }
         Ok(done)
+    }
+
+    // Ends the folder's pulls of names that aren't wanted.
+    fn end_in_vain<R: Wait>(
+        &self,
+        rt: &R,
+        held: &Held<S, O>,
+        folder: &FolderName,
+        before: u64,
+    ) -> Result<u64, LogError> {
+        let mut done = before;
+        let names = self.in_vain(rt, held, folder)?;
+        for (name, _) in names.iter() {
+            done = tally(done, self.finish(rt, held, folder, name))?;
+        }
+        Ok(done)
+    }
+
+    // The names of which the device has a pull in the folder and wants no record.
+    fn in_vain<R: Wait>(
+        &self,
+        rt: &R,
+        held: &Held<S, O>,
+        folder: &FolderName,
+    ) -> Result<NameMap<()>, LogError> {
+        let peer = held.peer.lock(rt);
+        match peer.peer().replica(folder) {
+            Some(replica) => Ok(pulled_in_vain(self.alloc, replica)?),
+            None => Ok(NameMap::new(self.alloc)),
+        }
     }
 
     // The names that the device wants in the folder.

@@ -4,13 +4,15 @@ ghost use Rattle.bep_run.specs.inner.Tally.{passed_over, tally_of};
 
 use bep_log::LogError;
 
-/// How many actions answered Ok once this one has answered too. A refused one is passed over; want of memory ends the turn.
+/// How many actions answered Ok once this one has answered too. A refused one is passed over; want of memory ends the turn. An
+/// old ticket would end it, too: none is old that is drawn under the guards, so it isn't passed over in silence.
 pub(crate) fn tally<T: Drop>(done: u64, answer: Result<T, LogError>) -> Result<u64, LogError>
     ensures { result ≡ tally_of done answer }
 {
     match answer {
         Ok(_) => Ok(done.saturating_add(1)),
         Err(LogError::Memory) => Err(LogError::Memory),
+        Err(LogError::TicketOld) => Err(LogError::TicketOld),
         Err(_) => Ok(done),
     }
 }

@@ -10,6 +10,8 @@ mod effects;
 #[cfg(test)]
 mod handed;
 #[cfg(test)]
+mod left_over;
+#[cfg(test)]
 mod made;
 #[cfg(test)]
 mod meeting;

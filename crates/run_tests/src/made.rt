@@ -92,6 +92,11 @@ pub(crate) fn other_kinds(alloc: Global) -> Option<Cluster<MemStore>> {
     linked(alloc, config)
 }
 
+/// The cluster as it begins, behind its locks.
+pub(crate) fn shared(alloc: Global) -> Option<Shared<MemStore>> {
+    Shared::new(alloc, cluster(alloc)?).ok()
+}
+
 /// The cluster behind its locks, the link up, with a file at device 1 that no scan has seen, and a message on its way to it.
 pub(crate) fn with_file_and_message(alloc: Global) -> Option<Shared<MemStore>> {
     let (one, two) = (device(1)?, device(2)?);

@@ -39,3 +39,13 @@ pub(crate) fn held_in(cut: &Cut, number: u64, folder: &FolderName, name: &Name) 
     }
     (None, None)
 }
+
+/// How many pulls the device of this number has in the run's cut.
+pub(crate) fn pulls(run: &RunCut, number: u64, folder: &FolderName) -> Option<usize> {
+    for share in run.cut().shares(folder) {
+        if share.device.number() == number {
+            return Some(share.pulls.len());
+        }
+    }
+    None
+}

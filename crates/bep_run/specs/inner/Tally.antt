@@ -7,10 +7,10 @@ use Rattle.bep_log.specs.declared.error.LogError.TheVariants.{TicketOld, LogFull
 abbrev pub one_more : ℕ → ℕ
 one_more done = min (done + 1) (2 ^ 64 - 1)
 
--- how many actions answered Ok, this one too; want of memory is the turn's answer
+-- how many actions answered Ok, this one too; want of memory is the turn's answer, and so would an old ticket be
 abbrev pub tally_of : {A : Type 0} → ℕ → Result A LogError → Result ℕ LogError
 tally_of done (Ok answer) = Ok (one_more done)
-tally_of done (Err TicketOld) = Ok done
+tally_of done (Err TicketOld) = Err TicketOld
 tally_of done (Err LogFull) = Ok done
 tally_of done (Err (Refused refusal)) = Ok done
 tally_of done (Err Stale) = Ok done
