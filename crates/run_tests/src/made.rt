@@ -80,6 +80,51 @@ pub(crate) fn failing(alloc: Global, calls: [u64; 2]) -> Option<Cluster<FaultSto
     linked(alloc, config)
 }
 
+/// The links of three devices, each with each, and in a row.
+pub(crate) const RING: [(u64, u64); 3] = [(1, 2), (1, 3), (2, 3)];
+
+pub(crate) const ROW: [(u64, u64); 2] = [(1, 2), (2, 3)];
+
+// Devices 1, 2 and 3 that share the folder, over these stores, and these links.
+fn joined<S: Store>(alloc: Global, stores: [S; 3], links: &[(u64, u64)]) -> Option<Cluster<S>> {
+    let docs = docs(alloc)?;
+    let both = FolderKind::SendReceive;
+    let [one, two, three] = stores;
+    let mut config = Config::empty(alloc);
+    config.add_folder(docs.as_bytes()).ok()?;
+    config.add_device(&docs, device(1)?, both, 11, one).ok()?;
+    config.add_device(&docs, device(2)?, both, 12, two).ok()?;
+    config.add_device(&docs, device(3)?, both, 13, three).ok()?;
+    for (lower, upper) in links {
+        config.add_link(device(*lower)?, device(*upper)?).ok()?;
+    }
+    Cluster::new(alloc, config).ok()
+}
+
+/// Devices 1, 2 and 3 behind their locks, with these links, all down.
+pub(crate) fn three(alloc: Global, links: &[(u64, u64)]) -> Option<Shared<MemStore>> {
+    let stores = [
+        MemStore::new(alloc),
+        MemStore::new(alloc),
+        MemStore::new(alloc),
+    ];
+    Shared::new(alloc, joined(alloc, stores, links)?).ok()
+}
+
+/// The same with each link, where these calls of the stores fail, or none for 0.
+pub(crate) fn three_failing(
+    alloc: Global,
+    calls: [u64; 3],
+) -> Option<Shared<FaultStore<MemStore>>> {
+    let [one, two, three] = calls;
+    let stores = [
+        FaultStore::new(MemStore::new(alloc), one),
+        FaultStore::new(MemStore::new(alloc), two),
+        FaultStore::new(MemStore::new(alloc), three),
+    ];
+    Shared::new(alloc, joined(alloc, stores, &RING)?).ok()
+}
+
 /// The cluster with the other kinds: device 1 only sends `docs`, and device 2 only receives `music`.
 pub(crate) fn other_kinds(alloc: Global) -> Option<Cluster<MemStore>> {
     let sends = [FolderKind::SendOnly, FolderKind::SendReceive];

@@ -20,11 +20,21 @@ pub(crate) fn count(there: &AtomicU64) -> u64 {
 
 /// Whether some thread came there, once this one has waited for it: at most two seconds and the time that looking takes.
 pub(crate) fn has_come<R: Clock>(rt: &R, there: &AtomicU64) -> bool {
-    for _ in 0..TRIES {
+    has_come_by(rt, there, TRIES)
+}
+
+/// The same, where this thread looks so many times.
+pub(crate) fn has_come_by<R: Clock>(rt: &R, there: &AtomicU64, tries: u32) -> bool {
+    for _ in 0..tries {
         if count(there) > 0 {
             return true;
         }
-        thread::sleep(rt, Duration::from_micros(SLEEP));
+        rest(rt);
     }
     false
+}
+
+/// Sleeps for as long as a thread sleeps between two looks.
+pub(crate) fn rest<R: Clock>(rt: &R) {
+    thread::sleep(rt, Duration::from_micros(SLEEP));
 }
