@@ -1,7 +1,7 @@
 """The wrong bodies in wrong/: what each changes, whether it still fits, and which of them have their turn.
 
 An edit has a line 'file: PATH' of its crate, and pairs of lines 'old: TEXT' and 'new: TEXT'; the old text stands once in
-that file.
+that file. Where several lines 'old:' follow one another, they are the lines of one text.
 """
 
 import subprocess
@@ -35,15 +35,16 @@ def name_of(edit):
 
 def changes(edit):
     """What an edit changes: each file of its crate, with the old text and the new one."""
-    file, old = "", ""
+    file, old = "", []
     for line in edit.read_text().splitlines():
         word, _, text = line.partition(": ")
         if word == "file":
             file = text
         elif word == "old":
-            old = text
+            old.append(text)
         elif line.startswith("new:"):
-            yield file, old, line[len("new:"):].removeprefix(" ")
+            yield file, "\n".join(old), line[len("new:"):].removeprefix(" ")
+            old = []
 
 
 def applied(edit):
