@@ -13,3 +13,4 @@ mod EndFirm
 mod TakesBounded
 mod CutHashes
 mod ConvergeFaultless
+mod ConvergeVerdicts

@@ -21,6 +21,7 @@ use Rattle.bep_converge.specs.Orderly.{StaysAt, IsOrderlyStep, IsOrderlyRun}
 use Rattle.bep_model.specs.Reasons.{Place}
 use Rattle.bep_converge.specs.declared.converge_reason.ConvergeReason.{ConvergeReason}
 use Rattle.bep_converge.specs.ConvergeReasons.{AsksToConverge}
+use Rattle.bep_converge.specs.ConvergeVerdict.{ConvergeVerdict, IsConvergeVerdict}
 use Rattle.bep_converge.specs.Bound.{TakesTimes, HasAllAbove}
 use Rattle.bep_converge.specs.Ended.{IsEnded, HearsOfNone}
 use Rattle.bep_converge.specs.Rises.{GoesOnPrevailing}
@@ -32,6 +33,10 @@ OrderlyRunsAreFree = (old new : Tables) (between : List Tables) → IsOrderlyRun
 -- a cut prevails exactly where none of the eight reasons fails anywhere
 abbrev pub ConvergingIsFaultless : Type 0
 ConvergingIsFaultless = (t : Tables) → AllPrevail t ↔ ((reason : ConvergeReason) (place : Place) → AsksToConverge t reason place)
+
+-- there is one verdict at most
+abbrev pub ConvergeVerdictIsUnique : Type 0
+ConvergeVerdictIsUnique = (t : Tables) (one other : ConvergeVerdict) → IsConvergeVerdict t one → IsConvergeVerdict t other → one ≡ other
 
 -- of a name one version prevails at most, with one content
 abbrev pub PrevailingIsUnique : Type 0

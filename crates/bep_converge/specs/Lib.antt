@@ -5,4 +5,5 @@ pub mod Rises
 pub mod Ended
 pub mod Bound
 pub mod ConvergeReasons
+pub mod ConvergeVerdict
 pub mod Laws

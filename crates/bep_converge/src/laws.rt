@@ -1,5 +1,5 @@
 //! What prevails goes on prevailing, whatever orderly peers do. Each function does nothing; its contract is the law.
-ghost use Rattle.bep_converge.specs.Laws.{ConvergingIsFaultless, EndIsFirm, OrderlyRunsAreFree, PrevailingIsUnique, RunsKeepPrevailing, StepsKeepPrevailing, TakesAreBounded, TakesAreCounted, TopStays};
+ghost use Rattle.bep_converge.specs.Laws.{ConvergeVerdictIsUnique, ConvergingIsFaultless, EndIsFirm, OrderlyRunsAreFree, PrevailingIsUnique, RunsKeepPrevailing, StepsKeepPrevailing, TakesAreBounded, TakesAreCounted, TopStays};
 
 /// Each run of orderly peers is one of free peers.
 pub fn orderly_runs_are_free()
@@ -9,6 +9,11 @@ pub fn orderly_runs_are_free()
 /// A cut prevails exactly where none of the eight reasons fails anywhere.
 pub fn converging_is_faultless()
     ensures { ConvergingIsFaultless }
+{}
+
+/// A cut has one verdict at most: converging, or the first reason that fails, at its first place.
+pub fn converge_verdict_is_unique()
+    ensures { ConvergeVerdictIsUnique }
 {}
 
 /// Of a name one version prevails at most, with one content.

@@ -12,8 +12,9 @@ mod steps;
 
 pub use converge_reason::ConvergeReason;
 pub use laws::{
-    converging_is_faultless, end_is_firm, orderly_runs_are_free, prevailing_is_unique,
-    runs_keep_prevailing, steps_keep_prevailing, takes_are_bounded, top_stays,
+    converge_verdict_is_unique, converging_is_faultless, end_is_firm, orderly_runs_are_free,
+    prevailing_is_unique, runs_keep_prevailing, steps_keep_prevailing, takes_are_bounded,
+    top_stays,
 };
 pub use steps::{
     cuts_have_hashes, prevailing_goes_on, runs_are_orderly, steps_are_orderly, steps_keep_hashes,
