@@ -271,7 +271,7 @@ class TwoDevices(Answers, Exporting):
         path = os.path.join(os.fsencode(self.two.files), b"odd\xff")
         open(path, "xb").close()
         try:
-            self.assertIn(r"name $'odd\377': its name", self.refused())
+            self.assertIn(r"name '[not-for-typing:odd\xff]': its name", self.refused())
             ran = self.check("--leave-out", "names")
             self.assertEqual((ran.returncode, ran.stdout.splitlines()[0]), (6, "settled as far as audited"))
         finally:

@@ -153,7 +153,7 @@ func (p *place) words(before, words []string, asked options) []string {
 	if remote == "" {
 		remote, path = usualProgram, pathOfUsers
 	}
-	command := path + shell.Words(append(append(before[:len(before):len(before)], remote), words...))
+	command := path + shell.ExactWords(append(append(before[:len(before):len(before)], remote), words...))
 	return append(p.ssh[:len(p.ssh):len(p.ssh)], command)
 }
 

@@ -15,7 +15,10 @@ const tokenLine = "^[0-9A-Z-]{63}:[0-9a-f]{32}$"
 
 // tellCommands tells what a run would do, as a script for a shell. Where a part goes to standard output, its token is told on
 // standard error, beside other lines.
-func tellCommands(output io.Writer, places []*place, asked options) {
+func tellCommands(output io.Writer, places []*place, asked options) error {
+	if err := checkTyped(places, asked); err != nil {
+		return err
+	}
 	labels := labelsOf(places)
 	named := func(ending string) string {
 		words := []string{}
@@ -36,6 +39,21 @@ func tellCommands(output io.Writer, places []*place, asked options) {
 		outside.Printf(output, "%s < tokens > %s\n", shell.Words(one.end(asked)), shell.Quoted(labels[at]+".end"))
 	}
 	outside.Printf(output, "%s %s %s\n", shell.Words(places[0].check(asked)), named(".begin"), named(".end"))
+	return nil
+}
+
+// checkTyped says which word of the commands no person can type.
+func checkTyped(places []*place, asked options) error {
+	for _, place := range places {
+		words := append(place.check(asked), place.home, place.data, place.host, asked.remote)
+		for _, text := range words {
+			if !shell.CanBeTyped(text) {
+				return fmt.Errorf("refused: %s has bytes that can't be typed in one way in all shells, so there are no commands to show: run it without "+
+					"--dry-run", shell.Quoted(text))
+			}
+		}
+	}
+	return nil
 }
 
 // check gives the command that joins all looks, but for their parts.

@@ -42,3 +42,20 @@ func TestTokenLine(t *testing.T) {
 		t.Errorf("%q, %v", taken, err)
 	}
 }
+
+// A home whose name can't be typed is looked at by the name that it has. There are no commands to show for it.
+func TestAPlaceThatCannotBeTyped(t *testing.T) {
+	asked := options{parts: []string{"laptop:a\nb"}, remote: "audit", dryRun: true}
+	places, err := placesOf(asked)
+	if err != nil {
+		t.Fatal(err)
+	}
+	if words := places[0].begin(asked); !strings.HasSuffix(words[len(words)-1], " --home 'a\nb' -o -") {
+		t.Errorf("%q", words)
+	}
+	var output strings.Builder
+	err = tellCommands(&output, places, asked)
+	if err == nil || !strings.HasPrefix(err.Error(), `refused: '[not-for-typing:a\x0ab]' has bytes that can't be typed`) || output.Len() > 0 {
+		t.Errorf("%v, %q", err, output.String())
+	}
+}

@@ -50,8 +50,7 @@ func runRun(words []string, output, log io.Writer) (int, error) {
 		return 0, err
 	}
 	if asked.dryRun {
-		tellCommands(output, places, asked)
-		return statusDone, nil
+		return statusDone, tellCommands(output, places, asked)
 	}
 	program := ask.Program{Path: asked.program}
 	if err := program.Find(); err != nil {

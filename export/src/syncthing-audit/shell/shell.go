@@ -1,4 +1,14 @@
-// Package shell gives names so that they can be pasted into a shell.
+// Package shell gives names so that they can be pasted into a shell. Sh, dash, bash, zsh and fish read what it gives as the same words.
+//
+// In all of them a text in single quotes stands for itself, but for two characters: a single quote ends it, and fish takes a backslash before
+// either for an escape. So each of these two stands outside of quotes, behind a backslash: 'it'\”s'. There is no $'..', which dash and fish don't
+// know, and no word without quotes of more than ASCII letters, digits and _./+:,@-.
+//
+// A name with a newline, another control character, one that turns text around, or bytes that aren't UTF-8 can't be typed in one way in all of
+// these shells, and printed as it is it would move the terminal's cursor. Such a name is given for reading: in one quoted word that says so, with
+// \x and two digits for each byte that can't be typed, for a backslash and for a single quote. No shell does anything with that word, and the word of
+// no other name is like it, since none has a backslash within quotes. To reach such a file, choose it in a file manager, or by a pattern of the
+// shell, * in place of these bytes, after seeing that it fits that file alone.
 package shell
 
 import (
@@ -22,28 +32,59 @@ func Path(name string) string {
 
 // Quoted gives a text as one word that moves no terminal's cursor.
 func Quoted(name string) string {
-	if isPlain(name) {
+	switch {
+	case isPlain(name):
 		return name
+	case !CanBeTyped(name):
+		return "'" + notToBeTyped + escaped(name) + "]'"
 	}
-	if isPrintable(name) {
-		return "'" + strings.ReplaceAll(name, "'", `'\''`) + "'"
+	return Exact(name)
+}
+
+// Exact gives a text as one word for a shell alone, and no person: newlines and other bytes that no one can type stand in it as they are.
+func Exact(text string) string {
+	if text == "" {
+		return "''"
 	}
 	var made strings.Builder
-	for rest := name; rest != ""; {
-		one, length := utf8.DecodeRuneInString(rest)
-		switch {
-		case one == '\'' || one == '\\':
-			made.WriteString(`\` + string(one))
-		case one == utf8.RuneError && length == 1 || !unicode.IsPrint(one):
-			for _, octet := range []byte(rest[:length]) {
-				fmt.Fprintf(&made, `\%03o`, octet)
-			}
-		default:
-			made.WriteRune(one)
+	for text != "" {
+		end := strings.IndexAny(text, `'\`)
+		if end < 0 {
+			end = len(text)
 		}
-		rest = rest[length:]
+		if end > 0 {
+			made.WriteString("'" + text[:end] + "'")
+		}
+		if end < len(text) {
+			made.WriteString(`\` + text[end:end+1])
+			end++
+		}
+		text = text[end:]
 	}
-	return "$'" + made.String() + "'"
+	return made.String()
+}
+
+// HasOneForReading says whether a text has a name that is given for reading.
+func HasOneForReading(text string) bool { return strings.Contains(text, notToBeTyped) }
+
+// notToBeTyped stands before a name that is given for reading.
+const notToBeTyped = "[not-for-typing:"
+
+// escaped gives a name for reading.
+func escaped(name string) string {
+	var made strings.Builder
+	for name != "" {
+		character, length := utf8.DecodeRuneInString(name)
+		if strings.ContainsRune(`'\`, character) || !CanBeTyped(name[:length]) {
+			for _, octet := range []byte(name[:length]) {
+				fmt.Fprintf(&made, `\x%02x`, octet)
+			}
+		} else {
+			made.WriteString(name[:length])
+		}
+		name = name[length:]
+	}
+	return made.String()
 }
 
 // Word gives a word of a command, where one that begins with a dash is an option.
@@ -63,20 +104,30 @@ func Words(words []string) string {
 	return strings.Join(made, " ")
 }
 
-// isPlain says whether a text needs no quotes. One that begins with a dash or a tilde does.
-func isPlain(name string) bool {
-	for place, one := range name {
-		isSafe := unicode.IsLetter(one) || unicode.IsDigit(one) || strings.ContainsRune("_./+:,@%^", one) || one == '-' && place > 0
-		if one == utf8.RuneError || !isSafe {
-			return false
+// ExactWords gives a command for a shell alone.
+func ExactWords(words []string) string {
+	made := []string{}
+	for _, text := range words {
+		if CanBeTyped(text) {
+			made = append(made, Word(text))
+		} else {
+			made = append(made, Exact(text))
 		}
 	}
-	return name != ""
+	return strings.Join(made, " ")
 }
 
-func isPrintable(name string) bool {
-	for _, one := range name {
-		if one == utf8.RuneError || !unicode.IsPrint(one) {
+// isPlain says whether a text needs no quotes. One that begins with a dash does.
+func isPlain(name string) bool {
+	const letters = "ABCDEFGHIJKLMNOPQRSTUVWXYZabcdefghijklmnopqrstuvwxyz0123456789"
+	isOther := func(character rune) bool { return !strings.ContainsRune(letters+"_./+:,@-", character) }
+	return name != "" && name[0] != '-' && strings.IndexFunc(name, isOther) < 0
+}
+
+// CanBeTyped says whether a text is one that a person can type or paste, in each shell.
+func CanBeTyped(text string) bool {
+	for place, character := range text {
+		if character == utf8.RuneError && !strings.HasPrefix(text[place:], string(utf8.RuneError)) || !unicode.IsPrint(character) {
 			return false
 		}
 	}

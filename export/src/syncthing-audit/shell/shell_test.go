@@ -3,8 +3,8 @@ package shell
 import "testing"
 
 func TestQuoted(t *testing.T) {
-	for name, quoted := range map[string]string{"a/b-c.txt": "a/b-c.txt", "-rf": "'-rf'", "it's": `'it'\''s'`, "über": "über", "a\nb": `$'a\012b'`,
-		"odd\xff'": `$'odd\377\''`, "~": "'~'", "$HOME": "'$HOME'", "": "''", "\u202e": `$'\342\200\256'`} {
+	for name, quoted := range map[string]string{"a/b-c.txt": "a/b-c.txt", "-rf": "'-rf'", "it's": `'it'\''s'`, "über": "'über'", `a\b'`: `'a'\\'b'\'`, "a^b": "'a^b'", "%self": "'%self'", "a\nb": `'[not-for-typing:a\x0ab]'`,
+		"odd\xff'": `'[not-for-typing:odd\xff\x27]'`, "~": "'~'", "$HOME": "'$HOME'", "": "''", "\u202e": `'[not-for-typing:\xe2\x80\xae]'`} {
 		if Quoted(name) != quoted {
 			t.Errorf("%q is quoted as %s, not %s", name, Quoted(name), quoted)
 		}
@@ -18,7 +18,7 @@ func TestPrintable(t *testing.T) {
 }
 
 func TestPath(t *testing.T) {
-	for name, quoted := range map[string]string{"-rf": "./-rf", "-r f": "'./-r f'", "a/-rf": "a/-rf", "-\n": `$'./-\012'`, "`a`$b": "'`a`$b'"} {
+	for name, quoted := range map[string]string{"-rf": "./-rf", "-r f": "'./-r f'", "a/-rf": "a/-rf", "-\n": `'[not-for-typing:./-\x0a]'`, "`a`$b": "'`a`$b'"} {
 		if Path(name) != quoted {
 			t.Errorf("%q is the word %s, not %s", name, Path(name), quoted)
 		}
@@ -30,5 +30,12 @@ func TestWords(t *testing.T) {
 		if made := Word(text); made != word {
 			t.Errorf("%q: %s, not %s", text, made, word)
 		}
+	}
+}
+
+// A word for a shell alone is as typed where that can be.
+func TestExactWords(t *testing.T) {
+	if made := ExactWords([]string{"--home", "a\n'b", "it's", "c"}); made != "--home 'a\n'\\''b' 'it'\\''s' c" {
+		t.Errorf("%q", made)
 	}
 }

@@ -22,7 +22,8 @@ type printer struct {
 
 // Print prints a summary for a person, with times of this zone.
 func (s *Summary) Print(to io.Writer, zone *time.Location, now time.Time) {
-	p := &printer{to, s.labels(), zone, now}
+	noticed := &noticing{to: to}
+	p := &printer{noticed, s.labels(), zone, now}
 	for _, one := range s.Folders {
 		p.folder(one)
 	}
@@ -32,6 +33,7 @@ func (s *Summary) Print(to io.Writer, zone *time.Location, now time.Time) {
 		p.loose(folder)
 	}
 	p.rest(s)
+	p.forReading(noticed)
 }
 
 func (p *printer) line(format string, words ...interface{}) {

@@ -297,11 +297,12 @@ a  (in docs)
 	}, `docs (Documents): in step and firm as far as audited; 1,204 names (4 deleted), 335.2 MB hashed on laptop, server
 
 left out of docs: 1 name, 3.0 MB
-  $'odd\377', 3.0 MB: laptop: its name isn't UTF-8
+  '[not-for-typing:odd\xff]', 3.0 MB: laptop: its name isn't UTF-8
 outside docs: 4 names, 7 bytes, which .stignore keeps out on each device that has them
 not audited: names that don't begin with 'a b'; no part has them
   to do: make the parts without --names; or say by --names 'a b' that only these are to be audited.
 not compared: owners, extended attributes, old versions
+not for typing: a name in [not-for-typing:..] has bytes that can't be typed in one way in all shells. It is given for reading, each such byte as \x and two digits. Choose that file in a file manager, or by a pattern, * in place of these bytes, after seeing that it fits that file alone
 `},
 	{"a conflict copy that lies about", 2, func(folder *finding.Folder) {
 		folder.Conflicts = []finding.Conflict{{Name: "a.sync-conflict-20261126-170000-ABCDEF2.txt", Bytes: 1500000}}
