@@ -102,7 +102,7 @@ func (p *place) lacks(asked options, said string) string {
 // directory of the database.
 func (r *running) about(at int) error {
 	one := r.places[at]
-	told, err := one.run(one.about(r.asked), strings.NewReader(""), r.file(at, "about"))
+	told, err := one.run(one.about(r.asked), strings.NewReader(""), r.file(at, "about"), boundsOfAbout)
 	var ended *exec.ExitError
 	if errors.As(err, &ended) && ended.ExitCode() == statusUsage {
 		one.isOlder = strings.Contains(err.Error(), "-about")

@@ -1,7 +1,6 @@
 package main
 
 import (
-	"bytes"
 	"errors"
 	"fmt"
 	"io"
@@ -15,6 +14,7 @@ import (
 	"time"
 
 	"syncthing-audit/ask"
+	"syncthing-audit/bounded"
 	"syncthing-audit/part"
 	"syncthing-audit/shell"
 )
@@ -169,28 +169,34 @@ func onOneLine(told string) string {
 	return strings.Join(strings.FieldsFunc(told, func(letter rune) bool { return letter == '\n' || letter == '\r' }), "; ")
 }
 
-// run runs a command with what it reads, has what it writes go into a file, and gives what it says on standard error.
-func (p *place) run(words []string, input io.Reader, path string) (string, error) {
+// run runs a command with what it reads, has what it writes go into a file, and gives what it says on standard error. What is over these limits
+// ends it, and is an error.
+func (p *place) run(words []string, input io.Reader, path string, limits bounded.Limits) (string, error) {
 	file, err := os.OpenFile(path, os.O_WRONLY|os.O_CREATE|os.O_EXCL, 0o600)
 	if err != nil {
 		return "", err
 	}
 	defer file.Close()
-	var told bytes.Buffer
 	command := exec.Command(words[0], words[1:]...)
-	command.Stdin, command.Stdout, command.Stderr = input, file, &told
+	command.Stdin = input
 	command.SysProcAttr = &syscall.SysProcAttr{Pdeathsig: syscall.SIGTERM} // of the thread that starts it
 	runtime.LockOSThread()
 	defer runtime.UnlockOSThread()
-	err = command.Run()
+	told, err := bounded.Run(command, faulty{temporary{file}}, limits)
 	var ended *exec.ExitError
-	if errors.As(err, &ended) {
-		return "", fmt.Errorf("%s: its command ended with %w: %s%s", p.called(), ended, onOneLine(told.String()), p.whereIs(ended))
-	}
-	if err != nil {
+	var passed *bounded.Passed
+	var unkept *fault
+	switch {
+	case errors.As(err, &ended):
+		return "", fmt.Errorf("%s: its command ended with %w: %s%s", p.called(), ended, onOneLine(strings.TrimSpace(shown(told))), p.whereIs(ended))
+	case errors.As(err, &passed):
+		return "", fmt.Errorf("refused: %s: its command %w, and was ended", p.called(), passed)
+	case errors.As(err, &unkept):
+		return "", fmt.Errorf("%s: what its command wrote can't be kept: %w", p.called(), err)
+	case err != nil:
 		return "", fmt.Errorf("%s: %s can't be run: %w", p.called(), shell.Quoted(words[0]), err)
 	}
-	return told.String(), nil
+	return told, nil
 }
 
 // statusOfSSH is ssh's own, where it didn't come to the machine or lost it.

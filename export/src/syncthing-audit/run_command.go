@@ -199,7 +199,7 @@ func (r *running) begin(at int) error {
 	defer input.Close()
 	defer open.Close() // once it has ended, or by the end of this program
 	began := time.Now()
-	told, err := r.places[at].run(r.places[at].begin(r.asked), input, r.file(at, "begin"))
+	told, err := r.places[at].run(r.places[at].begin(r.asked), input, r.file(at, "begin"), boundsOfBegin)
 	if err != nil {
 		return err
 	}
@@ -212,7 +212,7 @@ func (r *running) begin(at int) error {
 // end makes the second look at a device.
 func (r *running) end(at int) error {
 	began := time.Now()
-	told, err := r.places[at].run(r.places[at].end(r.asked), strings.NewReader(r.tokens), r.file(at, "end"))
+	told, err := r.places[at].run(r.places[at].end(r.asked), strings.NewReader(r.tokens), r.file(at, "end"), boundsOfEnd(r.asked.still))
 	if err != nil {
 		return err
 	}

@@ -1,0 +1,154 @@
+// Package bounded runs a command of which another machine chooses what it writes, how much, and when. What is over a limit ends the command, and
+// is an error that says so.
+package bounded
+
+import (
+	"bytes"
+	"fmt"
+	"io"
+	"os"
+	"os/exec"
+	"syscall"
+	"time"
+)
+
+// Limits are those of a command.
+type Limits struct {
+	Output  int64         // bytes on standard output
+	Told    int64         // bytes on standard error
+	Silence time.Duration // without a byte on either of them; each byte begins it anew
+	Whole   time.Duration // from its begin to its end, whatever it writes
+}
+
+// Passed says which limit a command passed. It was ended for that.
+type Passed struct{ what string }
+
+func (p *Passed) Error() string { return p.what }
+
+// secondsOfGrace is how long a command that is told to end may take for it.
+const secondsOfGrace = 5
+
+// running is a command under way.
+type running struct {
+	command *exec.Cmd
+	limits  Limits
+	pipes   []*os.File    // from which its output is read
+	beats   chan struct{} // one for bytes that came
+	flows   chan error    // one for each pipe that is at its end
+	failed  error         // why it is ended
+}
+
+// Run runs a command, has what it writes go to a writer, and gives what it says on standard error. The command has ended when Run has, and
+// so has all that reads from it, even if children of the command still hold its output open.
+func Run(command *exec.Cmd, output io.Writer, limits Limits) (string, error) {
+	run := &running{command: command, limits: limits, beats: make(chan struct{}, 1), flows: make(chan error, 2)}
+	var told bytes.Buffer
+	if err := run.start(output, &told); err != nil {
+		return "", err
+	}
+	ended := run.await()
+	if run.failed != nil {
+		return "", run.failed
+	}
+	return told.String(), ended
+}
+
+// start starts the command with pipes to its output.
+func (r *running) start(output, told io.Writer) error {
+	var ends []*os.File
+	defer func() { closeAll(ends) }()
+	for len(ends) < 2 {
+		from, end, err := os.Pipe()
+		if err != nil {
+			closeAll(r.pipes)
+			return err
+		}
+		r.pipes, ends = append(r.pipes, from), append(ends, end)
+	}
+	r.command.Stdout, r.command.Stderr = ends[0], ends[1]
+	if err := r.command.Start(); err != nil {
+		closeAll(r.pipes)
+		return err
+	}
+	go r.flow(r.pipes[0], output, r.limits.Output, "output")
+	go r.flow(r.pipes[1], told, r.limits.Told, "standard error")
+	return nil
+}
+
+func closeAll(files []*os.File) {
+	for _, file := range files {
+		file.Close()
+	}
+}
+
+// flow takes what comes out of a pipe, up to a limit.
+func (r *running) flow(from *os.File, to io.Writer, most int64, called string) {
+	whole, buffer := most, make([]byte, 1<<16)
+	for {
+		count, err := from.Read(buffer)
+		if most -= int64(count); most < 0 {
+			r.flows <- &Passed{fmt.Sprintf("wrote more %s than any real device does (over %d bytes)", called, whole)}
+			return
+		}
+		if count > 0 {
+			select {
+			case r.beats <- struct{}{}:
+			default:
+			}
+			if _, err := to.Write(buffer[:count]); err != nil {
+				r.flows <- err
+				return
+			}
+		}
+		if err == io.EOF {
+			err = nil
+		}
+		if err != nil || count == 0 {
+			r.flows <- err
+			return
+		}
+	}
+}
+
+// await waits for the end of the command and of its output, and ends it where a limit is passed. It gives how the command ended.
+func (r *running) await() error {
+	defer closeAll(r.pipes)
+	waited := make(chan error, 1)
+	go func() { waited <- r.command.Wait() }()
+	silence, whole := time.NewTimer(r.limits.Silence), time.NewTimer(r.limits.Whole)
+	defer silence.Stop()
+	defer whole.Stop()
+	var ended error
+	last := time.Now()
+	for left := 1 + len(r.pipes); left > 0; {
+		select {
+		case ended = <-waited:
+			left--
+		case err := <-r.flows:
+			left--
+			r.stop(err)
+		case <-r.beats:
+			last = time.Now()
+		case <-silence.C:
+			if rest := r.limits.Silence - time.Since(last); rest > 0 {
+				silence.Reset(rest)
+			} else {
+				r.stop(&Passed{fmt.Sprintf("wrote nothing for %v", r.limits.Silence)})
+			}
+		case <-whole.C:
+			r.stop(&Passed{fmt.Sprintf("wasn't done after %v", r.limits.Whole)})
+		}
+	}
+	return ended
+}
+
+// stop ends the command for a reason, if there is one and it isn't ended yet: it is told to, and killed where it doesn't.
+func (r *running) stop(why error) {
+	if why == nil || r.failed != nil {
+		return
+	}
+	r.failed = why
+	closeAll(r.pipes)
+	r.command.Process.Signal(syscall.SIGTERM)
+	time.AfterFunc(secondsOfGrace*time.Second, func() { r.command.Process.Kill() })
+}

@@ -1,0 +1,107 @@
+package bounded
+
+import (
+	"errors"
+	"io"
+	"os"
+	"os/exec"
+	"path/filepath"
+	"strconv"
+	"strings"
+	"syscall"
+	"testing"
+	"time"
+)
+
+// wide are limits that no command here passes by itself.
+var wide = Limits{Output: 1 << 20, Told: 1 << 20, Silence: 20 * time.Second, Whole: 40 * time.Second}
+
+// What is within the limits is taken as it is, with the status of the end.
+func TestWithinTheLimits(t *testing.T) {
+	var output strings.Builder
+	command := exec.Command("sh", "-c", "cat; echo told >&2; sleep 0.2; printf more; exit 3")
+	command.Stdin = strings.NewReader("read ")
+	told, err := Run(command, &output, wide)
+	var ended *exec.ExitError
+	if !errors.As(err, &ended) || ended.ExitCode() != 3 || output.String() != "read more" || told != "told\n" {
+		t.Errorf("%q, %q, %v", output.String(), told, err)
+	}
+	if _, err := Run(exec.Command("/nowhere/at-all"), io.Discard, wide); !errors.Is(err, os.ErrNotExist) {
+		t.Error(err)
+	}
+	if _, err := Run(exec.Command("sh", "-c", "head -c 1048576 /dev/zero"), io.Discard, wide); err != nil {
+		t.Errorf("as much as the limit: %v", err)
+	}
+}
+
+// Each limit ends a command that passes it, one that heeds no signal, and one whose child holds the output open.
+func TestEachLimit(t *testing.T) {
+	short := func(change func(limits *Limits)) Limits {
+		made := wide
+		change(&made)
+		return made
+	}
+	quick := short(func(limits *Limits) { limits.Silence = 300 * time.Millisecond })
+	trickling := short(func(limits *Limits) { limits.Silence, limits.Whole = 4*time.Second, 1500*time.Millisecond })
+	for _, test := range []struct {
+		why, script, told string
+		limits            Limits
+	}{
+		{"output without an end", "exec cat /dev/zero", "wrote more output", wide},
+		{"standard error without an end", "exec cat /dev/zero >&2", "wrote more standard error", wide},
+		{"one that hangs", "exec sleep 600", "wrote nothing for 300ms", quick},
+		{"one that hangs after some output", "echo part; exec sleep 600", "wrote nothing for 300ms", quick},
+		{"one that heeds no signal", "trap '' TERM; while :; do sleep 0.1; done", "wrote nothing for 300ms", quick},
+		{"one whose child holds the output", "sleep 30 & exit 0", "wrote nothing for 300ms", quick},
+		{"one that closed its output", "exec sleep 600 >&- 2>&-", "wrote nothing for 300ms", quick},
+		{"one that trickles", "while :; do printf x; sleep 0.1; done", "wasn't done after 1.5s", trickling},
+	} {
+		path := filepath.Join(t.TempDir(), "pid")
+		command := exec.Command("sh", "-c", "echo $$ > '"+path+"'; "+test.script)
+		began := time.Now()
+		told, err := Run(command, io.Discard, test.limits)
+		var passed *Passed
+		if !errors.As(err, &passed) || !strings.HasPrefix(err.Error(), test.told) || told != "" {
+			t.Errorf("%s: %q, %v", test.why, told, err)
+		}
+		if spent := time.Since(began); spent > 20*time.Second {
+			t.Errorf("%s took %v", test.why, spent)
+		}
+		checkEnded(t, test.why, path)
+	}
+}
+
+// checkEnded says whether the process of this number is still there.
+func checkEnded(t *testing.T, why, path string) {
+	text, err := os.ReadFile(path)
+	if err != nil {
+		t.Fatal(err)
+	}
+	number, err := strconv.Atoi(strings.TrimSpace(string(text)))
+	if err != nil || syscall.Kill(number, 0) != syscall.ESRCH {
+		t.Errorf("%s: process %d is still there: %v", why, number, err)
+	}
+}
+
+// A byte now and then keeps a command alive for longer than its silence may be.
+func TestBytesKeepACommandAlive(t *testing.T) {
+	limits := wide
+	limits.Silence = 2 * time.Second
+	var output strings.Builder
+	told, err := Run(exec.Command("sh", "-c", "for n in 1 2 3 4 5 6; do sleep 0.5; printf x; sleep 0.3; printf y >&2; done"), &output, limits)
+	if err != nil || output.String() != "xxxxxx" || told != "yyyyyy" {
+		t.Errorf("%q, %q, %v", output.String(), told, err)
+	}
+}
+
+// full is a writer that has no room.
+type full struct{}
+
+func (full) Write([]byte) (int, error) { return 0, syscall.ENOSPC }
+
+// Where the output can't be kept, the command is ended and that is the error.
+func TestNoRoomForTheOutput(t *testing.T) {
+	if _, err := Run(exec.Command("sh", "-c", "echo x; exec sleep 600"), full{}, wide); !errors.Is(err, syscall.ENOSPC) {
+		t.Error(err)
+	}
+}
