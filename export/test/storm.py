@@ -7,8 +7,8 @@ what they had before must have that end, exactly: kinds, bytes and conflict copi
     export/test/storm.py --again DIRECTORY
 
 SYNCTHING names the programs that devices run, as in the other tests: each round takes one of them for all devices, or all by turns. It
-prints what was untrue, and the rate of what was true. With --keep it leaves what the devices had, and what came of it, for each round; with --again such rounds
-are foretold anew.
+prints what was untrue, and the rate of what was true. With --keep it leaves what the devices had, and what came of it, for each round, and a world of each name
+that was untrue; with --again such rounds are foretold anew.
 """
 
 import argparse
@@ -132,6 +132,15 @@ def run_round(seed, count, runs, audit, keep, planner):
     (keep / "round.json").write_text(json.dumps(made))
 
 
+def capture(kept, program, made, findings):
+    """Writes the world of each name that came to another end than foretold, with the ends that came, for the program's --world."""
+    for name in {finding.name for finding in findings if not finding.is_true}:
+        parts = [kept / f"{one}.part" for one in made["names"]]
+        world = foretell(program, parts, "--group", name)
+        world["came"] = [finding.came for finding in findings if finding.name == name]
+        (kept / f"untrue-{name.replace('/', '-')}.json").write_text(json.dumps(world, default=sorted))
+
+
 def judge(kept, program):
     """Foretells a round, prints what was untrue, and gives a finding for each name and run."""
     made = json.loads((kept / "round.json").read_text())
@@ -139,6 +148,8 @@ def judge(kept, program):
         findings = compare(with_plans(json.loads((kept / "plans.json").read_text())), made["names"], made["ends"])
     else:
         findings = compare(foretell(program, [kept / f"{name}.part" for name in made["names"]]), made["names"], made["ends"])
+    if not (kept / "plans.json").exists():
+        capture(kept, program, made, findings)
     print(f"round {made['seed']}", made["kinds"], made["programs"])
     print(told(findings), flush=True)
     return findings

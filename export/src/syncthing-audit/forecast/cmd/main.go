@@ -16,35 +16,73 @@ func main() {
 	folder := flag.String("folder", "docs", "the folder's id")
 	states := flag.Int("states", forecast.Usual.States, "up to so many states all orders are tried")
 	walks := flag.Int("walks", forecast.Usual.Walks, "beyond that so many in random order")
+	group := flag.String("group", "", "only the names that hang together with this one, and their world")
+	captured := flag.String("world", "", "a world that --group wrote, in place of parts")
 	seed := flag.Int64("plans", 0, "a plan for a goal drawn with this seed, too, for each group of names")
 	flag.Parse()
-	if err := run(*folder, forecast.Budget{States: *states, Walks: *walks, Total: forecast.Usual.Total}, *seed, flag.Args()); err != nil {
+	budget := forecast.Budget{States: *states, Walks: *walks, Total: forecast.Usual.Total}
+	world, err := worldOf(*captured, *folder, flag.Args())
+	if err == nil {
+		err = json.NewEncoder(os.Stdout).Encode(told(world, *group, budget, *seed))
+	}
+	if err != nil {
 		fmt.Fprintln(os.Stderr, err)
 		os.Exit(2)
 	}
 }
 
-func run(folder string, budget forecast.Budget, seed int64, paths []string) error {
+// told gives what is written.
+func told(world forecast.World, group string, budget forecast.Budget, seed int64) map[string]interface{} {
+	made := map[string]interface{}{}
+	if group != "" {
+		world = groupOf(world, group)
+		made["world"] = world
+	}
+	made["answers"] = forecast.New(budget).Of(world)
+	if seed != 0 {
+		made["plans"] = plans(world, seed)
+	}
+	return made
+}
+
+// groupOf gives the world of the names that hang together with one.
+func groupOf(world forecast.World, name string) forecast.World {
+	for _, group := range world.Groups() {
+		for place := range group.Names {
+			if group.Names[place].Name == name {
+				return group
+			}
+		}
+	}
+	return forecast.World{Devices: world.Devices}
+}
+
+// worldOf reads a world, or makes it of parts.
+func worldOf(captured, folder string, paths []string) (forecast.World, error) {
+	if captured == "" {
+		return worldOfParts(folder, paths)
+	}
+	text, err := os.ReadFile(captured)
+	var read struct{ World forecast.World }
+	if err == nil {
+		err = json.Unmarshal(text, &read)
+	}
+	return read.World, err
+}
+
+func worldOfParts(folder string, paths []string) (forecast.World, error) {
 	var parts []part.Stream
 	for _, path := range paths {
 		file, err := os.Open(path)
 		if err != nil {
-			return err
+			return forecast.World{}, err
 		}
 		defer file.Close()
 		one, err := part.NewReader(file)
 		if err != nil {
-			return fmt.Errorf("%s: %w", path, err)
+			return forecast.World{}, fmt.Errorf("%s: %w", path, err)
 		}
 		parts = append(parts, one)
 	}
-	world, err := read.World(parts, folder)
-	if err != nil {
-		return err
-	}
-	made := map[string]interface{}{"answers": forecast.New(budget).Of(world)}
-	if seed != 0 {
-		made["plans"] = plans(world, seed)
-	}
-	return json.NewEncoder(os.Stdout).Encode(made)
+	return read.World(parts, folder)
 }
