@@ -35,10 +35,11 @@ var Usual = Budget{States: 4000, Walks: 100, Total: 300000}
 type Answer struct {
 	Names   []string // rising
 	Ends    []End
-	IsAll   bool // all orders were tried
-	Orders  int  // else: how many were
-	Endless int  // how many of those came to no end
-	States  int  // how many states were seen
+	IsAll   bool  // all orders were tried
+	Orders  int   // else: how many were
+	Endless int   // how many of those came to no end
+	States  int   // how many states were seen
+	Untried []int // devices of which nobody knows whether their release does what the model does: there is no end then
 }
 
 // Forecaster makes forecasts. It keeps what it found, so names that are alike cost one.
@@ -81,6 +82,9 @@ func (w World) Groups() []World {
 // OfGroup gives an answer for names that are taken to hang together.
 func (f *Forecaster) OfGroup(devices []Device, names []Name) Answer {
 	sortNames(names)
+	if untried := untriedOf(devices); untried != nil {
+		return Answer{Names: textsOf(names), Untried: untried}
+	}
 	l := newLoader(devices, names)
 	first := l.start(names)
 	shape := l.shape(first)
@@ -89,12 +93,27 @@ func (f *Forecaster) OfGroup(devices []Device, names []Name) Answer {
 		found = f.find(first, len(names))
 		f.known[shape] = found
 	}
-	made := Answer{IsAll: found.isAll, Orders: found.orders, Endless: found.endless, States: found.states}
-	for place := range names {
-		made.Names = append(made.Names, names[place].Name)
-	}
+	made := Answer{Names: textsOf(names), IsAll: found.isAll, Orders: found.orders, Endless: found.endless, States: found.states}
 	for place := range found.ends {
 		made.Ends = append(made.Ends, l.end(&found.ends[place], names))
+	}
+	return made
+}
+
+func textsOf(names []Name) []string {
+	made := make([]string, 0, len(names))
+	for place := range names {
+		made = append(made, names[place].Name)
+	}
+	return made
+}
+
+func untriedOf(devices []Device) []int {
+	var made []int
+	for place, device := range devices {
+		if device.Release == Untried {
+			made = append(made, place)
+		}
 	}
 	return made
 }
