@@ -90,12 +90,12 @@ flags_of() {
 
 for command in $(helped); do
   expect "the man page's synopsis has no '$(usage_of "$command")'" begins_synopsis "$(usage_of "$command")"
-  for file in completions/{syncaudit.bash,_syncaudit,syncaudit.fish}; do
+  for file in docs/completions/{syncaudit.bash,_syncaudit,syncaudit.fish}; do
     expect "$file has no '$command'" has "$command" "$file"
   done
   # Its flags stand in each of them too.
   for flag in $(flags_of "$command"); do
-    for file in docs/syncaudit.1 completions/{syncaudit.bash,_syncaudit,syncaudit.fish}; do
+    for file in docs/syncaudit.1 docs/completions/{syncaudit.bash,_syncaudit,syncaudit.fish}; do
       expect "$file has no '--$flag'" offers "$flag" "$file"
     done
   done

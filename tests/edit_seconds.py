@@ -13,7 +13,7 @@ from pathlib import Path
 
 from edits import TOP, applied, lent, name_of
 
-sys.path.insert(0, str(TOP / "bench"))
+sys.path.insert(0, str(TOP / "tools/bench"))
 
 from gate import below, processes  # noqa: E402
 

@@ -11,7 +11,7 @@ from pathlib import Path
 from counting import Count
 
 TOP = Path(__file__).resolve().parent.parent
-sys.path.insert(0, str(TOP / "docs/generate"))
+sys.path.insert(0, str(TOP / "tools/reference/generate"))
 
 from rust import items, public_names  # noqa: E402
 

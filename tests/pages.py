@@ -15,12 +15,12 @@ import documented
 from counting import Count
 
 TOP = Path(__file__).resolve().parents[1]
-sys.path[1:1] = [str(TOP / "docs"), str(TOP / "docs/generate")]
+sys.path[1:1] = [str(TOP / "tools/reference"), str(TOP / "tools/reference/generate")]
 
 from write_reference import pages  # noqa: E402
 
 PAGES = [*sorted(TOP.glob("docs/*.md")), *sorted(TOP.glob("*.md")),
-         *(TOP / folder / "README.md" for folder in ("bench", "compare", "contrib", "examples", "export", "tests"))]
+         *(TOP / folder / "README.md" for folder in ("tools/bench", "second", "auditor/nightly", "examples", "auditor", "tests"))]
 LINK = re.compile(r"\]\(([^)\s]+)\)")
 CODE = re.compile(r"^```.*?^```|`[^`\n]*`", re.MULTILINE | re.DOTALL)
 MOST_OF_README = 500
@@ -130,8 +130,8 @@ def main():
         count.says(f"docs/developing.md: {crate}", "" if crates.get(crate) == mapped.get(crate) else
                    "its row of the map isn't what crates.txt says of it")
     check_trust(count, crates)
-    is_current = subprocess.run([TOP / "bench/table.py", "--check"]).returncode == 0
-    count.says("bench/README.md: table", "" if is_current else "it isn't that of results.csv: run bench/table.py")
+    is_current = subprocess.run([TOP / "tools/bench/table.py", "--check"]).returncode == 0
+    count.says("tools/bench/README.md: table", "" if is_current else "it isn't that of results.csv: run tools/bench/table.py")
     for name, lacks in untested(TOP / "docs/trust.md"):
         count.says(f"docs/trust.md: {name}", "the file has no such test" if lacks else "")
     documented.check(count, TOP)

@@ -4,8 +4,8 @@
 set -euo pipefail
 cd "$(dirname "$0")/.."
 top=$PWD
-. release/put.sh
-program=$top/release/syncaudit
+. tools/release/put.sh
+program=$top/tools/release/syncaudit
 logs=$(mktemp -d)
 trap 'rm -rf "$logs"' EXIT
 
@@ -25,7 +25,7 @@ go_tests() {
     return
   fi
   local told failed passed
-  told=$(SYNCAUDIT=$program GO111MODULE=off GOPATH=$top/export:$packages go test syncthing-audit/... 2>&1 || true)
+  told=$(SYNCAUDIT=$program GO111MODULE=off GOPATH=$top/auditor:$packages go test syncthing-audit/... 2>&1 || true)
   grep -v '^ok\|no test files' <<< "$told" || true
   passed=$(grep -c '^ok' <<< "$told" || true)
   failed=$(grep -c '^FAIL.*syncthing-audit' <<< "$told" || true)

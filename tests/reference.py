@@ -9,8 +9,8 @@ from pathlib import Path
 
 from counting import Count
 
-DOCS = Path(__file__).resolve().parents[1] / "docs"
-sys.path[1:1] = [str(DOCS), str(DOCS / "generate")]
+TOOL = Path(__file__).resolve().parents[1] / "tools/reference"
+sys.path[1:1] = [str(TOOL), str(TOOL / "generate")]
 
 from definitions import definitions  # noqa: E402
 from inner import misplaced  # noqa: E402

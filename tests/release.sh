@@ -4,7 +4,7 @@
 set -euo pipefail
 program=$(readlink -m "$1")
 top=$(dirname "$(dirname "$(readlink -f "$0")")")
-. "$top/release/lib.sh"
+. "$top/tools/release/lib.sh"
 passed=0
 failed=0
 skipped=0
@@ -24,14 +24,14 @@ expect() {
 }
 
 if ! [ -x "$release/syncaudit" ] || ! [ -f "$release/manifest" ]; then
-  echo "release: there is no release/syncaudit with its manifest: release/make makes them"
+  echo "release: there is no tools/release/syncaudit with its manifest: tools/release/make makes them"
   echo "0 passed, 1 failed"
   exit 1
 fi
-expect "release/syncaudit has the sha256 $(sum_of "$release/syncaudit"), and release/manifest tells $(told program "$release")" \
+expect "tools/release/syncaudit has the sha256 $(sum_of "$release/syncaudit"), and tools/release/manifest tells $(told program "$release")" \
   is_whole "$release"
 digest=$(sources_digest)
-expect "the sources have the digest $digest, and release/manifest tells $(told sources "$release"): release/make makes a new one" \
+expect "the sources have the digest $digest, and tools/release/manifest tells $(told sources "$release"): tools/release/make makes a new one" \
   is_of "$digest" "$release"
 
 # ---- what it answers

@@ -56,11 +56,11 @@ expect "SYNCAUDIT_BUILD doesn't build the program: $(cat "$work/error")" says 'b
 expect "the script's status after a build is $status" [ "$status" = 0 ]
 SYNCAUDIT_BUILD=1 script check it
 expect "SYNCAUDIT_BUILD builds again what was built of these sources" builds 1
-spoil "$place/release/syncaudit"
+spoil "$place/tools/release/syncaudit"
 outdate
 script check it
 expect "a release with a changed byte isn't told where the program is built: $(cat "$work/error")" \
-  tells "isn't the program that release/manifest names"
+  tells "isn't the program that tools/release/manifest names"
 expect "a release with a changed byte doesn't have the program built" builds 1
 release_of release
 outdate
@@ -99,7 +99,7 @@ if command -v taskset > /dev/null 2>&1; then
   printf 'low:\nhigh:\nsyncaudit: clap low high\n' > "$place/crates.txt"
   mkdir -p "$place/crates/high/src"
   outdate
-  printf 'seconds low 10\nseconds high 20\n' >> "$place/release/manifest"
+  printf 'seconds low 10\nseconds high 20\n' >> "$place/tools/release/manifest"
   tools taskset
   PATH=$work/tools taskset -c "$(taskset -cp $$ | sed 's/.*: \([0-9]*\).*/\1/')" "$place/syncaudit" check > /dev/null 2>&1
   expect "one processor doesn't prove first what takes longest: $(cat "$NOTED")" \
@@ -112,7 +112,7 @@ printf 'low:\nsyncaudit: clap low\n' > "$place/crates.txt"
 lanes_of() {
   python3 -B -c "
 import sys
-sys.path.insert(0, 'release')
+sys.path.insert(0, 'tools/release')
 from prove import lanes
 print(lanes(4, 'MemTotal: 9 kB\nMemAvailable: ${1}000000 kB\n'))"
 }

@@ -12,7 +12,7 @@ script --version
 expect "--version isn't asked of the program: $(cat "$work/output")" answers 'release: --version'
 expect "--version has another status than the program's" [ "$status" = 1 ]
 expect "--version doesn't tell that it is the release: $(cat "$work/error")" tells 'the release of these sources (another kit)'
-expect "--version doesn't tell the program's sha256" tells "sha256 $(in_place sum_of "$place/release/syncaudit")"
+expect "--version doesn't tell the program's sha256" tells "sha256 $(in_place sum_of "$place/tools/release/syncaudit")"
 
 # spoil FILE: changes a byte of the file.
 spoil() {
@@ -24,27 +24,27 @@ is_refused() {
   [ "$status" = 127 ] && [ ! -s "$work/output" ] && tells "$1" && tells "isn't on PATH"
 }
 
-spoil "$place/release/syncaudit"
+spoil "$place/tools/release/syncaudit"
 script check it
 expect "a release with a changed byte isn't refused: $status $(cat "$work/error")" \
-  is_refused "release/syncaudit isn't the program that release/manifest names: its sha256 is"
+  is_refused "tools/release/syncaudit isn't the program that tools/release/manifest names: its sha256 is"
 release_of release
-sed -i 's/^machine .*/machine Plan9 mips/' "$place/release/manifest"
+sed -i 's/^machine .*/machine Plan9 mips/' "$place/tools/release/manifest"
 script check it
 expect "a release for another machine isn't refused: $status $(cat "$work/error")" is_refused 'is for Plan9 mips'
 release_of release
-sed -i 's/^libc .*/libc glibc 99.0/' "$place/release/manifest"
+sed -i 's/^libc .*/libc glibc 99.0/' "$place/tools/release/manifest"
 script check it
 expect "a release for a later C library isn't refused: $status $(cat "$work/error")" is_refused 'glibc 99.0 or later'
-rm "$place/release/manifest"
+rm "$place/tools/release/manifest"
 script check it
 expect "without a manifest the script doesn't refuse: $status $(cat "$work/error")" is_refused 'has no program that can be run'
 release_of release
-chmod -x "$place/release/syncaudit"
+chmod -x "$place/tools/release/syncaudit"
 script check it
 expect "a release that can't be run isn't refused: $status $(cat "$work/error")" is_refused 'has no program that can be run'
 release_of release
-rm "$place/release/syncaudit"
+rm "$place/tools/release/syncaudit"
 script check it
 expect "without a release the script doesn't refuse: $status $(cat "$work/error")" is_refused 'has no program that can be run'
 release_of release
@@ -65,7 +65,7 @@ built_of() {
   release_of "$1"
   rm -rf "$place/out/built"
   mkdir -p "$place/out/built"
-  mv "$place/release/syncaudit" "$place/release/manifest" "$place/out/built"
+  mv "$place/tools/release/syncaudit" "$place/tools/release/manifest" "$place/out/built"
 }
 
 built_of built

@@ -1,8 +1,8 @@
 # shellcheck shell=bash
 # The completions of syncthing-audit beside its man page, which its own tests compare with its help; and what bash completes.
 
-page=docs/syncthing-audit.1
-of_audit=(completions/{syncthing-audit.bash,_syncthing-audit,syncthing-audit.fish})
+page=auditor/syncthing-audit.1
+of_audit=(auditor/completions/{syncthing-audit.bash,_syncthing-audit,syncthing-audit.fish})
 
 # The commands of the man page's synopsis.
 audit_commands() {
@@ -36,7 +36,7 @@ done
 # completed WORD..: what bash completes behind these words, the last of which is begun.
 completed() {
   bash -c '
-    . completions/syncthing-audit.bash
+    . auditor/completions/syncthing-audit.bash
     COMP_WORDS=(syncthing-audit "$@")
     COMP_CWORD=$#
     _syncthing_audit
@@ -68,11 +68,11 @@ END
 
 # What other shells make of theirs, where they are installed.
 if command -v zsh > /dev/null 2>&1; then
-  expect "zsh can't read completions/_syncthing-audit" zsh -n completions/_syncthing-audit
+  expect "zsh can't read auditor/completions/_syncthing-audit" zsh -n auditor/completions/_syncthing-audit
 fi
 if command -v fish > /dev/null 2>&1; then
-  offered=$(fish --no-config -c "source completions/syncthing-audit.fish; complete -C 'syncthing-audit check --l'" 2>&1 | cut -f 1 | sort | paste -sd ' ')
+  offered=$(fish --no-config -c "source auditor/completions/syncthing-audit.fish; complete -C 'syncthing-audit check --l'" 2>&1 | cut -f 1 | sort | paste -sd ' ')
   expect "fish completes 'check --l' as '$offered'" [ "$offered" = '--leave-out --lines' ]
-  offered=$(fish --no-config -c "source completions/syncthing-audit.fish; complete -C 'syncthing-audit '" 2>&1 | cut -f 1 | sort | paste -sd ' ')
+  offered=$(fish --no-config -c "source auditor/completions/syncthing-audit.fish; complete -C 'syncthing-audit '" 2>&1 | cut -f 1 | sort | paste -sd ' ')
   expect "fish completes commands as '$offered'" [ "$offered" = 'check export part run sum' ]
 fi

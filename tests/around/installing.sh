@@ -3,9 +3,11 @@
 
 release_of release
 rm -rf "$place/out/built"
-mkdir -p "$place/docs"
+mkdir -p "$place/docs" "$place/auditor"
 cp docs/documents.md docs/reasons.md docs/*.schema.json docs/*.1 "$place/docs"
-cp -r completions examples "$place"
+cp -r docs/completions "$place/docs"
+cp -r auditor/completions auditor/syncthing-audit.1 auditor/audit.schema.json "$place/auditor"
+cp -r examples "$place"
 
 # The examples that the help of a command or the man page names.
 examples_named() {
@@ -35,7 +37,7 @@ for file in "${files[@]}"; do
 done
 
 # The installed command is the program, however it is called.
-expect "what install puts isn't the release" cmp -s "$work/prefix/lib/syncaudit/syncaudit" "$place/release/syncaudit"
+expect "what install puts isn't the release" cmp -s "$work/prefix/lib/syncaudit/syncaudit" "$place/tools/release/syncaudit"
 ln -s "$work/prefix/bin/syncaudit" "$work/linked"
 for called in "$work/prefix/bin/syncaudit" "$work/linked"; do
   status=0
@@ -61,11 +63,11 @@ install_by() {
   status=0
   PATH=$1 "$place/install" "$work/goless" > "$work/output" 2> "$work/error" || status=$?
 }
-mkdir -p "$place/export"
+mkdir -p "$place/auditor/src"
 install_by "$work/tools"
 expect "install without Go has status $status, where the exporter's sources are there" [ "$status" = 127 ]
 expect "install without Go puts no program in place" [ -x "$work/goless/bin/syncaudit" ]
-rmdir "$place/export"
+rmdir "$place/auditor/src"
 install_by "$work/tools"
 expect "install without Go puts an exporter in place" [ ! -e "$work/goless/bin/syncthing-audit" ]
 expect "install without Go doesn't say what to do: $(cat "$work/error")" says 'apt-get install golang-go' "$work/error"
@@ -76,7 +78,7 @@ expect "install says of a place on PATH that it isn't: $(cat "$work/error")" [ "
 # ---- packages
 
 cp package README.md CHANGELOG.md "$place"
-echo 'date 2001-02-03' >> "$place/release/manifest"
+echo 'date 2001-02-03' >> "$place/tools/release/manifest"
 status=0
 "$place/package" > "$work/output" 2> "$work/error" || status=$?
 expect "package has status $status" [ "$status" = 0 ]
@@ -95,7 +97,7 @@ if command -v dpkg-deb > /dev/null 2>&1; then
 fi
 # A 'go' that builds nothing, and writes for what it is to build.
 fake_go() {
-  mkdir -p "$place/export"
+  mkdir -p "$place/auditor/src"
   printf '#!/bin/sh\nwhile [ "$1" != -o ]; do shift; done\necho "exporter $GOARCH" > "$2"\n' > "$work/tools/go"
   chmod +x "$work/tools/go"
 }
@@ -119,13 +121,13 @@ if [ -d /usr/share/gocode/src/github.com/syncthing/syncthing/lib/db ]; then
     done
     expect "$archive has files of the program that answers" [ "$(find "$work/$archive" -path '*syncaudit*' | wc -l)" = 0 ]
   done
-  rm -r "$place/export" "$work/tools/go"
+  rm -r "$place/auditor/src" "$work/tools/go"
 fi
 change_sources
 status=0
 "$place/package" > "$work/output" 2>&1 || status=$?
 expect "package packs a release of other sources" [ "$status" = 1 ]
-expect "package doesn't say what is to be done: $(cat "$work/output")" says 'release/make makes a new one' "$work/output"
+expect "package doesn't say what is to be done: $(cat "$work/output")" says 'tools/release/make makes a new one' "$work/output"
 
 # ---- without the program and rt
 
@@ -135,7 +137,7 @@ bare_install() {
   PATH=$work/tools "$place/install" "$work/bare" > "$work/output" 2> "$work/error" || status=$?
 }
 
-rm -f "$place/release/syncaudit" "$work/tools/rt" "$work/tools/go"
+rm -f "$place/tools/release/syncaudit" "$work/tools/rt" "$work/tools/go"
 tools install mkdir
 bare_install
 expect "install without the program has status $status" [ "$status" = 127 ]

@@ -3,9 +3,9 @@
 # that ./syncaudit needs where it builds nothing.
 
 place=$work/top
-mkdir -p "$place/crates/low/src" "$place/crates/syncaudit/src" "$place/release" "$work/tools"
+mkdir -p "$place/crates/low/src" "$place/crates/syncaudit/src" "$place/tools/release" "$work/tools"
 cp syncaudit install "$place"
-cp release/*.sh release/*.py release/make release/files "$place/release"
+cp tools/release/*.sh tools/release/*.py tools/release/make tools/release/files "$place/tools/release"
 printf 'low:\nsyncaudit: clap low\n' > "$place/crates.txt"
 echo 'Handles allowed: none.' > "$place/HANDLES"
 touch "$place/crates/low/src/lib.rt" "$place/crates/syncaudit/src/main.rt" "$place/crates/syncaudit/stdin"
@@ -21,15 +21,15 @@ tools awk bash cat cut dirname env find getconf grep readlink sed sha256sum sort
 
 # in_place COMMAND..: runs a command of the shared shell functions there.
 in_place() {
-  bash -c 'top=$1; . "$top/release/lib.sh"; shift; "$@"' in_place "$place" "$@"
+  bash -c 'top=$1; . "$top/tools/release/lib.sh"; shift; "$@"' in_place "$place" "$@"
 }
 
 # release_of WORD: makes a release of the sources that stand there, whose program says this word and the words that it gets.
 release_of() {
-  printf '#!/bin/sh\necho "%s: $*"\nexit 1\n' "$1" > "$place/release/syncaudit"
-  chmod +x "$place/release/syncaudit"
+  printf '#!/bin/sh\necho "%s: $*"\nexit 1\n' "$1" > "$place/tools/release/syncaudit"
+  chmod +x "$place/tools/release/syncaudit"
   printf '%s\n' "version 1.2.3" "machine $(uname -sm)" "libc glibc 2.0" "toolchain another kit" \
-    "program $(in_place sum_of "$place/release/syncaudit")" "sources $(in_place sources_digest)" > "$place/release/manifest"
+    "program $(in_place sum_of "$place/tools/release/syncaudit")" "sources $(in_place sources_digest)" > "$place/tools/release/manifest"
 }
 
 # change_sources: changes a source.

@@ -93,7 +93,7 @@ expect "the script says that it waits where a document comes: $(cat "$work/error
 
 # script_waits WORDS..: the script takes these for words with which the program reads a document.
 script_waits() {
-  sh -c '. release/waiting.sh; reads_document "$@"' reads_document "$@"
+  sh -c '. tools/release/waiting.sh; reads_document "$@"' reads_document "$@"
 }
 
 # program_reads WORDS..: the program reads a document with these words. What comes is none, which it answers by status 2.
@@ -110,21 +110,21 @@ agree() {
 
 for words in "${waits[@]}" "${refused[@]}"; do
   # shellcheck disable=SC2086
-  expect "release/waiting.sh and the program differ on '$words'" agree $words
+  expect "tools/release/waiting.sh and the program differ on '$words'" agree $words
 done
 # Each two words behind each subcommand.
 for command in $(helped); do
   for word in --certify --partial --json --firm --document --turns --turns=3 3 -- --help; do
     for other in --certify --firm --document --turns=03 +3 -- now; do
-      expect "release/waiting.sh and the program differ on '$command $word $other'" agree "$command" "$word" "$other"
+      expect "tools/release/waiting.sh and the program differ on '$command $word $other'" agree "$command" "$word" "$other"
     done
   done
 done
 for words in 'run --turns +3' 'run --turns 0000000000000000000000000000003' 'run --turns 18446744073709551617' 'run --turns ++3' \
   'run --turns -3' 'run --turns 3 --' 'check --' 'check -- --' --version; do
   # shellcheck disable=SC2086
-  expect "release/waiting.sh and the program differ on '$words'" agree $words
+  expect "tools/release/waiting.sh and the program differ on '$words'" agree $words
 done
 for words in '' ' 3' '3 '; do
-  expect "release/waiting.sh and the program differ on the turns '$words'" agree run --turns "$words"
+  expect "tools/release/waiting.sh and the program differ on the turns '$words'" agree run --turns "$words"
 done

@@ -1,12 +1,12 @@
 """Documents drawn at random from those of `examples/`: changed as trees, as bytes, or both. The mistakes in trees are those
-of the second reading (`compare/documents.py`)."""
+of the second reading (`second/documents.py`)."""
 
 import json
 import sys
 from pathlib import Path
 
 TOP = Path(__file__).resolve().parents[2]
-sys.path.insert(0, str(TOP / "compare"))
+sys.path.insert(0, str(TOP / "second"))
 
 from documents import Documents, holder_of  # noqa: E402
 

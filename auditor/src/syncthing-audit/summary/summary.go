@@ -1,0 +1,291 @@
+// Package summary has what an audit found as a person asks for it. There is one entry a file. It says what is wrong on
+// which device, who has the recorded bytes, and what to do. Its JSON is auditor/audit.schema.json.
+package summary
+
+import (
+	"time"
+
+	"syncthing-audit/choice"
+	"syncthing-audit/finding"
+	"syncthing-audit/join"
+	"syncthing-audit/part"
+	"syncthing-audit/shell"
+)
+
+// Version is the version of the JSON.
+const Version = 1
+
+// Verdicts.
+const (
+	InStep    = "in-step"
+	AsFar     = "in-step-as-far-as-audited"
+	NotInStep = "not-in-step"
+)
+
+// Summary is what was found in all folders.
+type Summary struct {
+	Version     int        `json:"version"`
+	Verdict     string     `json:"verdict"`
+	Firm        Firm       `json:"firm"`
+	Devices     []Device   `json:"devices"`
+	Folders     []*Folder  `json:"folders"`
+	LeftOut     []LeftOut  `json:"left_out"`  // devices, and folders as a whole
+	NotAsked    []NotAsked `json:"not_asked"` // folders of these devices
+	NotTold     []string   `json:"not_told"`  // devices whose parts don't say which folders they haven't
+	NotCompared []string   `json:"not_compared"`
+	isByName    bool       // whether the folders were asked for by their ids
+	byNames     bool       // whether the names were asked for by how they begin
+	actions     *actions
+}
+
+// Device is a device that was audited.
+type Device struct {
+	ID   string    `json:"id"`
+	Name string    `json:"name"`
+	Read time.Time `json:"read"` // when its files were read
+	From string    `json:"from"`
+	Runs string    `json:"syncthing,omitempty"` // the version that was started there last
+
+	Prefix Text        `json:"names_that_begin,omitempty"` // only these were read
+	Slice  *Slice      `json:"slice,omitempty"`            // only these were read
+	Index  *part.Index `json:"index,omitempty"`            // what may be amiss with it
+	Newer  *part.Newer `json:"newer_index,omitempty"`
+	Repair bool        `json:"index_to_repair,omitempty"`
+	asked  choice.Names
+}
+
+// Slice says of which slice names are, and of how many.
+type Slice struct {
+	Number int `json:"number"`
+	Of     int `json:"of"`
+}
+
+func sliceOf(names choice.Names) *Slice {
+	if !names.IsOfSlice() {
+		return nil
+	}
+	return &Slice{names.Slice, names.Slices}
+}
+
+// Folder is what was found in a folder.
+type Folder struct {
+	ID      string   `json:"id"`
+	Label   string   `json:"label"`
+	Verdict string   `json:"verdict"`
+	Names   int64    `json:"names"`
+	Deleted int64    `json:"deleted"`
+	Going   int64    `json:"being_deleted"`
+	Bytes   int64    `json:"bytes_hashed"`
+	Devices []Member `json:"devices"`
+	Wrong   int64    `json:"names_wrong"` // files, directories and symlinks that keep the folder from being in step
+	Files   []*File  `json:"files"`
+	Groups  []*Group `json:"groups"`
+	Copies  []Copy   `json:"conflict_copies"`
+	LeftOut []Names  `json:"left_out"`
+	MoreOut Count    `json:"left_out_unlisted"`
+	More    Count    `json:"conflict_copies_unlisted"`
+	Ignored Count    `json:"ignored"`
+	Own     bool     `json:"not_shared,omitempty"` // its one device shares it with nobody: it was compared with that one's own index
+	isApart bool     // whether other devices have theirs of this id, which they share with nobody, too
+	Live    *Live    `json:"live,omitempty"` // of devices that were looked at while they ran
+	Firm    Firm     `json:"firm"`
+	Loose   int64    `json:"names_not_firm"`           // that keep a folder in step from being firm
+	NotFirm []Loose  `json:"not_firm"`                 // the first of these names
+	Unsure  []Unsure `json:"not_known_firm,omitempty"` // what may change a folder in step that is otherwise firm
+}
+
+// Member is a device that shares a folder.
+type Member struct {
+	Device string `json:"device"`
+	Kind   string `json:"kind"`
+	Path   string `json:"path"`
+
+	Indexed       int64    `json:"names_in_index,omitempty"` // whichever were asked for
+	Paused        bool     `json:"paused,omitempty"`
+	PausedDevices []string `json:"paused_devices,omitempty"` // others, by their ids
+	Writers       []string `json:"writers,omitempty"`        // what else of Syncthing writes into the directory
+	Window        int64    `json:"time_window,omitempty"`    // in seconds
+	Near          int64    `json:"near_times,omitempty"`     // files with other times than recorded within that
+	Rest          string   `json:"syncthing_is,omitempty"`   // of two looks: how Syncthing was seen between them
+	Temporary     *Count   `json:"temporary,omitempty"`      // names that Syncthing takes for its temporary files, where there are any
+}
+
+func memberOf(one join.Member) Member {
+	made := Member{Device: one.Head.Device, Kind: kindOf(one)}
+	if one.About != nil {
+		made.Path, made.Indexed, made.Paused, made.PausedDevices = one.About.Path, one.About.Indexed, one.About.Paused, one.About.PausedDevices
+		made.Writers, made.Window, made.Near = one.About.Writers, one.About.TimeWindow, one.Near
+		if one.About.Rest != nil {
+			made.Rest = one.About.Rest.State
+		}
+	}
+	if one.Temporary != nil && one.Temporary.Names > 0 {
+		made.Temporary = &Count{one.Temporary.Names, one.Temporary.Bytes}
+	}
+	return made
+}
+
+// Copy is a conflict copy that lies about.
+type Copy struct {
+	Name  Text  `json:"name"`
+	Bytes int64 `json:"bytes"`
+}
+
+// Count is of names that aren't listed: of those that .stignore keeps out of the folder everywhere, or of further ones.
+type Count struct {
+	Names int64 `json:"names"`
+	Bytes int64 `json:"bytes"`
+}
+
+// Names are a name that was left out on request, or all names below it.
+type Names struct {
+	Name  Text      `json:"name"`
+	Below bool      `json:"below"`
+	Names int64     `json:"names"`
+	Bytes int64     `json:"bytes"`
+	Why   []WhyLeft `json:"why"`
+}
+
+// WhyLeft is why a name was left out; without a device where it is of all.
+type WhyLeft struct {
+	Device string `json:"device,omitempty"`
+	Kind   string `json:"kind"`
+	Why    string `json:"why"`
+}
+
+// LeftOut is a device that was left out of a folder.
+type LeftOut struct {
+	Folder string `json:"folder"`
+	Device string `json:"device"`
+	Kind   string `json:"kind"`
+	Why    string `json:"why"`
+	label  string // of the folder
+}
+
+// notCompared is what no audit compares.
+var notCompared = []string{"owners", "extended attributes", "old versions"}
+
+// Of gives the summary of an answer.
+func Of(answer *finding.Answer) *Summary {
+	made := &Summary{Version: Version, Verdict: verdictOf(answer), Firm: answer.HowFirm(), Devices: []Device{}, Folders: []*Folder{}, LeftOut: []LeftOut{},
+		NotAsked: notAsked(answer), NotTold: notTold(answer), NotCompared: notCompared, isByName: answer.IsByName, byNames: answer.ByNames}
+	asked := askedOf(answer)
+	for _, one := range answer.Devices {
+		names := asked[one.ID]
+		made.Devices = append(made.Devices, Device{one.ID, one.Name, one.Made, one.From, one.Runs, Text(names.Prefix), sliceOf(names), one.Index, one.Newer, one.ToRepair, names})
+	}
+	named := made.labels()
+	made.actions = &actions{safe: map[string][]int{}, damaged: map[string]int64{}, grown: map[string]int64{}, added: map[string]int64{},
+		reverts: map[string]bool{}, started: map[string][]int{}}
+	names := []*folding{}
+	for _, one := range answer.Folders {
+		all := &folding{named: named, to: made.actions, alike: map[string]*alike{}}
+		made.Folders, names = append(made.Folders, folderOf(answer, one, all)), append(names, all)
+	}
+	for place, one := range made.Folders { // what is told of one name depends on what is told of all others
+		one.Files, one.Groups = names[place].end()
+	}
+	for _, one := range answer.LeftOut {
+		made.LeftOut = append(made.LeftOut, LeftOut{one.Folder, one.Device, one.Kind, one.Why, one.Label})
+	}
+	return made
+}
+
+// lengthOfShort is how much of an id tells devices of one name apart.
+const lengthOfShort = 7
+
+// labels gives each device's name for a person: the configured one, with the id's beginning where two have the same.
+func (s *Summary) labels() labels {
+	count := map[string]int{}
+	for _, one := range s.Devices {
+		count[one.Name]++
+	}
+	made := labels{}
+	for _, one := range s.Devices {
+		short := one.ID
+		if len(short) > lengthOfShort {
+			short = short[:lengthOfShort]
+		}
+		made[one.ID] = shell.Printable(one.Name)
+		if one.Name == "" {
+			made[one.ID] = short
+		} else if count[one.Name] > 1 {
+			made[one.ID] += " (" + short + ")"
+		}
+	}
+	return made
+}
+
+func verdictOf(answer *finding.Answer) string {
+	_, first := answer.First()
+	switch {
+	case first != nil:
+		return NotInStep
+	case answer.IsPartial():
+		return AsFar
+	}
+	return InStep
+}
+
+// folderOf gives the summary of a folder, but for what is told of its names, which it puts there.
+func folderOf(answer *finding.Answer, from *finding.Folder, all *folding) *Folder {
+	made := &Folder{ID: from.ID, Label: from.Label, Own: from.Own != "", isApart: answer.IsApart(from), Verdict: InStep, Names: from.Names, Deleted: from.Deleted, Going: from.Deleting, Bytes: from.Bytes,
+		Devices: []Member{}, Files: []*File{}, Groups: []*Group{}, Copies: []Copy{}, LeftOut: []Names{}, Ignored: Count(from.Outside), MoreOut: Count(from.Unlisted.LeftOut), More: Count(from.Unlisted.Conflicts)}
+	switch {
+	case from.HasFailures():
+		made.Verdict = NotInStep
+	case answer.IsPart(from):
+		made.Verdict = AsFar
+	}
+	for _, one := range from.Members {
+		made.Devices = append(made.Devices, memberOf(one))
+	}
+	below, unseen, locals, coming := keptBelow(from), unseenOf(from), localsBelow(from), comersOf(from)
+	from.EachName(func(told *finding.Told) {
+		one := fileOf(from, told)
+		one.isOfSum = answer.IsSum
+		one.noteStuck(from, below)
+		one.noteBlocked(from)
+		one.noteParents(from)
+		one.noteMoved(from, from.Rows[told.Name], coming)
+		one.noteUnseen(unseen)
+		one.localsBelow = locals[string(one.Name)]
+		all.take(one)
+	})
+	made.Wrong = all.wrong
+	for _, one := range from.Conflicts {
+		made.Copies = append(made.Copies, Copy{Text(one.Name), one.Bytes})
+	}
+	for _, one := range from.LeftOut {
+		made.LeftOut = append(made.LeftOut, namesOf(from, one))
+	}
+	made.Live = liveOf(from)
+	made.Firm = from.HowFirm()
+	made.Loose, made.NotFirm = looseOf(from)
+	made.Unsure = unsureOf(from)
+	return made
+}
+
+// namesOf gives what was left out.
+func namesOf(folder *finding.Folder, one *finding.LeftOut) Names {
+	made := Names{Name: Text(one.Name), Below: one.Below, Names: one.Names, Bytes: one.Bytes, Why: []WhyLeft{}}
+	for _, why := range one.Why {
+		device := ""
+		if why.Member >= 0 {
+			device = folder.Members[why.Member].Head.Device
+		}
+		made.Why = append(made.Why, WhyLeft{device, why.Kind, why.Why})
+	}
+	return made
+}
+
+// askedOf gives, for each device, which names were read of it.
+func askedOf(answer *finding.Answer) map[string]choice.Names {
+	made := map[string]choice.Names{}
+	for _, folder := range answer.Folders {
+		for _, one := range folder.Members {
+			made[one.Head.Device] = one.Head.Names
+		}
+	}
+	return made
+}

@@ -1,0 +1,62 @@
+#!/usr/bin/env python3
+"""Stands for the program `syncaudit` where it isn't built: `certify`, and `check`, `firm` and `explain`, each also with
+`--certify`, by the second reading in second/. It explains without what is indented.
+
+    auditor/test/stand_in.py certify < CUT
+    auditor/test/stand_in.py check < DOCUMENT
+    auditor/test/stand_in.py firm < DOCUMENT
+    auditor/test/stand_in.py explain < DOCUMENT
+    auditor/test/stand_in.py check --certify < CUT
+
+CUT is what is exported, without a certificate. Where $WITHOUT_FIRM is set, it doesn't know
+`firm` and `--certify`, as an older program.
+"""
+
+import os
+import sys
+
+from documents import certified  # first: it finds second/
+import firm
+import under_winners
+from reports import answer, answers, printed, refusal
+from things import Fault
+
+
+def certify(written):
+    """What `syncaudit certify` writes for the document, and its exit status."""
+    try:
+        made, unwon = certified(written)
+    except Fault as fault:
+        lines, status = refusal(fault)
+        return lines[0] + b"\n", status
+    if unwon:
+        return b"not settled: NotWinner %s %s\n" % (unwon[0], printed(unwon[1])), 1
+    return made, 0
+
+
+def explain(written):
+    """What `syncaudit explain` writes for the document but for what is indented, and its exit status."""
+    return answers(written)[1]
+
+
+def say_whether_firm(written):
+    """What `syncaudit firm` writes for the document, and its exit status."""
+    return firm.answers(written)[0]
+
+
+COMMANDS = {"certify": certify, "check": answer, "explain": explain, "firm": say_whether_firm}
+STATUS_OF_USAGE = 3
+
+
+def main():
+    word, *flags = sys.argv[1:]
+    if (word == "firm" or flags) and "WITHOUT_FIRM" in os.environ:
+        sys.exit(STATUS_OF_USAGE)
+    document = sys.stdin.buffer.read()
+    said, status = under_winners.answers(document)[word] if flags else COMMANDS[word](document)
+    sys.stdout.buffer.write(said)
+    sys.stdout.flush()
+    sys.exit(status)
+
+
+main()

@@ -1,0 +1,206 @@
+#!/usr/bin/env python3
+"""The audit of two real Syncthing devices on loopback, of which one put a file or a symlink in place of a directory, below which the other one changed
+something; be it one that only receives. What the answer says that Syncthing does with that is what Syncthing does.
+
+    auditor/test/stuck.py
+"""
+
+import shutil
+
+from behind import NEW, OLD, Behind
+from exporting import main
+from rot import text_of
+from syncthing import wait_until, wait_until_in_step
+
+
+class BelowWhatIsReplaced(Behind):
+    """The first device changed what is below the directories: it recorded the one, and no scan has seen the others. The second one replaced them, and
+    recorded that. One more directory is missing there, and what is below it was changed."""
+
+    directories = ("recorded", "found", "linked", "missing")
+
+    @classmethod
+    def synchronise(cls):
+        cls.now = 1700000000
+        for name in cls.directories:
+            (cls.one.files / name).mkdir()
+            cls.put(cls.one, f"{name}/in", OLD, -1000)
+        cls.scan_and_wait()
+
+    @classmethod
+    def change_one(cls):
+        for name in ("recorded", "missing"):
+            cls.put(cls.one, f"{name}/in", NEW, 0)
+        cls.record(cls.one)
+        cls.put(cls.one, "found/in", NEW, 0)
+        cls.put(cls.one, "linked/new", NEW, 0)
+
+    @classmethod
+    def change_two(cls):
+        for name in cls.directories:
+            shutil.rmtree(cls.two.files / name)
+        for name in ("recorded", "found"):
+            cls.put(cls.two, name, "a file", 500)
+        (cls.two.files / "linked").symlink_to("recorded")
+        (cls.two.files / "missing").mkdir()
+        cls.put(cls.two, "missing/in", OLD, -1000)
+        cls.record(cls.two)
+        shutil.rmtree(cls.two.files / "missing")
+
+    def failed(self, device):
+        """Why names failed on a device."""
+        return {one["path"]: one["error"] for one in self.api_errors(device)}
+
+    def api_errors(self, device):
+        return device.api("GET", "folder/errors?folder=docs")["errors"] or []
+
+    def test_what_is_told_comes_so(self):
+        two = self.two.id[:7]
+        for name, told, what in (("recorded", "recorded/in", "a file"), ("found", "found/in", "a file"), ("linked", "linked/new", "a symlink")):
+            for entry in (name, told):
+                self.assertIn(f"Syncthing gets stuck here, and lists 'Failed Items': on {two} {what} stands in place of the directory {name}", self.told[entry])
+                self.assertNotIn("since a change goes before a deletion", self.told[entry])
+                self.assertNotIn("goes to all", self.told[entry])
+        self.assertIn("a scan takes it for deleted. Below it there is what other devices keep, so Syncthing makes the directory again", self.told["missing"])
+        self.assertNotIn("all devices delete", self.told["missing"])
+        for entry in ("recorded", "found", "linked"):
+            self.assertIn("nothing in place of a directory that has more than Syncthing's temporary files and what .stignore marks with (?d): these it deletes.", self.told[entry])
+        self.put_what_is_deleted()
+        self.start()
+        wait_until("both are stuck", lambda: {"recorded", "found", "linked"} <= self.failed(self.one).keys()
+                   and {"recorded/in", "found/in", "linked/new"} <= self.failed(self.two).keys())
+        self.assertIn("not empty", self.failed(self.one)["recorded"])
+        self.assertIn("not a directory", self.failed(self.two)["recorded/in"])
+        self.assertEqual([path.name for path in (self.one.files / "recorded").iterdir()], ["in"])
+        for device in self.devices:
+            wait_until("what is kept is there, and its directory", lambda: text_of(device.files / "missing/in") == NEW)
+        self.mend()
+        wait_until("all is as it was decided", lambda: all(self.is_mended(device) for device in self.devices))
+        self.stop()
+
+    def put_what_is_deleted(self):
+        """Puts into a directory what Syncthing deletes there, though it doesn't replace the directory."""
+        (self.one.files / ".stignore").write_text("(?d)*.cache\n")
+        for name in ("a.cache", ".syncthing.b.tmp"):
+            (self.one.files / "recorded" / name).write_text("")
+
+    def is_mended(self, device):
+        """Whether a device has what was to stay, and nothing that it still lacks."""
+        return (text_of(device.files / "recorded/in") == NEW and text_of(device.files / "found") == "a file"
+                and (device.files / "linked").is_symlink() and device.shows_up_to_date())
+
+    def mend(self):
+        """Does what the answer says: the one directory is to stay, and the others aren't."""
+        shutil.move(self.two.files / "recorded", self.room / "away")
+        self.two.scan()
+        for name in ("found", "linked"):
+            shutil.move(self.one.files / name, self.room / f"{name} away")
+        self.one.scan()
+
+
+class BelowWhatAReceiverReplaced(Behind):
+    """The second device only receives, and has files and a symlink in place of directories, below which the first one changed something. It recorded two of
+    them; of these the first one changed one directory's mode since."""
+
+    directories = ("recorded", "passed", "found", "linked")
+
+    @classmethod
+    def synchronise(cls):
+        cls.now = 1700000000
+        for name in cls.directories:
+            (cls.one.files / name).mkdir()
+            cls.put(cls.one, f"{name}/in", OLD, -1000)
+        cls.scan_and_wait()
+
+    @classmethod
+    def change_one(cls):
+        """What the second device recorded, and what the first one changed since."""
+        cls.two.configure(cls.devices, kind="receiveonly")
+        for name in ("recorded", "passed"):
+            cls.replace(name)
+        cls.record(cls.two)
+        (cls.one.files / "passed").chmod(0o700)
+        for name in ("passed", "found"):
+            cls.put(cls.one, f"{name}/in", NEW, 0)
+        cls.record(cls.one)
+        cls.put(cls.one, "recorded/in", NEW, 0)
+        cls.put(cls.one, "linked/new", NEW, 0)
+
+    @classmethod
+    def change_two(cls):
+        cls.replace("found")
+        shutil.rmtree(cls.two.files / "linked")
+        (cls.two.files / "linked").symlink_to("recorded")
+
+    @classmethod
+    def replace(cls, name):
+        """Has the second device have a file in place of a directory."""
+        shutil.rmtree(cls.two.files / name)
+        cls.put(cls.two, name, "a file", 500)
+
+    def test_what_is_told_comes_so(self):
+        two = self.two.id[:7]
+        for told, name, what in (("recorded/in", "recorded", "file"), ("found/in", "found", "file"), ("linked/new", "linked", "symlink")):
+            self.assertIn(f"on {two} a {what} stands in place of the directory {name}, and as long as it does, Syncthing puts nothing below that there", self.told[told])
+            self.assertNotIn("goes to all", self.told[told])
+            self.assertNotIn("brings what they have", self.told[told])
+        self.assertIn(f"'Revert Local Changes' on {two} makes it the directory again", self.told["found/in"])
+        self.assertIn(f"Once Syncthing runs on {two}, it takes what they have", self.told["passed/in"])
+        self.start()
+        wait_until("the second device is stuck", lambda: {"recorded/in", "found/in", "linked/new"} <= self.failed())
+        wait_until("it has what it takes by itself", lambda: (self.two.files / "passed/in").exists() and text_of(self.two.files / "passed/in") == NEW)
+        self.two.api("POST", "db/revert?folder=docs")
+        wait_until("it has all", lambda: all((self.two.files / name).is_dir() for name in self.directories) and self.one.is_in_step_with(self.two))
+        self.stop()
+        for name in ("recorded/in", "passed/in", "found/in", "linked/new"):
+            self.assertEqual(text_of(self.two.files / name), NEW)
+
+    def failed(self):
+        return {one["path"] for one in self.two.api("GET", "folder/errors?folder=docs")["errors"] or []}
+
+
+class ADirectoryInPlaceOfADeletedFile(Behind):
+    """The second device put files in place of two directories, and recorded that. It deleted the one; the other one is missing there. The first device
+    still has the directories."""
+
+    @classmethod
+    def synchronise(cls):
+        cls.now = 1700000000
+        for name in ("deleted", "missing"):
+            (cls.one.files / name).mkdir()
+        cls.scan_and_wait()
+
+    @classmethod
+    def change_one(cls):
+        """Nothing."""
+
+    @classmethod
+    def change_two(cls):
+        for name in ("deleted", "missing"):
+            (cls.two.files / name).rmdir()
+            cls.put(cls.two, name, NEW, 0)
+        cls.record(cls.two)
+        (cls.two.files / "deleted").unlink()
+        cls.record(cls.two)
+        (cls.two.files / "missing").unlink()
+
+    def test_what_is_told_comes_so(self):
+        one = self.one.id[:7]
+        self.assertIn(f"{one} has a directory in its place, which Syncthing doesn't delete for a deleted file or symlink", self.told["deleted"])
+        self.assertIn(f"But {one} has a directory in its place, which Syncthing may not delete", self.told["missing"])
+        self.start()
+        wait_until("both fail", lambda: "".join(one["error"] for one in self.failed()).count("encountered directory") == 2)
+        for name in ("deleted", "missing"):
+            (self.one.files / name).rmdir()
+        self.one.scan()
+        wait_until("nothing fails any more", lambda: not self.failed())
+        wait_until_in_step(*self.devices)
+        self.stop()
+        self.assertEqual([path.name for path in self.one.files.iterdir()], [".stfolder"])
+
+    def failed(self):
+        return self.one.api("GET", "folder/errors?folder=docs")["errors"] or []
+
+
+if __name__ == "__main__":
+    main()

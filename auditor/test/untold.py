@@ -1,0 +1,107 @@
+#!/usr/bin/env python3
+"""The audit of two real Syncthing devices, of which one went back to an earlier moment, as after a power cut: index and files. And of two of which
+one has heard of a change, and can't take it.
+
+    auditor/test/untold.py
+"""
+
+import shutil
+import subprocess
+import time
+
+from exporting import Exporting, main
+from syncthing import FOLDER, wait_until, wait_until_in_step
+
+# As long as devices that are connected and idle are watched.
+SECONDS_OF_WATCHING = 15
+
+
+class WithEntries(Exporting):
+    """Devices of which a person reads what is wrong."""
+
+    def entry(self):
+        """What a person reads of the file, in one line."""
+        ran = self.on_homes("check", [device.home for device in self.devices], "--syncaudit", self.auditor)
+        self.assertEqual(ran.returncode, 1, ran.stderr)
+        return {entry.split("  (in ")[0]: " ".join(entry.split()) for entry in ran.stdout.split("\n\n")}["text"]
+
+
+class ChangesThatNobodyTells(WithEntries):
+    """The first device gives sequences anew that the second one has heard already."""
+
+    def keep(self):
+        """What the first device has at this moment."""
+        for name in ("home", "files"):
+            shutil.copytree(self.one.home.parent / name, self.room / "kept" / name, symlinks=True)
+
+    def go_back(self):
+        """Puts the first device back to that moment."""
+        for name in ("home", "files"):
+            shutil.rmtree(self.one.home.parent / name)
+            (self.room / "kept" / name).rename(self.one.home.parent / name)
+
+    def start_with_reset(self, device):
+        """Starts a device as the answer says."""
+        with device.log.open("ab") as log:
+            device.process = subprocess.Popen([device.program, "serve", f"--home={device.home}", "--no-browser", "--no-restart", "--reset-deltas"],
+                                              env=device.environment(), stdout=log, stderr=log)
+        wait_until("it answers", device.answers)
+
+    def test_the_change_stays_untold_until_the_index_is_sent_anew(self):
+        """Real devices show 'Up to Date' with two contents, and do what the answer says."""
+        self.keep()
+        self.start()
+        for name in ("a", "b", "c"):
+            (self.one.files / name).write_text(name)
+        self.scan_and_wait()
+        self.stop()
+        self.go_back()
+        self.one.start()
+        for name in ("text", "d", "e", "f"):
+            (self.one.files / name).write_text("changed on one")
+            self.one.scan()
+        self.two.start()
+        wait_until("the last change is told", (self.two.files / "f").exists)
+        wait_until("both show 'Up to Date'", lambda: self.one.shows_up_to_date() and self.two.shows_up_to_date())
+        time.sleep(SECONDS_OF_WATCHING)
+        self.assertTrue(self.two.shows_up_to_date())
+        self.assertEqual((self.two.files / "text").read_text(), "hello")
+        self.stop()
+        self.assertIn(f"{self.two.id[:7]} has heard of later changes of {self.one.id[:7]} and not of this one, as after a power cut there", self.entry())
+        self.start_with_reset(self.two)
+        self.one.start()
+        wait_until("the change is told", lambda: (self.two.files / "text").read_text() == "changed on one")
+        wait_until_in_step(self.one, self.two)
+        self.stop()
+        self.assertEqual(self.verdict(), "settled")
+
+
+class AChangeThatIsHeardAndNotTaken(WithEntries):
+    """The second device's disk has too little room, by the folder's own limit."""
+
+    def is_known(self):
+        """Whether the second device has heard of all that changed on the first one, and can't take it."""
+        errors = self.two.api("GET", f"folder/errors?folder={FOLDER}")["errors"]
+        return self.two.knows_all_of(self.one) and any("insufficient space" in one["error"] for one in errors or [])
+
+    def test_a_full_disk(self):
+        """Nothing has to be told again: the answer says to see whether a disk is full, and once it isn't, the device takes the change."""
+        config = (self.two.home / "config.xml").read_text()
+        self.two.choose(minDiskFree=str(10 ** 18))
+        self.start()
+        (self.one.files / "text").write_text("changed on one")
+        self.one.scan()
+        wait_until("the change is known", self.is_known)
+        self.stop()
+        told = self.entry()
+        self.assertNotIn("--reset-deltas", told)
+        self.assertIn("whether a disk is full, and whether Syncthing's page lists 'Failed Items'", told)
+        (self.two.home / "config.xml").write_text(config)
+        self.start()
+        wait_until_in_step(self.one, self.two)
+        self.stop()
+        self.assertEqual(self.verdict(), "settled")
+
+
+if __name__ == "__main__":
+    main()

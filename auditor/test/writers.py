@@ -1,0 +1,61 @@
+#!/usr/bin/env python3
+"""The audit of two real Syncthing devices, of which one keeps its old versions inside the folder.
+
+    auditor/test/writers.py
+"""
+
+import os
+import xml.etree.ElementTree as xml
+
+from exporting import Exporting, knows_firm, main
+from syncthing import wait_until
+
+YEARS_AGO = 1600000000
+
+
+class OldVersionsInside(Exporting):
+    """A directory of the folder is where one device keeps old versions, and removes those of more than a day ago."""
+
+    @classmethod
+    def synchronise(cls):
+        super().synchronise()
+        (cls.one.files / "old").mkdir()
+        (cls.one.files / "old" / "letter").write_text("letter")
+        os.utime(cls.one.files / "old" / "letter", (YEARS_AGO, YEARS_AGO))
+        cls.scan_and_wait()
+
+    def keep_versions_in(self, directory):
+        """Writes into the second device's configuration where its old versions are."""
+        path = self.two.home / "config.xml"
+        tree = xml.parse(path)
+        versioning = tree.getroot().find("folder/versioning")
+        versioning.clear()
+        versioning.set("type", "trashcan")
+        xml.SubElement(versioning, "param", key="cleanoutDays", val="1")
+        for name, value in (("cleanupIntervalS", "5"), ("fsPath", directory), ("fsType", "basic")):
+            xml.SubElement(versioning, name).text = value
+        tree.write(path)
+
+    def test_what_is_cleaned_is_deleted_everywhere(self):
+        """Nobody touches a file of a firm folder, and real Syncthing deletes one on all devices. The answer says that it may."""
+        self.assertNotIn("written by others", self.told())
+        self.keep_versions_in("old")
+        self.assertIn(f"written by others: docs by the old versions of docs on {self.two.id[:7]}: Syncthing writes and deletes in its directory",
+                      self.told())
+        if knows_firm():
+            self.assertIn("in step and firm", self.told())
+        self.start()
+        wait_until("old versions are cleaned", lambda: not (self.two.files / "old" / "letter").exists())
+        self.two.scan()
+        wait_until("the other device has deleted it, too", lambda: not (self.one.files / "old" / "letter").exists())
+        self.stop()
+
+    def told(self):
+        """What a person reads, in one line."""
+        ran = self.on_homes("check", [device.home for device in self.devices], "--syncaudit", self.auditor)
+        self.assertEqual(ran.returncode, 0, ran.stdout + ran.stderr)
+        return " ".join(ran.stdout.split())
+
+
+if __name__ == "__main__":
+    main()

@@ -1,0 +1,21 @@
+#!/usr/bin/env bash
+# Measures 'syncaudit firm' beside 'syncaudit check' on settled documents near the limits (make_document.py has their kinds):
+# seconds of the whole process (the best of RUNS runs each) and peak memory.
+set -euo pipefail
+runs=${1:-3}
+top=$(cd "$(dirname "$0")/../.." && pwd)
+work=$(mktemp -d)
+trap 'rm -rf "$work"' EXIT
+
+. "$top/tools/release/choose.sh"
+choose
+. "$top/tools/bench/measure.sh"
+
+for kind in settled flights devices names; do
+  make_document "$kind"
+  measure check "$program" check
+  measure firm "$program" firm || true
+  grep -qx settled "$work/check.out"
+  echo "== $kind: $(head -n 1 "$work/firm.out")"
+  compare check firm
+done
