@@ -81,7 +81,7 @@ func audited(t *testing.T, text, other []byte) error {
 	return err
 }
 
-// answerOf gives what is found in two parts, with all left out that may be.
+// answerOf gives what is found in two parts.
 func answerOf(t *testing.T, text, other []byte) (*finding.Answer, error) {
 	var devices []*join.Device
 	for _, one := range [][]byte{text, other} {
@@ -91,6 +91,11 @@ func answerOf(t *testing.T, text, other []byte) (*finding.Answer, error) {
 		}
 		devices = append(devices, join.NewDevice(read, "a part"))
 	}
+	return answerOfDevices(t, devices)
+}
+
+// answerOfDevices gives what is found at devices, with all left out that may be.
+func answerOfDevices(t *testing.T, devices []*join.Device) (*finding.Answer, error) {
 	plan, err := join.NewPlan(devices, nil)
 	if err != nil {
 		return nil, err
@@ -116,6 +121,9 @@ func FuzzParts(f *testing.F) {
 	text, other := aPart(f, 1), aPart(f, 2)
 	f.Add(text)
 	f.Add(bytes.ReplaceAll(text, []byte(`"sequence":2`), []byte(`"sequence":-2`)))
+	f.Add(aSlice(f, 1))
+	f.Add(aLook(f, 1, false))
+	f.Add(aLook(f, 1, true))
 	f.Fuzz(func(t *testing.T, text []byte) {
 		if err := audited(t, text, other); err != nil && err.Error() == "" {
 			t.Error("refused without a reason")

@@ -11,6 +11,8 @@ func FuzzJoins(f *testing.F) {
 	one, other := aPart(f, 1), aPart(f, 2)
 	f.Add(one, other)
 	f.Add(one, one)
+	f.Add(aSlice(f, 1), aSlice(f, 2))
+	f.Add(aLook(f, 1, false), aLook(f, 2, true))
 	f.Add(other, bytes.ReplaceAll(one, []byte(`"max":9`), []byte(`"max":8`)))
 	f.Add(bytes.ReplaceAll(one, []byte(`"name":"b"`), []byte(`"name":"bb"`)), bytes.ReplaceAll(other, []byte(`"sequence":3`), []byte(`"sequence":4`)))
 	f.Fuzz(func(t *testing.T, one, other []byte) {
