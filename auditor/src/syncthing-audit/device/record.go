@@ -45,6 +45,9 @@ func ownEntry(entry protocol.FileInfo) Entry {
 	return made
 }
 
+// WireEntry reads a device's entry that came over the wire.
+func WireEntry(entry protocol.FileInfo) Entry { return entryOf(entry) }
+
 // leftOut gives an entry without a record.
 func leftOut(entry protocol.FileInfo, kind, why string) Entry {
 	bytes := int64(0)

@@ -1,0 +1,55 @@
+package wire
+
+import (
+	"context"
+	"fmt"
+	"time"
+
+	"syncthing-audit/device"
+)
+
+// Index waits until all of the device's index is had that it said it has, and gives a copy.
+func (c *Connection) Index(ctx context.Context) (*Index, error) {
+	due, _ := c.Folder.Of(c.Device)
+	for {
+		index, heard, failure := c.state(due.Sequence)
+		switch {
+		case index != nil:
+			return index, nil
+		case failure != nil:
+			return nil, failure
+		}
+		quiet := time.NewTimer(time.Until(heard.Add(c.limits.IndexQuiet)))
+		select {
+		case <-c.news:
+		case <-c.ended:
+		case <-ctx.Done():
+			quiet.Stop()
+			return nil, fmt.Errorf("%w: %v", TooLate, ctx.Err())
+		case <-quiet.C:
+			return nil, c.notWhole(due.Sequence)
+		}
+		quiet.Stop()
+	}
+}
+
+// state gives a copy of the index if it goes up to a sequence, when a part of it came last, and why no more comes.
+func (c *Connection) state(due int64) (*Index, time.Time, error) {
+	c.mutex.Lock()
+	defer c.mutex.Unlock()
+	if had := c.taker.index; had.Highest >= due {
+		made := &Index{ID: had.ID, Highest: had.Highest, Entries: make(map[string]device.Entry, len(had.Entries))}
+		for name, entry := range had.Entries {
+			made.Entries[name] = entry
+		}
+		return made, c.heard, nil
+	}
+	return nil, c.heard, c.failure
+}
+
+// notWhole says how far an index goes of which nothing more comes.
+func (c *Connection) notWhole(due int64) error {
+	c.mutex.Lock()
+	defer c.mutex.Unlock()
+	return fmt.Errorf("%w: up to sequence %d of %d, and nothing more came in %v", NotWhole, c.taker.index.Highest, due, c.limits.IndexQuiet)
+}
