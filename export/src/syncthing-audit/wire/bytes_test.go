@@ -1,0 +1,214 @@
+package wire
+
+import (
+	"context"
+	"math/rand"
+	"sort"
+	"strings"
+	"testing"
+	"time"
+
+	"github.com/syncthing/syncthing/lib/protocol"
+)
+
+// look has a fake device with these records and this disk looked at, and gives what is found.
+func look(t *testing.T, recorded map[string]string, change func(*fake)) (map[string]Found, *fake) {
+	t.Helper()
+	observer := newObserver(t)
+	device := newFake(t, nil)
+	device.recorded, device.disk, device.ignored = recorded, map[string]string{}, map[string]bool{}
+	names := []string{}
+	for name, data := range recorded {
+		device.disk[name] = data
+		names = append(names, name)
+	}
+	sort.Strings(names)
+	change(device)
+	device.script = func(f *fake) {
+		f.hello()
+		files := []file{}
+		for place, name := range names {
+			files = append(files, file{name: name, data: recorded[name], sequence: uint64(place + 1), deleted: strings.HasPrefix(name, "deleted")})
+		}
+		f.write(kindClusterConfig, f.config("docs", observer.ID, 42, uint64(len(names))), false)
+		readFrame(f.stream, 1<<20, func() {})
+		f.write(kindIndex, indexOf("docs", files...), false)
+		f.serve()
+	}
+	limits := short()
+	limits.Message, limits.IndexQuiet = 16<<20, time.Minute
+	connection, err := dial(observer, device, nil, limits)
+	if err != nil {
+		t.Fatal(err)
+	}
+	defer connection.Close()
+	index, err := connection.Index(context.Background())
+	if err != nil {
+		t.Fatal(err)
+	}
+	found, last := map[string]Found{}, ""
+	err = connection.Bytes(context.Background(), index, func(name string, one Found) error {
+		if name <= last {
+			t.Errorf("%s behind %s", name, last)
+		}
+		found[name], last = one, name
+		return nil
+	})
+	if err != nil {
+		t.Fatal(err)
+	}
+	if len(found) != len(recorded) {
+		t.Errorf("%d names in place of %d", len(found), len(recorded))
+	}
+	return found, device
+}
+
+const block = protocol.MinBlockSize
+
+// Each fault is found, with the length that the file has; and no request had a recorded hash where other bytes stand.
+func TestFaults(t *testing.T) {
+	large := strings.Repeat("large", 100000) // four blocks
+	recorded := map[string]string{"same": large, "one": "1", "one grown": "1", "empty": "", "empty grown": "", "rot": large, "rot of one": "1", "missing": large,
+		"missing empty": "", "ignored": large, "truncated": large, "cut at a block": large, "grown": large, "grown much": "text", "emptied": large,
+		"deleted": "", "deleted and there": ""}
+	found, device := look(t, recorded, func(f *fake) {
+		f.disk["one grown"] = "11"
+		f.disk["empty grown"] = "x"
+		f.disk["rot"] = large[:200000] + "X" + large[200001:]
+		f.disk["rot of one"] = "2"
+		delete(f.disk, "missing")
+		delete(f.disk, "missing empty")
+		delete(f.disk, "deleted")
+		f.ignored["ignored"] = true
+		f.disk["truncated"] = large[:300000]
+		f.disk["cut at a block"] = large[:2*block]
+		f.disk["grown"] = large + "x"
+		f.disk["grown much"] = "text" + large
+		f.disk["emptied"] = ""
+		f.disk["deleted and there"] = "x"
+	})
+	want := map[string]struct {
+		state  State
+		size   int64
+		differ []int
+	}{
+		"same": {Same, 500000, nil}, "one": {Same, 1, nil}, "one grown": {Differs, 2, nil}, "empty": {Same, 0, nil}, "empty grown": {Differs, 1, nil},
+		"rot": {Differs, 500000, []int{1}}, "rot of one": {Differs, 1, []int{0}}, "missing": {Missing, 0, nil}, "missing empty": {Missing, 0, nil},
+		"ignored": {Ignored, 0, nil}, "truncated": {Differs, 300000, []int{2, 3}}, "cut at a block": {Differs, 2 * block, []int{2, 3}},
+		"grown": {Differs, 500001, nil}, "grown much": {Differs, 500004, nil}, "emptied": {Differs, 0, []int{0, 1, 2, 3}},
+		"deleted": {Missing, 0, nil}, "deleted and there": {Present, 0, nil},
+	}
+	for name, one := range want {
+		got := found[name]
+		if got.State != one.state || got.Size != one.size || !equal(got.Differ, one.differ) {
+			t.Errorf("%s: %s, %d bytes, blocks %v differ, in place of %v", name, got.State, got.Size, got.Differ, one)
+		}
+	}
+	if len(device.rescans) > 0 {
+		t.Errorf("a device would scan %v", device.rescans)
+	}
+	for _, kind := range device.heard {
+		if kind != kindRequest && kind != kindClose {
+			t.Errorf("the observer sent a message of kind %d", kind)
+		}
+	}
+}
+
+func equal(a, b []int) bool {
+	if len(a) != len(b) {
+		return false
+	}
+	for place := range a {
+		if a[place] != b[place] {
+			return false
+		}
+	}
+	return true
+}
+
+// Random lengths of records and files: the length is found, and what differs.
+func TestRandomLengths(t *testing.T) {
+	recorded, disk := map[string]string{}, map[string]string{}
+	for n := 0; n < 300; n++ {
+		name := string(rune('a'+n%26)) + strings.Repeat("x", n)
+		data := strings.Repeat("y", rand.Intn([]int{3, 1000, 3 * block}[n%3]))
+		recorded[name], disk[name] = data, data
+		if n%2 == 0 {
+			disk[name] = strings.Repeat("y", rand.Intn([]int{3, 1000, 3 * block}[n/2%3]))
+		}
+	}
+	found, device := look(t, recorded, func(f *fake) { f.disk = disk })
+	for name, one := range found {
+		state := Differs
+		if disk[name] == recorded[name] {
+			state = Same
+		}
+		if one.State != state || one.Size != int64(len(disk[name])) {
+			t.Errorf("%d bytes recorded, %d on the disk: %s, %d", len(recorded[name]), len(disk[name]), one.State, one.Size)
+		}
+	}
+	if len(device.rescans) > 0 {
+		t.Errorf("a device would scan %v", device.rescans)
+	}
+}
+
+// A device that knows no weak hashes tells no lengths. Bytes without a length say nothing: a truncated file's are made up.
+func TestNoLengths(t *testing.T) {
+	found, device := look(t, map[string]string{"a": "text", "b": "", "c": "gone"}, func(f *fake) {
+		f.noWeak = true
+		f.disk["a"] = "te"
+		delete(f.disk, "c")
+	})
+	if found["a"].State != NotKnown || found["b"].State != NotKnown || found["c"].State != Missing {
+		t.Errorf("%v", found)
+	}
+	if len(device.rescans) > 0 {
+		t.Errorf("a device would scan %v", device.rescans)
+	}
+}
+
+// A file that changes between its bytes and its length isn't known.
+func TestChangesMeanwhile(t *testing.T) {
+	found, _ := look(t, map[string]string{"a": "text"}, func(f *fake) {
+		f.after = func(request int) {
+			if request == 4 { // two for the length, one for the bytes, and the first of the second length
+				f.disk["a"] = "text and more"
+			}
+		}
+	})
+	if found["a"].State != NotKnown {
+		t.Errorf("%v", found["a"])
+	}
+}
+
+// By the type a request has no hash, or one drawn at random.
+func TestRequests(t *testing.T) {
+	if text := string(ForBlock("a", 0, 1).message(1, "docs")); text != "\x08\x01\x12\x04docs\x1a\x01a\x28\x01" {
+		t.Errorf("%q", text)
+	}
+	drawn := map[[32]byte]bool{}
+	for n := 0; n < 100; n++ {
+		request, err := ForLength("a", 0)
+		if err != nil || drawn[*request.drawn] || *request.drawn == [32]byte{} {
+			t.Fatal(request, err)
+		}
+		drawn[*request.drawn] = true
+	}
+}
+
+// Two requests of 16 MiB and one of the rest fill the room; a request that is too large for it goes alone.
+func TestRoom(t *testing.T) {
+	room := newRoom()
+	for n := 0; n < 4; n++ {
+		room.enter(ForBlock("a", 0, 16<<20))
+	}
+	entered := make(chan bool)
+	go func() { room.enter(ForBlock("b", 0, 1)); entered <- true }()
+	select {
+	case <-entered:
+		t.Fatal("a fifth one entered")
+	default:
+	}
+	room.leave(ForBlock("a", 0, 16<<20))
+	<-entered
+}
