@@ -16,6 +16,7 @@ from syncthing import FOLDER, SECONDS_TO_WAIT, Device, programs, wait_until_in_s
 SOURCES = Path(__file__).resolve().parents[1]
 PROGRAM = "syncthing-audit"
 SAMPLE = f"{PROGRAM}/sample"
+OVERWIRE = f"{PROGRAM}/overwire"
 GOPATH = Path("/usr/share/gocode")
 NEEDED = {"golang-go": lambda: shutil.which("go"), "syncthing": lambda: all(map(shutil.which, programs())),
           "golang-github-syncthing-syncthing-dev":
@@ -58,8 +59,8 @@ def go_environment(room):
 
 
 def build_words(directory):
-    """The command that builds the audit, and what makes samples for it, in a directory."""
-    return ["go", "build", "-p", "1", "-o", f"{directory}/", PROGRAM, SAMPLE]
+    """The command that builds the audit, what makes samples for it, and what asks devices over the wire, in a directory."""
+    return ["go", "build", "-p", "1", "-o", f"{directory}/", PROGRAM, SAMPLE, OVERWIRE]
 
 
 def built(room):

@@ -28,7 +28,7 @@ func isWrapper(path, name string) bool {
 func TestPrintingIsInOnePlace(t *testing.T) {
 	printed := 0
 	err := filepath.WalkDir(".", func(path string, entry fs.DirEntry, err error) error {
-		isOther := strings.HasPrefix(path, "outside/") || strings.HasPrefix(path, "sample/") || strings.HasPrefix(path, "forecast/cmd/") || strings.HasSuffix(path, "_test.go")
+		isOther := strings.HasPrefix(path, "outside/") || strings.HasPrefix(path, "sample/") || strings.HasPrefix(path, "overwire/") || strings.HasPrefix(path, "forecast/cmd/") || strings.HasSuffix(path, "_test.go")
 		if err != nil || entry.IsDir() || !strings.HasSuffix(path, ".go") || isOther {
 			return err
 		}

@@ -7,6 +7,7 @@ import (
 	"sync"
 
 	"syncthing-audit/device"
+	"syncthing-audit/limits"
 	"syncthing-audit/part"
 )
 
@@ -35,11 +36,11 @@ type Found struct {
 }
 
 // Bytes asks a device for the bytes of all recorded files, and calls take with what is found of each, in the order of names. Where a record
-// has no file, it asks whether there is one. Names without a record that a document has aren't asked for.
+// has no file, or isn't one that a document has, it asks whether there is one. Names that no document has aren't asked for.
 func (c *Connection) Bytes(ctx context.Context, index *Index, take func(name string, found Found) error) error {
 	names := make([]string, 0, len(index.Entries))
 	for name, entry := range index.Entries {
-		if entry.Record != nil {
+		if entry.Record != nil || limits.CheckName(name) == nil {
 			names = append(names, name)
 		}
 	}
@@ -96,7 +97,7 @@ func (a *asker) all(ctx context.Context, index *Index, names []string, take func
 
 // look finds what stands where a file is recorded: first its length, since bytes behind a file's end are made up.
 func (a *asker) look(ctx context.Context, entry device.Entry) (Found, error) {
-	if entry.Record.Deleted || entry.Record.Content == nil {
+	if entry.Record == nil || entry.Record.Deleted || entry.Record.Content == nil {
 		state, err := a.probe(ctx, entry.Name)
 		return Found{State: state}, err
 	}

@@ -1,0 +1,129 @@
+// Command overwire asks a running device over the wire, for tests. It writes what it hears and finds as JSON.
+//
+//	overwire DIRECTORY                          makes the observer's key, and prints its device id
+//	overwire DIRECTORY FOLDER DEVICE ADDRESS    asks a device
+package main
+
+import (
+	"context"
+	"encoding/json"
+	"fmt"
+	"os"
+	"sort"
+
+	"github.com/syncthing/syncthing/lib/protocol"
+	"syncthing-audit/disk"
+	"syncthing-audit/limits"
+	"syncthing-audit/part"
+	"syncthing-audit/wire"
+)
+
+// told is what is told of a device.
+type told struct {
+	Version   string      `json:"version"`
+	Folder    wire.Folder `json:"folder"`
+	IndexID   uint64      `json:"index_id,string"`
+	Highest   int64       `json:"highest"`
+	Names     []name      `json:"names"`
+	Asked     int         `json:"asked"`      // how often it asked the observer for bytes
+	SinceThen int         `json:"since_then"` // how many records it told when the rest was known
+}
+
+// name is what is told of a name.
+type name struct {
+	Name    part.Bytes    `json:"name"`
+	Own     *part.Record  `json:"own,omitempty"`
+	Out     *part.LeftOut `json:"out,omitempty"`
+	State   wire.State    `json:"state,omitempty"`
+	Content *part.Content `json:"content,omitempty"`
+	Differ  []int         `json:"differ,omitempty"`
+}
+
+func main() {
+	if err := run(os.Args[1:]); err != nil {
+		fmt.Fprintln(os.Stderr, "overwire:", err)
+		os.Exit(2)
+	}
+}
+
+func run(words []string) error {
+	if len(words) != 1 && len(words) != 4 {
+		return fmt.Errorf("usage: overwire DIRECTORY [FOLDER DEVICE ADDRESS]")
+	}
+	observer, err := wire.Create(words[0])
+	if err != nil {
+		return err
+	}
+	if len(words) == 1 {
+		fmt.Println(observer.ID)
+		return nil
+	}
+	id, err := protocol.DeviceIDFromString(words[2])
+	if err != nil {
+		return err
+	}
+	made, err := ask(observer, words[1], id, words[3])
+	if err != nil {
+		return err
+	}
+	return json.NewEncoder(os.Stdout).Encode(made)
+}
+
+// ask asks a device for its index and its bytes, and then for what is new.
+func ask(observer *wire.Observer, folder string, id protocol.DeviceID, address string) (*told, error) {
+	ctx := context.Background()
+	connection, err := observer.Dial(ctx, address, id, folder, nil, wire.Usual)
+	if err != nil {
+		return nil, err
+	}
+	index, err := connection.Index(ctx)
+	if err != nil {
+		return nil, err
+	}
+	made := &told{Version: connection.Hello.Version, Folder: connection.Folder, IndexID: index.ID, Highest: index.Highest}
+	if made.Names, err = names(ctx, connection, index); err != nil {
+		return nil, err
+	}
+	made.Asked = connection.Asked()
+	connection.Close()
+	return made, askAgain(ctx, observer, made, id, address, index)
+}
+
+// askAgain asks for what came since.
+func askAgain(ctx context.Context, observer *wire.Observer, made *told, id protocol.DeviceID, address string, known *wire.Index) error {
+	kept := wire.NewIndex(known.ID)
+	kept.Highest = known.Highest
+	connection, err := observer.Dial(ctx, address, id, made.Folder.ID, kept, wire.Usual)
+	if err != nil {
+		return err
+	}
+	defer connection.Close()
+	since, err := connection.Index(ctx)
+	if err != nil {
+		return err
+	}
+	made.SinceThen = len(since.Entries)
+	made.Asked += connection.Asked()
+	return nil
+}
+
+// names gives all names of an index with what is found of them.
+func names(ctx context.Context, connection *wire.Connection, index *wire.Index) ([]name, error) {
+	made := []name{}
+	for of, entry := range index.Entries {
+		if limits.CheckName(of) != nil {
+			made = append(made, name{Name: part.Bytes(of), Out: entry.Out})
+		}
+	}
+	err := connection.Bytes(ctx, index, func(of string, found wire.Found) error {
+		entry := index.Entries[of]
+		one := name{Name: part.Bytes(of), Own: entry.Record, Out: entry.Out, State: found.State, Differ: found.Differ}
+		if found.State == wire.Same || found.State == wire.Differs {
+			one.Content = &part.Content{Size: found.Size, BlockSize: entry.Record.Content.BlockSize, Hash: disk.HashOf(found.Blocks)}
+		}
+		made = append(made, one)
+		return nil
+	})
+	sort.Slice(made, func(a, b int) bool { return made[a].Name < made[b].Name })
+	return made, err
+}
