@@ -1,7 +1,7 @@
 #!/usr/bin/env python3
 """Real Syncthing devices on loopback that are asked over the wire while they run.
 
-    export/test/over_wire.py
+    auditor/test/over_wire.py
 """
 
 import gzip

@@ -76,7 +76,7 @@ done
 within python3 - << 'END'
 import sys
 from pathlib import Path
-sys.path.insert(0, "/syncaudit/export/test")
+sys.path.insert(0, "/syncaudit/auditor/test")
 from syncthing import Device
 devices = [Device(Path("/home"), user) for user in ("laptop", "server")]
 for one in devices:
