@@ -37,7 +37,7 @@ CLASSES = [("worlds", "Worlds"),
            ("behind", "BehindAndSends"), ("behind", "BehindAndReceives"),
            ("nightly_damaged", "NightlyDamaged"),
            ("rivals", "BothChanged"), ("rivals", "BothChangedAndOneReceives"), ("rivals", "BehindWithAnotherMode"), ("rivals", "MissingOnTwoThatChangedIt"), ("stuck", "BelowWhatIsReplaced"), ("stuck", "BelowWhatAReceiverReplaced"), ("stuck", "ADirectoryInPlaceOfADeletedFile"), ("taken", "TakenBeforeTheScan"), ("taken", "TakenFromOneThatOnlyReceives"), ("same_time", "ChangesOfOneTime"), ("three_changes", "ThreeChanges"), ("three_changes", "ThreeChangesInAnotherOrder"), ("takers", "ADeviceThatOnlySends"), ("behind", "BehindAndOnlySends"), ("behind", "BehindWithoutCopies"), ("behind", "AskedForRot"), ("untold", "ChangesThatNobodyTells"), ("behind", "NamesThatNoScanTakes"), ("manners", "Manners"), ("nightly", "Nightly"), ("nightly", "NightlySlices"), ("spread", "Spread"), ("untold", "AChangeThatIsHeardAndNotTaken"), ("directories", "DirectoriesOfOneThatOnlyReceives"), ("nightly_down", "NightlyWhereSyncthingIsDown"), ("safe_steps", "FromWhomIsTaken"), ("safe_steps", "Emptied"), ("safe_steps", "MissingAndDeleted"), ("safe_steps", "RotThatIsRenamed"), ("safe_steps", "RotThatAnOldDeviceFetches"), ("safe_steps", "BelowAFile"),
-           ("over_wire", "OverTheWire")]
+           ("over_wire", "OverTheWire"), ("waiting_names", "WaitingNames")]
 # The classes and Go's tests.
 ALL = len(CLASSES) + 1
 SIDE_BY_SIDE = 4

@@ -73,7 +73,9 @@ func placesOfTexts(place string, of reflect.Type) []string {
 		return []string{place + "[]", place + " key"}
 	case reflect.Struct:
 		for at := 0; at < of.NumField() && of != reflect.TypeOf(time.Time{}); at++ {
-			made = append(made, placesOfTexts(place+"."+of.Field(at).Name, of.Field(at).Type)...)
+			if field := of.Field(at); field.Tag.Get("json") != "-" { // which no part has
+				made = append(made, placesOfTexts(place+"."+field.Name, field.Type)...)
+			}
 		}
 	}
 	return made

@@ -25,7 +25,7 @@ func (n *names) addMoving(row *join.Row) {
 	made := finding.Moving{Name: part.Bytes(row.Name)}
 	for member, one := range row.At {
 		if one != nil && len(one.Moved) > 0 {
-			made.At = append(made.At, finding.Moved{Member: member, Why: one.Moved})
+			made.At = append(made.At, movedOf(row, member))
 		}
 	}
 	n.found.Live.AddMoving(made)

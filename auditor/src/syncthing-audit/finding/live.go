@@ -8,7 +8,9 @@ type Live struct {
 	Timed   bool    // whether the seconds are known: devices' clocks may differ by more
 	Moving  int64   // names that changed between the looks at a device, and aren't audited
 	Names   []Moving
+	Waits   int64 // of these names, those that wait for a scan
 	Unheard []Unheard
+	Waiting map[int]*Waiting // by member: what waits for a scan there, of all these names
 }
 
 // Moving is a name that changed at a device while it was looked at, or waits there.
@@ -21,6 +23,9 @@ type Moving struct {
 type Moved struct {
 	Member int
 	Why    []string
+	Waits  string     // of what waits for a scan: how
+	As     *part.Name // its record and its disk, where details were kept
+	Have   []int      // the other members on whose disks what it records stands, and is recorded
 }
 
 // Unheard counts the still names whose record one device hadn't heard of from another one: it is on its way, or they aren't
@@ -39,6 +44,14 @@ func (l *Live) isOnItsWay() bool { return l != nil && len(l.Unheard) > 0 }
 // AddMoving adds a name that changed; the first MostListed are told by name.
 func (l *Live) AddMoving(one Moving) {
 	l.Moving++
+	isWaiting := false
+	for _, at := range one.At {
+		isWaiting = isWaiting || at.Waits != ""
+		l.addWaiting(at)
+	}
+	if isWaiting {
+		l.Waits++
+	}
 	if len(l.Names) < MostListed {
 		l.Names = append(l.Names, one)
 	}

@@ -195,9 +195,19 @@ func (s *Stream) both(one, other *part.Name) *part.Name {
 		add(len(one.Out) == 0 && sameDisk && !one.IsAsRecorded(s.head.Folders[s.folder].Window()), part.MovedUnscanned)
 	}
 	if len(moved) > 0 {
-		return &part.Name{Name: one.Name, Moved: moved}
+		return &part.Name{Name: one.Name, Moved: moved, Waits: s.waiting(one, other)}
 	}
 	return s.still(one)
+}
+
+// waiting gives the record and the disk of a name whose disk is the same at both looks, and isn't as the last record says. It gives nothing of others.
+func (s *Stream) waiting(one, other *part.Name) *part.Name {
+	made := s.still(&part.Name{Name: one.Name, Own: other.Own, Disk: one.Disk})
+	isKnown := len(one.Moved)+len(other.Moved)+len(one.Out)+len(other.Out) == 0 && one.Disk.Mark() == other.Disk.Mark()
+	if !isKnown || made.IsAsRecorded(s.head.Folders[s.folder].Window()) {
+		return nil
+	}
+	return made
 }
 
 // still gives a name of the first look as both looks have it.

@@ -182,6 +182,31 @@ func ignored(n *part.Name) {
 	n.Out = []part.LeftOut{{Kind: part.Ignored, Why: "it is ignored"}}
 }
 
+// Of a name that waits for a scan it is kept what both looks saw: the last record, and the disk. Of what moves otherwise nothing is.
+func TestWhatBothLooksSawOfANameThatWaits(t *testing.T) {
+	emptied := func(n *part.Name) { n.Disk.Size = 0 }
+	for why, one := range map[string]struct {
+		first, second func(*part.Name)
+		isKept        bool
+	}{
+		"emptied":                     {emptied, emptied, true},
+		"missing":                     {func(n *part.Name) { n.Disk = nil }, func(n *part.Name) { n.Disk = nil }, true},
+		"emptied, and a view changed": {emptied, func(n *part.Name) { emptied(n); n.Views = nil }, true},
+		"emptied between the looks":   {unchanged, emptied, false},
+		"scanned between the looks":   {emptied, func(n *part.Name) { emptied(n); n.Own.Content.Size = 0 }, false},
+		"in step":                     {unchanged, unchanged, false},
+	} {
+		name := joined(t, firstLook(aFile(one.first)), secondLook(aFile(one.second)))[0]
+		if (name.Waits != nil) != one.isKept {
+			t.Errorf("%s: %+v", why, name)
+			continue
+		}
+		if one.isKept && (name.Waits.Own.Content.Size != 5 || name.Waits.Disk != nil && (name.Waits.Disk.Size != 0 || name.Waits.Disk.Stamp != "")) {
+			t.Errorf("%s: %+v", why, name.Waits)
+		}
+	}
+}
+
 // Names of one look alone stand in their places among the others.
 func TestOrderOfJoinedNames(t *testing.T) {
 	named := func(names string) []*part.Name {

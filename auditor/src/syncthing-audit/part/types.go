@@ -176,6 +176,8 @@ type Name struct {
 
 	Receiving string   `json:"receiving,omitempty"` // of a look: which temporary file Syncthing has of it
 	Moved     []string `json:"moved,omitempty"`     // what changed while the device was looked at; the rest isn't told then
+
+	Waits *Name `json:"-"` // in memory alone, of a name that waits for a scan: its record and its disk, as both looks saw them
 }
 
 // Seen is a record in a view. Most records are the own one with another sequence. In a part they are written so. In memory

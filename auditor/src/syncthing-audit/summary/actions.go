@@ -5,13 +5,14 @@ import "golang.org/x/exp/slices"
 // actions are what all entries of an answer tell to do on devices. A start of Syncthing scans all folders, and each entry speaks of its own names
 // alone: so what one of them tells to do first counts for all others.
 type actions struct {
-	entries int              // so far
-	safe    map[string][]int // the entries that tell to make something on a device safe before Syncthing starts or scans there
-	damaged map[string]int64 // how many files look damaged there, and a scan sends that
-	grown   map[string]int64 // how many have more bytes there than recorded under the recorded time, and a scan sends these
-	added   map[string]int64 // how many names stand on a device that only receives, and aren't the others'
-	reverts map[string]bool  // whether an entry tells to revert local changes there
-	started map[string][]int // those that tell to start Syncthing, to scan or to touch there, or for which others fetch from there
+	entries int                 // so far
+	safe    map[string][]int    // the entries that tell to make something on a device safe before Syncthing starts or scans there
+	damaged map[string]int64    // how many files look damaged there, and a scan sends that
+	grown   map[string]int64    // how many have more bytes there than recorded under the recorded time, and a scan sends these
+	added   map[string]int64    // how many names stand on a device that only receives, and aren't the others'
+	reverts map[string]bool     // whether an entry tells to revert local changes there
+	waits   map[string]*waiting // what no scan has seen there
+	started map[string][]int    // those that tell to start Syncthing, to scan or to touch there, or for which others fetch from there
 }
 
 // note notes what the entry of a name tells to do.
@@ -57,7 +58,9 @@ func (a *actions) isFirst(device string) bool {
 }
 
 // isToMakeSafe says whether some entry tells to make something safe on a device first. Where nobody noted what entries tell, none does.
-func (a *actions) isToMakeSafe(device string) bool { return a != nil && len(a.safe[device]) > 0 }
+func (a *actions) isToMakeSafe(device string) bool {
+	return a != nil && len(a.safe[device]) > 0 || a.isWaiting(device)
+}
 
 // toMakeSafe gives the devices on which something of the name is to be made safe before Syncthing starts or scans there.
 func (f *File) toMakeSafe() []string {

@@ -38,7 +38,7 @@ func (l labels) all(ids []string) string {
 // adviceOf says what to do about a name, each thing once. What concerns a disk comes before what asks to start Syncthing for a device to take
 // something.
 func adviceOf(file *File, named labels) []string {
-	made := file.unseenAdvice()
+	made := append(file.waitsAdvice(named), file.unseenAdvice()...)
 	for _, isTaking := range []bool{false, true} {
 		if isTaking && file.isModeFirst() {
 			made = append(made, permissionsAdvice(file, named))

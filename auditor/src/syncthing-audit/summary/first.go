@@ -12,9 +12,10 @@ func (p *printer) first(s *Summary) {
 			unseen = append(unseen, one.ID)
 		}
 	}
-	if len(unseen)+len(first)+len(s.actions.damaged)+len(s.actions.grown)+len(s.losingByRevert()) > 0 {
+	if len(unseen)+len(first)+len(s.actions.damaged)+len(s.actions.grown)+len(s.losingByRevert())+len(s.actions.waits) > 0 {
 		p.line("")
 	}
+	p.waiting(s)
 	p.damaged(s)
 	for _, device := range s.losingByRevert() {
 		p.line("first, on %s: %s added there. 'Revert Local Changes' deletes all of these, whichever entry below tells it: copy elsewhere before what is to stay",

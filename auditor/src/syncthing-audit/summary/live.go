@@ -17,6 +17,7 @@ type Live struct {
 	Moving  int64     `json:"names_in_motion"`
 	Names   []Moving  `json:"in_motion"` // as many as are kept
 	Unheard []Unheard `json:"not_heard_of"`
+	waits   int64     // of all these names, those that wait for a scan
 }
 
 // Moving is a name that changed while a device was looked at, or waits there. It isn't audited.
@@ -27,8 +28,11 @@ type Moving struct {
 
 // Moved says what changed at a device.
 type Moved struct {
-	Device string   `json:"device"`
-	Why    []string `json:"why"`
+	Device string     `json:"device"`
+	Why    []string   `json:"why"`
+	waits  string     // how it waits for a scan
+	as     *part.Name // its record and its disk then
+	have   []string   // the devices that have what is recorded
 }
 
 // Unheard counts the still names whose record a device hadn't heard of from another one.
@@ -43,7 +47,7 @@ func liveOf(from *finding.Folder) *Live {
 	if from.Live == nil {
 		return nil
 	}
-	made := &Live{Moving: from.Live.Moving, Names: []Moving{}, Unheard: []Unheard{}}
+	made := &Live{Moving: from.Live.Moving, waits: from.Live.Waits, Names: []Moving{}, Unheard: []Unheard{}}
 	if from.Live.Timed {
 		seconds := math.Round(from.Live.Seconds*1000) / 1000
 		made.Seconds = &seconds
@@ -52,7 +56,11 @@ func liveOf(from *finding.Folder) *Live {
 	for _, one := range from.Live.Names {
 		next := Moving{Name: one.Name, Devices: []Moved{}}
 		for _, at := range one.At {
-			next.Devices = append(next.Devices, Moved{id(at.Member), at.Why})
+			moved := Moved{Device: id(at.Member), Why: at.Why, waits: at.Waits, as: at.As}
+			for _, other := range at.Have {
+				moved.have = append(moved.have, id(other))
+			}
+			next.Devices = append(next.Devices, moved)
 		}
 		made.Names = append(made.Names, next)
 	}
@@ -82,13 +90,16 @@ var wordsOfMoved = map[string]string{
 	part.MovedUnscanned: "the disk isn't as recorded: it waits for a scan by Syncthing",
 }
 
-// waiting counts the names that wait for a scan, of those that are kept.
+// waiting counts the names that wait for a scan.
 func (l *Live) waiting() int64 {
 	count := int64(0)
 	for _, one := range l.Names {
 		if slices.IndexFunc(one.Devices, func(at Moved) bool { return slices.Contains(at.Why, part.MovedUnscanned) }) >= 0 {
 			count++
 		}
+	}
+	if l.waits > count { // not all are kept
+		return l.waits
 	}
 	return count
 }
@@ -131,29 +142,53 @@ func (p *printer) moving(folder *Folder) {
 	if live.Seconds == nil {
 		p.line("for how long %s was still isn't known: the devices' clocks differ by more than that", folder.ID)
 	}
-	if live.Moving > 0 {
-		p.line("in motion in %s: %s, not audited: %s", folder.ID, counted(live.Moving, "name", "names"), live.advice())
+	p.movingNames(folder, live)
+	for _, one := range live.Unheard {
+		p.line("not heard of in %s: what %s recorded last of %s hasn't reached %s: it is on its way, or the two aren't connected", folder.ID,
+			p.named.of(one.Of), counted(one.Names, "still name", "still names"), p.named.of(one.Device))
 	}
-	for place, one := range live.Names {
+}
+
+// movingNames prints the names in motion, in the order in which something is to be done: what a scan would lose comes before the advice to have one made.
+func (p *printer) movingNames(folder *Folder, live *Live) {
+	told, isWaiting := "", live.waiting() > 0
+	if live.Moving > 0 && !isWaiting {
+		told = ": " + live.advice()
+	}
+	if live.Moving > 0 {
+		p.line("in motion in %s: %s, not audited%s", folder.ID, counted(live.Moving, "name", "names"), told)
+	}
+	if isWaiting {
+		p.running("  before a scan:", p.beforeScan(folder))
+	}
+	for place, one := range live.worst() {
 		if place == mostMoving {
 			p.line("  and %s more (--json has %s)", thousands(live.Moving-mostMoving), thousands(int64(len(live.Names))))
 			break
 		}
 		words := []string{}
 		for _, at := range one.Devices {
-			why := []string{}
-			for _, word := range at.Why {
-				why = append(why, wordsOfMoved[word])
-			}
-			words = append(words, p.named.of(at.Device)+": "+strings.Join(why, ", "))
+			words = append(words, p.named.of(at.Device)+": "+p.whyMoved(at))
 		}
 		p.line("  %s: %s", shell.Path(string(one.Name)), strings.Join(words, "; "))
 	}
-	if live.waiting() > 0 {
-		p.running("  before a scan:", p.beforeScan(folder))
+	if isWaiting {
+		p.line("  then: %s", live.advice())
 	}
-	for _, one := range live.Unheard {
-		p.line("not heard of in %s: what %s recorded last of %s hasn't reached %s: it is on its way, or the two aren't connected", folder.ID,
-			p.named.of(one.Of), counted(one.Names, "still name", "still names"), p.named.of(one.Device))
+}
+
+// whyMoved says what changed of a name on a device, or how it waits there.
+func (p *printer) whyMoved(at Moved) string {
+	words := []string{}
+	for _, word := range at.Why {
+		if word == part.MovedUnscanned && at.waits != "" {
+			words = append(words, p.wordsOfWaiting(at))
+		} else {
+			words = append(words, wordsOfMoved[word])
+		}
 	}
+	if at.waits != "" && !slices.Contains(at.Why, part.MovedUnscanned) {
+		words = append(words, p.wordsOfWaiting(at))
+	}
+	return strings.Join(words, ", ")
 }

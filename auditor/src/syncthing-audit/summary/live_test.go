@@ -64,11 +64,12 @@ in motion in docs: 2 names, not audited: audit again
 		{Name: "c", At: []finding.Moved{{Member: 1, Why: []string{part.MovedUnscanned}}}}}},
 		`docs (Documents): in step and firm as far as audited; still for 0 s: 1,204 names (4 deleted), 335.2 MB hashed on laptop, server; in motion: 1
 
-in motion in docs: 1 name, not audited: audit again after a scan by Syncthing, as with --rescan
-  c: server: the disk isn't as recorded: it waits for a scan by Syncthing
+in motion in docs: 1 name, not audited
   before a scan: it takes what differs on the disk for changed, and what is missing there for
          deleted, and sends that to all devices, unless the folder is receive-only there. See that
          its disk is mounted, and copy back first what is to stay.
+  c: server: the disk isn't as recorded: it waits for a scan by Syncthing
+  then: audit again after a scan by Syncthing, as with --rescan
 ` + strings.TrimPrefix(lastLine, "\n")},
 	{"more than are told", finding.Live{Timed: true, Moving: 12, Names: inMotion(11)},
 		`docs (Documents): in step and firm as far as audited; still for 0 s: 1,204 names (4 deleted), 335.2 MB hashed on laptop, server; in motion: 12

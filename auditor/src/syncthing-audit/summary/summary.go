@@ -175,7 +175,7 @@ func Of(answer *finding.Answer) *Summary {
 		made.Devices = append(made.Devices, Device{one.ID, one.Name, one.Made, one.From, one.Runs, Text(names.Prefix), sliceOf(names), one.Index, one.Newer, one.ToRepair, names})
 	}
 	named := made.labels()
-	made.actions = &actions{safe: map[string][]int{}, damaged: map[string]int64{}, grown: map[string]int64{}, added: map[string]int64{},
+	made.actions = &actions{safe: map[string][]int{}, damaged: map[string]int64{}, waits: map[string]*waiting{}, grown: map[string]int64{}, added: map[string]int64{},
 		reverts: map[string]bool{}, started: map[string][]int{}}
 	names := []*folding{}
 	for _, one := range answer.Folders {
@@ -253,6 +253,7 @@ func folderOf(answer *finding.Answer, from *finding.Folder, all *folding) *Folde
 		all.take(one)
 	})
 	made.Wrong = all.wrong
+	all.to.noteWaiting(from)
 	for _, one := range from.Conflicts {
 		made.Copies = append(made.Copies, Copy{Text(one.Name), one.Bytes})
 	}

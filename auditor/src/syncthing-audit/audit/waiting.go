@@ -1,0 +1,59 @@
+package audit
+
+import (
+	"golang.org/x/exp/slices"
+	"syncthing-audit/finding"
+	"syncthing-audit/join"
+	"syncthing-audit/part"
+)
+
+// movedOf says what changed at a member, or how its disk isn't as recorded where the name waits for a scan.
+func movedOf(row *join.Row, member int) finding.Moved {
+	one := row.At[member]
+	made := finding.Moved{Member: member, Why: one.Moved}
+	if !slices.Contains(one.Moved, part.MovedUnscanned) && one.Waits == nil {
+		return made
+	}
+	made.Waits, made.As = finding.KindOfWaiting(one.Waits), withoutContents(one.Waits)
+	if one.Waits == nil || one.Waits.Own == nil || one.Waits.Own.Deleted {
+		return made
+	}
+	for other, at := range row.At {
+		if other != member && hasRecorded(at, one.Waits.Own) {
+			made.Have = append(made.Have, other)
+		}
+	}
+	return made
+}
+
+// withoutContents gives what is told of a name that waits.
+func withoutContents(one *part.Name) *part.Name {
+	if one == nil || one.Disk == nil {
+		return one
+	}
+	made, disk := *one, *one.Disk
+	disk.Contents = nil
+	made.Disk = &disk
+	return &made
+}
+
+// hasRecorded says whether what a record says stands on a member's disk, and is recorded there.
+func hasRecorded(at *part.Name, record *part.Record) bool {
+	switch {
+	case at == nil || len(at.Moved)+len(at.Out) > 0 || at.Own == nil || at.Own.Deleted || at.Disk == nil || at.Disk.Lost != "" || at.Disk.Unread > 0:
+		return false
+	case at.Own.Type != record.Type || at.Disk.Type != record.Type || at.Disk.Target != record.Target:
+		return false
+	case record.Content == nil:
+		return true
+	case at.Own.Content == nil:
+		return false
+	}
+	return isContent(at.Own.Content, record.Content) && slices.IndexFunc(at.Disk.Contents, func(found part.Content) bool { return isContent(&found, record.Content) }) >= 0
+}
+
+// isContent says whether two contents are of the same bytes, cut in the same way.
+func isContent(one, other *part.Content) bool {
+	isOneBlock := part.CountOfBlocks(one.Size, one.BlockSize) == 1 && part.CountOfBlocks(other.Size, other.BlockSize) == 1
+	return one.Size == other.Size && one.Hash == other.Hash && (isOneBlock || one.BlockSize == other.BlockSize)
+}

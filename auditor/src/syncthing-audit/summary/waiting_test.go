@@ -1,0 +1,103 @@
+package summary
+
+import (
+	"strings"
+	"testing"
+
+	"syncthing-audit/finding"
+	"syncthing-audit/part"
+)
+
+// waits has a name wait for a scan on a device, as it is after a change to what was in step.
+func waits(folder *finding.Folder, name string, member int, have []int, change func(*part.Name)) {
+	at := with(file(1, 1), change)
+	if folder.Live == nil {
+		folder.Live = &finding.Live{}
+	}
+	folder.Live.AddMoving(finding.Moving{Name: part.Bytes(name), At: []finding.Moved{{Member: member, Why: []string{part.MovedUnscanned},
+		Waits: finding.KindOfWaiting(at), As: at, Have: have}}})
+}
+
+func noBytes(one *part.Name)  { one.Disk.Size = 0 }
+func cutShort(one *part.Name) { one.Disk.Size = 1000 }
+func edited(one *part.Name)   { one.Disk.ModifiedS++ }
+
+// What no scan has seen is told of each device above all entries, with how it differs, and from where what is recorded can be copied.
+func TestWhatNoScanHasSeenComesFirst(t *testing.T) {
+	text := printed(answerOf(3, func(folder *finding.Folder) {
+		fails(folder, "a", []*part.Name{file(1, 1), with(file(1, 1), rotten), file(1, 1)}, "StoreDiffers 2")
+		waits(folder, "b", 1, []int{0, 2}, edited)
+		waits(folder, "c", 1, []int{0}, noBytes)
+		waits(folder, "d", 1, nil, absent)
+		waits(folder, "e", 2, []int{0, 1}, cutShort)
+		waits(folder, "f", 0, nil, func(one *part.Name) { one.Own = nil })
+	}))
+	plain := strings.Join(strings.Fields(text), " ")
+	place := 0
+	for _, told := range []string{
+		"first, on server: before Syncthing starts or scans there, also for an entry below, see which names no scan has seen yet ('in motion in docs' below): " +
+			"1 is MISSING, 1 is EMPTY, 1 is changed. A scan deletes on all devices what is missing there, and sends to all what stands there. As Syncthing starts, " +
+			"it scans all folders. So copy back first what is to stay as it is recorded, while Syncthing is stopped there. As recorded: 2 on laptop, 1 on phone, 1 on no audited device",
+		"first, on phone: before Syncthing starts", "1 is CUT SHORT.", "As recorded: 1 on laptop, 1 on server.",
+		"a (in docs", "to do: first what stands above for server: names that no scan has seen wait there", "while Syncthing is stopped there",
+		"in motion in docs: 5 names, not audited before a scan:",
+		"d: server: MISSING: 300.0 kB recorded; as recorded on no other audited device",
+		"c: server: EMPTY: 0 bytes found of 300.0 kB recorded; as recorded on laptop",
+		"e: phone: CUT SHORT: 1.0 kB found of 300.0 kB recorded, under the recorded time; as recorded on laptop, server",
+		"b: server: changed on the disk since the last scan: the size is as recorded, the time isn't (modified 2020-09-13 12:26:41 UTC); as recorded on laptop, phone",
+		"f: laptop: on the disk, and no scan has seen it",
+		"then: audit again after a scan",
+	} {
+		next := strings.Index(plain[place:], told)
+		if next < 0 {
+			t.Fatalf("%q doesn't stand behind %q: %s", told, plain[:place], text)
+		}
+		place += next + len(told)
+	}
+	if strings.Contains(text, "first, on laptop") {
+		t.Errorf("what is new alone takes nothing away: %s", text)
+	}
+}
+
+// A device that only receives sends nothing of what a scan finds.
+func TestWhatWaitsOnADeviceThatReceives(t *testing.T) {
+	text := printed(answerOf(2, func(folder *finding.Folder) {
+		folder.Members[1].About.Kind = receiveOnly
+		waits(folder, "a", 1, []int{0}, absent)
+	}))
+	if strings.Contains(text, "first, on") || !strings.Contains(text, "a: server: MISSING") {
+		t.Error(text)
+	}
+}
+
+// Nobody is told to let a device take something from one on which names wait.
+func TestNobodyTakesFromADeviceOnWhichNamesWait(t *testing.T) {
+	text := printed(answerOf(3, func(folder *finding.Folder) {
+		fails(folder, "b", []*part.Name{file(1, 1), file(1, 1), nil}, "RecordMissing 3")
+		waits(folder, "a", 0, []int{1}, absent)
+	}))
+	if !strings.Contains(text, "let Syncthing run on phone and on server, and let") {
+		t.Error(text)
+	}
+}
+
+// All that waits is counted, also what isn't told by name.
+func TestMoreWaitsThanIsListed(t *testing.T) {
+	text := printed(answerOf(2, func(folder *finding.Folder) {
+		for place := 0; place < finding.MostListed; place++ {
+			folder.Live = waitingMore(folder.Live)
+		}
+		waits(folder, "a", 1, []int{0}, absent)
+	}))
+	if !strings.Contains(text, "1 is MISSING") || !strings.Contains(text, "then: audit again") {
+		t.Error(text)
+	}
+}
+
+func waitingMore(live *finding.Live) *finding.Live {
+	if live == nil {
+		live = &finding.Live{}
+	}
+	live.AddMoving(finding.Moving{Name: "z", At: []finding.Moved{{Member: 0, Why: []string{part.MovedDisk}}}})
+	return live
+}
