@@ -1,5 +1,5 @@
 // Package message reads the messages that Syncthing writes into its index and sends to other devices, field by field, without their
-// types: 1.29 has the types where no other program reaches them.
+// types, and writes such: 1.29 has the types where no other program reaches them.
 package message
 
 import "google.golang.org/protobuf/encoding/protowire"
@@ -37,4 +37,20 @@ func Each(message []byte, take func(Field) error) error {
 		}
 	}
 	return nil
+}
+
+// AppendNumber appends a field with a number. One of 0 isn't written.
+func AppendNumber(to []byte, field protowire.Number, value uint64) []byte {
+	if value == 0 {
+		return to
+	}
+	return protowire.AppendVarint(protowire.AppendTag(to, field, protowire.VarintType), value)
+}
+
+// AppendText appends a field with a text. One of no text isn't written.
+func AppendText(to []byte, field protowire.Number, text []byte) []byte {
+	if len(text) == 0 {
+		return to
+	}
+	return protowire.AppendBytes(protowire.AppendTag(to, field, protowire.BytesType), text)
 }

@@ -3,11 +3,12 @@ package wire
 import (
 	"context"
 	"fmt"
+	"syncthing-audit/request"
 	"time"
 )
 
 // ask sends a request, and gives what the device answers.
-func (c *Connection) ask(ctx context.Context, request Request) (response, error) {
+func (c *Connection) ask(ctx context.Context, asked request.Request) (response, error) {
 	ctx, cancel := context.WithTimeout(ctx, c.limits.Answer)
 	defer cancel()
 	waiting := make(chan response, 1)
@@ -15,7 +16,7 @@ func (c *Connection) ask(ctx context.Context, request Request) (response, error)
 	if err != nil {
 		return response{}, err
 	}
-	if err := c.send(kindRequest, request.message(id, c.Folder.ID)); err != nil {
+	if err := c.send(kindRequest, asked.Message(id, c.Folder.ID)); err != nil {
 		return response{}, err
 	}
 	select {
@@ -23,8 +24,8 @@ func (c *Connection) ask(ctx context.Context, request Request) (response, error)
 		if !isOpen {
 			return response{}, c.ending()
 		}
-		if said.code == codeNone && len(said.data) != int(request.size) {
-			return response{}, fmt.Errorf("%w: %d bytes in place of %d", WrongLength, len(said.data), request.size)
+		if said.code == codeNone && len(said.data) != int(asked.Size()) {
+			return response{}, fmt.Errorf("%w: %d bytes in place of %d", WrongLength, len(said.data), asked.Size())
 		}
 		return said, nil
 	case <-ctx.Done():

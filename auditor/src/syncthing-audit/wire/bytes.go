@@ -9,6 +9,7 @@ import (
 	"syncthing-audit/device"
 	"syncthing-audit/limits"
 	"syncthing-audit/part"
+	"syncthing-audit/request"
 )
 
 // farBehind is a pebibyte: behind the end of each file.
@@ -134,13 +135,13 @@ func (a *asker) blocks(ctx context.Context, entry device.Entry, size int64) (Fou
 	var all sync.WaitGroup
 	for place := range made.Blocks {
 		offset := int64(place) * content.BlockSize
-		request := ForBlock(entry.Name, offset, int32(min(content.BlockSize, most-offset)))
+		asked := request.ForBlock(entry.Name, offset, int32(min(content.BlockSize, most-offset)))
 		all.Add(1)
-		a.room.enter(request) // here, so that no more wait of a large file than there is room for
+		a.room.enter(asked) // here, so that no more wait of a large file than there is room for
 		go func(place int) {
 			defer all.Done()
-			defer a.room.leave(request)
-			said, err := a.connection.ask(ctx, request)
+			defer a.room.leave(asked)
+			said, err := a.connection.ask(ctx, asked)
 			states[place], errs[place] = stateOf(said), err
 			made.Blocks[place] = sha256.Sum256(said.data)
 		}(place)
@@ -214,7 +215,7 @@ func (a *asker) above(ctx context.Context, name string, low int64) (int64, int64
 
 // probe says whether a regular file stands at a name, by its first byte, which is made up if the file is empty.
 func (a *asker) probe(ctx context.Context, name string) (State, error) {
-	said, err := a.one(ctx, ForBlock(name, 0, 1))
+	said, err := a.one(ctx, request.ForBlock(name, 0, 1))
 	if err != nil {
 		return "", err
 	}
@@ -243,11 +244,11 @@ func (a *asker) halve(ctx context.Context, name string, low, high int64) (int64,
 
 // upTo says whether a file has at most so many bytes.
 func (a *asker) upTo(ctx context.Context, name string, length int64) (bool, State, error) {
-	request, err := ForLength(name, length)
+	asked, err := request.ForLength(name, length)
 	if err != nil {
 		return false, "", err
 	}
-	said, err := a.one(ctx, request)
+	said, err := a.one(ctx, asked)
 	if err != nil {
 		return false, "", err
 	}
@@ -262,10 +263,10 @@ func (a *asker) upTo(ctx context.Context, name string, length int64) (bool, Stat
 }
 
 // one sends a request once there is room for it.
-func (a *asker) one(ctx context.Context, request Request) (response, error) {
-	a.room.enter(request)
-	defer a.room.leave(request)
-	return a.connection.ask(ctx, request)
+func (a *asker) one(ctx context.Context, asked request.Request) (response, error) {
+	a.room.enter(asked)
+	defer a.room.leave(asked)
+	return a.connection.ask(ctx, asked)
 }
 
 // stateOf says what an answer means.

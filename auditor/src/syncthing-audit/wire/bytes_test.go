@@ -9,6 +9,7 @@ import (
 	"time"
 
 	"github.com/syncthing/syncthing/lib/protocol"
+	"syncthing-audit/request"
 )
 
 // look has a fake device with these records and this disk looked at, and gives what is found.
@@ -181,34 +182,19 @@ func TestChangesMeanwhile(t *testing.T) {
 	}
 }
 
-// By the type a request has no hash, or one drawn at random.
-func TestRequests(t *testing.T) {
-	if text := string(ForBlock("a", 0, 1).message(1, "docs")); text != "\x08\x01\x12\x04docs\x1a\x01a\x28\x01" {
-		t.Errorf("%q", text)
-	}
-	drawn := map[[32]byte]bool{}
-	for n := 0; n < 100; n++ {
-		request, err := ForLength("a", 0)
-		if err != nil || drawn[*request.drawn] || *request.drawn == [32]byte{} {
-			t.Fatal(request, err)
-		}
-		drawn[*request.drawn] = true
-	}
-}
-
 // Two requests of 16 MiB and one of the rest fill the room; a request that is too large for it goes alone.
 func TestRoom(t *testing.T) {
 	room := newRoom()
 	for n := 0; n < 4; n++ {
-		room.enter(ForBlock("a", 0, 16<<20))
+		room.enter(request.ForBlock("a", 0, 16<<20))
 	}
 	entered := make(chan bool)
-	go func() { room.enter(ForBlock("b", 0, 1)); entered <- true }()
+	go func() { room.enter(request.ForBlock("b", 0, 1)); entered <- true }()
 	select {
 	case <-entered:
 		t.Fatal("a fifth one entered")
 	default:
 	}
-	room.leave(ForBlock("a", 0, 16<<20))
+	room.leave(request.ForBlock("a", 0, 16<<20))
 	<-entered
 }

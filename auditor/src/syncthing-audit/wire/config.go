@@ -162,13 +162,13 @@ func badly(what string, err error) error {
 // temporary files. It names no other device, and introduces none. Of the device's own index it says what was kept, so that the device sends
 // what came since.
 func (o *Observer) answer(folder string, device protocol.DeviceID, kept *Index) []byte {
-	other := appendText(nil, deviceID, device[:])
-	other = appendNumber(other, deviceSequence, uint64(kept.Highest))
-	other = appendNumber(other, deviceIndexID, kept.ID)
-	own := appendText(nil, deviceID, o.ID[:])
-	own = appendNumber(own, deviceIndexID, o.indexID(folder))
-	made := appendText(nil, folderID, []byte(folder))
-	made = appendNumber(made, folderNoTemporary, 1)
-	made = appendText(made, folderDevice, other)
-	return appendText(nil, configFolder, appendText(made, folderDevice, own))
+	other := message.AppendText(nil, deviceID, device[:])
+	other = message.AppendNumber(other, deviceSequence, uint64(kept.Highest))
+	other = message.AppendNumber(other, deviceIndexID, kept.ID)
+	own := message.AppendText(nil, deviceID, o.ID[:])
+	own = message.AppendNumber(own, deviceIndexID, o.indexID(folder))
+	made := message.AppendText(nil, folderID, []byte(folder))
+	made = message.AppendNumber(made, folderNoTemporary, 1)
+	made = message.AppendText(made, folderDevice, other)
+	return message.AppendText(nil, configFolder, message.AppendText(made, folderDevice, own))
 }

@@ -10,6 +10,7 @@ import (
 	"time"
 
 	"github.com/syncthing/syncthing/lib/protocol"
+	"syncthing-audit/message"
 )
 
 // Connection is a connection with a device, on which one folder is observed. What it sends is a Hello, one ClusterConfig, requests by which
@@ -157,7 +158,7 @@ func (c *Connection) send(what kind, body []byte) error {
 
 // Close ends the connection.
 func (c *Connection) Close() {
-	_ = c.send(kindClose, appendText(nil, 1, []byte("the look is over")))
+	_ = c.send(kindClose, message.AppendText(nil, 1, []byte("the look is over")))
 	c.stream.Close()
 	<-c.ended
 }

@@ -13,6 +13,7 @@ import (
 
 	"github.com/syncthing/syncthing/lib/protocol"
 	"syncthing-audit/message"
+	"syncthing-audit/request"
 )
 
 // dial connects to a fake device for the folder 'docs'.
@@ -147,7 +148,7 @@ func TestRefusals(t *testing.T) {
 	raw := func(text []byte) func(*fake) {
 		return func(f *fake) { f.hello(); f.stream.Write(text); f.serve() }
 	}
-	lz4Head := appendNumber(appendNumber(nil, headerType, 0), headerCompression, compressionLZ4)
+	lz4Head := message.AppendNumber(message.AppendNumber(nil, headerType, 0), headerCompression, compressionLZ4)
 	bomb := append(append([]byte{0, byte(len(lz4Head))}, lz4Head...), 0, 0, 0, 8, 0xff, 0xff, 0xff, 0xff, 1, 2, 3, 4)
 	cases := []struct {
 		why    string
@@ -167,20 +168,22 @@ func TestRefusals(t *testing.T) {
 		{"another folder", NotShared, first(func(f *fake) []byte { return f.config("photos", observer.ID, 42, 4) })},
 		{"not with the observer", NotShared, first(func(f *fake) []byte { return f.config("docs", protocol.DeviceID{2}, 42, 4) })},
 		{"paused", Paused, first(func(f *fake) []byte {
-			return f.config("docs", observer.ID, 42, 4, func(b []byte) []byte { return appendNumber(b, folderPaused, 1) })
+			return f.config("docs", observer.ID, 42, 4, func(b []byte) []byte { return message.AppendNumber(b, folderPaused, 1) })
 		})},
 		{"encrypted", EncryptedFolder, first(func(f *fake) []byte {
 			return f.config("docs", observer.ID, 42, 4, func(b []byte) []byte {
-				return appendText(appendText(nil, folderDevice, appendText(appendText(nil, deviceID, observer.ID[:]), deviceToken, []byte("x"))), 1, b[2:6])
+				return message.AppendText(message.AppendText(nil, folderDevice, message.AppendText(message.AppendText(nil, deviceID, observer.ID[:]), deviceToken, []byte("x"))), 1, b[2:6])
 			})
 		})},
 		{"an id of two bytes", BadMessage, first(func(f *fake) []byte {
-			return f.config("docs", observer.ID, 42, 4, func(b []byte) []byte { return appendText(b, folderDevice, appendText(nil, deviceID, []byte("ab"))) })
+			return f.config("docs", observer.ID, 42, 4, func(b []byte) []byte {
+				return message.AppendText(b, folderDevice, message.AppendText(nil, deviceID, []byte("ab")))
+			})
 		})},
 		{"very many devices", TooManyDevices, first(func(f *fake) []byte {
 			return f.config("docs", observer.ID, 42, 4, func(b []byte) []byte {
 				for n := 0; n < 5000; n++ {
-					b = appendText(b, folderDevice, appendText(nil, deviceID, observer.ID[:]))
+					b = message.AppendText(b, folderDevice, message.AppendText(nil, deviceID, observer.ID[:]))
 				}
 				return b
 			})
@@ -189,11 +192,11 @@ func TestRefusals(t *testing.T) {
 		{"no sequence", SequenceFalls, then(kindIndex, indexOf("docs", file{name: "a"}))},
 		{"a long name", NameTooLong, then(kindIndex, indexOf("docs", file{name: strings.Repeat("x", 40000), sequence: 1}))},
 		{"an index that isn't whole", NotWhole, then(kindIndex, indexOf("docs", file{name: "a", sequence: 3}))},
-		{"a record that is cut", BadMessage, then(kindIndex, appendText(appendText(nil, indexFolder, []byte("docs")), indexFile, []byte{0x0a, 9, 'a'}))},
-		{"blocks without hashes", BadMessage, then(kindIndex, appendText(appendText(nil, indexFolder, []byte("docs")), indexFile,
+		{"a record that is cut", BadMessage, then(kindIndex, message.AppendText(message.AppendText(nil, indexFolder, []byte("docs")), indexFile, []byte{0x0a, 9, 'a'}))},
+		{"blocks without hashes", BadMessage, then(kindIndex, message.AppendText(message.AppendText(nil, indexFolder, []byte("docs")), indexFile,
 			[]byte(strings.Repeat("\x82\x01\x00", 1000))))},
-		{"a version of very many counters", BadMessage, then(kindIndex, appendText(appendText(nil, indexFolder, []byte("docs")), indexFile,
-			appendText(nil, fileVersion, []byte(strings.Repeat("\x0a\x00", 5000)))))},
+		{"a version of very many counters", BadMessage, then(kindIndex, message.AppendText(message.AppendText(nil, indexFolder, []byte("docs")), indexFile,
+			message.AppendText(nil, fileVersion, []byte(strings.Repeat("\x0a\x00", 5000)))))},
 		{"an end before the index", Closed, then(kindClose, nil)},
 	}
 	for _, one := range cases {
@@ -255,7 +258,7 @@ func TestAskedFor(t *testing.T) {
 		f.hello()
 		f.write(kindClusterConfig, f.config("docs", observer.ID, 42, 0), false)
 		readFrame(f.stream, 1<<20, func() {})
-		f.write(kindRequest, ForBlock("a", 0, 5).message(3, "docs"), false)
+		f.write(kindRequest, request.ForBlock("a", 0, 5).Message(3, "docs"), false)
 		_, text, _ := readFrame(f.stream, 1<<20, func() {})
 		answered <- text
 		f.serve()

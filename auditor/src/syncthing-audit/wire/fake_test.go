@@ -15,6 +15,7 @@ import (
 	"github.com/syncthing/syncthing/lib/protocol"
 	"github.com/syncthing/syncthing/lib/tlsutil"
 	"syncthing-audit/message"
+	"syncthing-audit/request"
 )
 
 // file is a record that a fake device tells, as far as tests differ in it.
@@ -27,21 +28,21 @@ type file struct {
 
 // text gives the record as it is sent.
 func (f file) text() []byte {
-	made := appendText(nil, fileName, []byte(f.name))
-	made = appendNumber(made, fileModifiedS, 1700000000)
-	made = appendNumber(made, fileModifiedBy, 7)
-	made = appendNumber(made, fileSequence, f.sequence)
-	counter := appendNumber(appendNumber(nil, counterID, 7), counterValue, 1)
-	made = appendText(made, fileVersion, appendText(nil, versionCounter, counter))
+	made := message.AppendText(nil, fileName, []byte(f.name))
+	made = message.AppendNumber(made, fileModifiedS, 1700000000)
+	made = message.AppendNumber(made, fileModifiedBy, 7)
+	made = message.AppendNumber(made, fileSequence, f.sequence)
+	counter := message.AppendNumber(message.AppendNumber(nil, counterID, 7), counterValue, 1)
+	made = message.AppendText(made, fileVersion, message.AppendText(nil, versionCounter, counter))
 	if f.deleted {
-		return appendNumber(made, fileDeleted, 1)
+		return message.AppendNumber(made, fileDeleted, 1)
 	}
-	made = appendNumber(made, fileSize, uint64(len(f.data)))
+	made = message.AppendNumber(made, fileSize, uint64(len(f.data)))
 	for offset := 0; offset == 0 || offset < len(f.data); offset += protocol.MinBlockSize {
 		part := f.data[offset:min64(offset+protocol.MinBlockSize, len(f.data))]
 		sum := sha256.Sum256([]byte(part))
-		block := appendNumber(appendNumber(nil, blockOffset, uint64(offset)), blockSize, uint64(len(part)))
-		made = appendText(made, fileBlock, appendText(block, blockHash, sum[:]))
+		block := message.AppendNumber(message.AppendNumber(nil, blockOffset, uint64(offset)), blockSize, uint64(len(part)))
+		made = message.AppendText(made, fileBlock, message.AppendText(block, blockHash, sum[:]))
 	}
 	return made
 }
@@ -55,9 +56,9 @@ func min64(a, b int) int {
 
 // indexOf gives a message of an index.
 func indexOf(folder string, files ...file) []byte {
-	made := appendText(nil, indexFolder, []byte(folder))
+	made := message.AppendText(nil, indexFolder, []byte(folder))
 	for _, one := range files {
-		made = appendText(made, indexFile, one.text())
+		made = message.AppendText(made, indexFile, one.text())
 	}
 	return made
 }
@@ -112,7 +113,7 @@ func newFake(t *testing.T, script func(*fake)) *fake {
 
 // hello exchanges Hellos.
 func (f *fake) hello() {
-	body := appendText(appendText(nil, helloName, []byte("fake")), helloVersion, []byte("v0"))
+	body := message.AppendText(message.AppendText(nil, helloName, []byte("fake")), helloVersion, []byte("v0"))
 	head := binary.BigEndian.AppendUint32(nil, protocol.HelloMessageMagic)
 	f.stream.Write(append(binary.BigEndian.AppendUint16(head, uint16(len(body))), body...))
 	_, _ = readHello(f.stream, 1000)
@@ -132,7 +133,7 @@ func (f *fake) write(what kind, body []byte, compressed bool) {
 	if err != nil || length == 0 {
 		panic("a test's message can't be compressed")
 	}
-	header := appendNumber(appendNumber(nil, headerType, uint64(what)), headerCompression, compressionLZ4)
+	header := message.AppendNumber(message.AppendNumber(nil, headerType, uint64(what)), headerCompression, compressionLZ4)
 	text := append(binary.BigEndian.AppendUint16(nil, uint16(len(header))), header...)
 	text = binary.BigEndian.AppendUint32(text, uint32(length+4))
 	f.stream.Write(append(text, packed[:length+4]...))
@@ -140,17 +141,17 @@ func (f *fake) write(what kind, body []byte, compressed bool) {
 
 // config gives the device's ClusterConfig: itself, the observer and another device.
 func (f *fake) config(folder string, observer protocol.DeviceID, id, sequence uint64, more ...func([]byte) []byte) []byte {
-	own := appendText(nil, deviceID, f.id[:])
-	own = appendNumber(appendNumber(own, deviceSequence, sequence), deviceIndexID, id)
+	own := message.AppendText(nil, deviceID, f.id[:])
+	own = message.AppendNumber(message.AppendNumber(own, deviceSequence, sequence), deviceIndexID, id)
 	other := protocol.DeviceID{1}
-	known := appendNumber(appendNumber(appendText(nil, deviceID, other[:]), deviceSequence, 5), deviceIndexID, 99)
-	made := appendText(nil, folderID, []byte(folder))
-	made = appendText(appendText(made, folderDevice, own), folderDevice, known)
-	made = appendText(made, folderDevice, appendText(nil, deviceID, observer[:]))
+	known := message.AppendNumber(message.AppendNumber(message.AppendText(nil, deviceID, other[:]), deviceSequence, 5), deviceIndexID, 99)
+	made := message.AppendText(nil, folderID, []byte(folder))
+	made = message.AppendText(message.AppendText(made, folderDevice, own), folderDevice, known)
+	made = message.AppendText(made, folderDevice, message.AppendText(nil, deviceID, observer[:]))
 	for _, change := range more {
 		made = change(made)
 	}
-	return appendText(appendText(nil, configFolder, appendText(nil, folderID, []byte("other"))), configFolder, made)
+	return message.AppendText(message.AppendText(nil, configFolder, message.AppendText(nil, folderID, []byte("other"))), configFolder, made)
 }
 
 // serve answers until the connection ends, as Syncthing's model does.
@@ -176,23 +177,23 @@ func (f *fake) answer(text []byte) {
 	var hash []byte
 	_ = message.Each(text, func(field message.Field) error {
 		switch field.Number {
-		case requestID:
+		case request.FieldOfID:
 			id = field.Value
-		case requestName:
+		case request.FieldOfName:
 			name = string(field.Text)
-		case requestOffset:
+		case request.FieldOfOffset:
 			offset = int64(field.Value)
-		case requestSize:
+		case request.FieldOfSize:
 			size = field.Value
-		case requestHash:
+		case request.FieldOfHash:
 			hash = field.Text
-		case requestWeakHash:
+		case request.FieldOfWeakHash:
 			weak = field.Value
 		}
 		return nil
 	})
 	data, code := f.give(name, offset, int(size), hash, uint32(weak))
-	f.write(kindResponse, appendNumber(appendText(appendNumber(nil, responseID, id), responseData, data), responseCode, code), false)
+	f.write(kindResponse, message.AppendNumber(message.AppendText(message.AppendNumber(nil, responseID, id), responseData, data), responseCode, code), false)
 }
 
 // give does what lib/model does with a request: fills up behind the end with what a buffer had, and takes a recorded hash that isn't that of the

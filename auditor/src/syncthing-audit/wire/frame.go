@@ -109,7 +109,7 @@ func decompress(body []byte, most int) ([]byte, error) {
 
 // frameOf gives a message as it is sent, uncompressed.
 func frameOf(what kind, body []byte) []byte {
-	header := appendNumber(nil, headerType, uint64(what))
+	header := message.AppendNumber(nil, headerType, uint64(what))
 	made := binary.BigEndian.AppendUint16(nil, uint16(len(header)))
 	made = append(made, header...)
 	made = binary.BigEndian.AppendUint32(made, uint32(len(body)))

@@ -28,7 +28,7 @@ const (
 // writeHello says what the observer is. It gives no device name: a device that has none for the observer would take that, and write it into
 // its configuration.
 func writeHello(to io.Writer) error {
-	body := appendText(nil, helloClient, []byte("syncthing-audit"))
+	body := message.AppendText(nil, helloClient, []byte("syncthing-audit"))
 	made := binary.BigEndian.AppendUint32(nil, protocol.HelloMessageMagic)
 	made = binary.BigEndian.AppendUint16(made, uint16(len(body)))
 	_, err := to.Write(append(made, body...))

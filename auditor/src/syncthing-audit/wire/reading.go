@@ -6,6 +6,7 @@ import (
 
 	"google.golang.org/protobuf/encoding/protowire"
 	"syncthing-audit/message"
+	"syncthing-audit/request"
 )
 
 // secondsOfPing is after how long without a message the observer sends one: a device gives up after 300.
@@ -114,7 +115,7 @@ func (c *Connection) takeResponse(text []byte) error {
 func (c *Connection) refuse(text []byte) error {
 	var id uint64
 	err := message.Each(text, func(field message.Field) error {
-		if field.Number == requestID {
+		if field.Number == request.FieldOfID {
 			id = field.Value
 		}
 		return nil
@@ -125,7 +126,7 @@ func (c *Connection) refuse(text []byte) error {
 	c.mutex.Lock()
 	c.asked++
 	c.mutex.Unlock()
-	return c.send(kindResponse, appendNumber(appendNumber(nil, responseID, id), responseCode, codeNoSuchFile))
+	return c.send(kindResponse, message.AppendNumber(message.AppendNumber(nil, responseID, id), responseCode, codeNoSuchFile))
 }
 
 // ping keeps the connection open while nothing else is sent.

@@ -1,9 +1,11 @@
-package wire
+// Package request makes what the observer asks devices for. Nothing outside this package makes a request otherwise, or gives it a hash.
+package request
 
 import (
 	"crypto/rand"
 
 	"google.golang.org/protobuf/encoding/protowire"
+	"syncthing-audit/message"
 )
 
 // Request asks a device for bytes of a file. It has no place for a recorded hash: a device that is asked with one and has other bytes takes
@@ -36,40 +38,28 @@ const weakHashOfNothing = 1
 
 // The numbers of a Request's fields (BEP, 'Fields (Request)').
 const (
-	requestID       protowire.Number = 1
-	requestFolder   protowire.Number = 2
-	requestName     protowire.Number = 3
-	requestOffset   protowire.Number = 4
-	requestSize     protowire.Number = 5
-	requestHash     protowire.Number = 6
-	requestWeakHash protowire.Number = 8
+	FieldOfID       protowire.Number = 1
+	FieldOfFolder   protowire.Number = 2
+	FieldOfName     protowire.Number = 3
+	FieldOfOffset   protowire.Number = 4
+	FieldOfSize     protowire.Number = 5
+	FieldOfHash     protowire.Number = 6
+	FieldOfWeakHash protowire.Number = 8
 )
 
-// message gives the request as it is sent. It never asks for a temporary file.
-func (r Request) message(id int32, folder string) []byte {
-	made := appendNumber(nil, requestID, uint64(id))
-	made = appendText(made, requestFolder, []byte(folder))
-	made = appendText(made, requestName, []byte(r.name))
-	made = appendNumber(made, requestOffset, uint64(r.offset))
-	made = appendNumber(made, requestSize, uint64(r.size))
+// Size gives how many bytes are asked for.
+func (r Request) Size() int32 { return r.size }
+
+// Message gives the request as it is sent. It never asks for a temporary file.
+func (r Request) Message(id int32, folder string) []byte {
+	made := message.AppendNumber(nil, FieldOfID, uint64(id))
+	made = message.AppendText(made, FieldOfFolder, []byte(folder))
+	made = message.AppendText(made, FieldOfName, []byte(r.name))
+	made = message.AppendNumber(made, FieldOfOffset, uint64(r.offset))
+	made = message.AppendNumber(made, FieldOfSize, uint64(r.size))
 	if r.drawn != nil {
-		made = appendText(made, requestHash, r.drawn[:])
-		made = appendNumber(made, requestWeakHash, weakHashOfNothing)
+		made = message.AppendText(made, FieldOfHash, r.drawn[:])
+		made = message.AppendNumber(made, FieldOfWeakHash, weakHashOfNothing)
 	}
 	return made
-}
-
-// appendNumber appends a field with a number, appendText one with a text. A field of 0 or of no text isn't sent.
-func appendNumber(to []byte, field protowire.Number, value uint64) []byte {
-	if value == 0 {
-		return to
-	}
-	return protowire.AppendVarint(protowire.AppendTag(to, field, protowire.VarintType), value)
-}
-
-func appendText(to []byte, field protowire.Number, text []byte) []byte {
-	if len(text) == 0 {
-		return to
-	}
-	return protowire.AppendBytes(protowire.AppendTag(to, field, protowire.BytesType), text)
 }
