@@ -239,7 +239,7 @@ class BelowAFile(LateRot):
         text = self.answer()[1]
         first, *entries = [" ".join(part.split()) for part in text.split("\n\n")[1:]]
         self.assertTrue(first.startswith("folder/inner "), text)
-        self.assertIn("to do: before Syncthing scans there (the scan takes all that was below the directory for deleted, and sends that on), "
+        self.assertIn("to do: before Syncthing scans there (the scan takes all that was below the directory for deleted, 2 files, and sends that on), "
                       f"copy it from {one} to {two} as it is (cp -a, ", first)
         for name, entry in zip((KEPT, LOST), entries):
             self.assertTrue(entry.startswith(f"folder/inner/{name} "), text)

@@ -40,14 +40,15 @@ type File struct {
 	mayStay         []string          // the devices whose change it may keep, since not each deletion is on top of that
 	// The devices whose change goes first of those of one time, once other bytes are a change, too.
 	firstsBesideBytes []string
-	stuck             *stuck    // where Syncthing gets no further with it
-	isOpen            bool      // whether it depends on which devices connect first which of several changes Syncthing keeps
-	localsBelow       []string  // the devices that only receive and have local changes below it
-	blocked           []blocked // the devices that only receive and can\'t take what Syncthing keeps of it
-	unseenBelow       int64     // how many names below it no details were kept of, where what becomes of it depends on these
-	unseenAbove       string    // a directory above it of which no details were kept, where that decides
-	isNeeded          bool      // whether it is a directory below which there is what Syncthing keeps
-	firsts            []string  // the devices whose change goes first of those in conflict that were modified at the same time; nothing where times decide
+	stuck             *stuck           // where Syncthing gets no further with it
+	isOpen            bool             // whether it depends on which devices connect first which of several changes Syncthing keeps
+	localsBelow       []string         // the devices that only receive and have local changes below it
+	blocked           []blocked        // the devices that only receive and can\'t take what Syncthing keeps of it
+	unseenBelow       int64            // how many names below it no details were kept of, where what becomes of it depends on these
+	unseenAbove       string           // a directory above it of which no details were kept, where that decides
+	below             map[string]int64 // how many files below it a device lacks, by its id
+	isNeeded          bool             // whether it is a directory below which there is what Syncthing keeps
+	firsts            []string         // the devices whose change goes first of those in conflict that were modified at the same time; nothing where times decide
 }
 
 // say gives what is said of one name, or of many where the file stands for these.

@@ -44,16 +44,19 @@ func (s *Summary) losingByRevert() []string {
 // isLive says whether the devices were looked at while they ran, and so scan as they did.
 func (s *Summary) isLive() bool { return len(s.Folders) > 0 && s.Folders[0].Live != nil }
 
-// entries prints the entries of names: those that may lose bytes come first, whatever their names.
+// entries prints the entries of names: those that may lose bytes come first, whatever their names, and of these directories that aren't there, since
+// nothing can be copied below them before.
 func (p *printer) entries(s *Summary) {
 	for _, mayLose := range []bool{true, false} {
 		for _, folder := range s.Folders {
-			for _, one := range folder.Groups {
-				if one.of.mayLose() == mayLose {
-					p.group(folder, one)
+			for _, isAbove := range []bool{true, false} {
+				for _, one := range folder.Groups {
+					if one.of.mayLose() == mayLose && one.isAbove == isAbove {
+						p.group(folder, one)
+					}
 				}
+				p.files(folder, func(file *File) bool { return file.mayLose() == mayLose && file.isAbove() == isAbove })
 			}
-			p.files(folder, mayLose)
 		}
 	}
 }

@@ -29,6 +29,7 @@ type Group struct {
 	of      *File    // what is so of each name
 
 	isOfAnotherTime bool // as of a file
+	isAbove         bool // whether one of the names is a directory that isn't on the disk of a device
 }
 
 // canFold are the causes that ask for the same everywhere. What else is wrong is to be looked at file by file.
@@ -89,6 +90,8 @@ type folding struct {
 	alone []*File
 	alike map[string]*alike // by their keys
 	keys  []string          // in the order of their first names
+	// How many files devices lack together with a directory above them.
+	lacking map[lacked]int64
 }
 
 // alike are names with the same fault: the first ones, and what is counted of all.
@@ -108,6 +111,7 @@ func (f *folding) take(one *File) {
 	one.noteRivals()
 	one.others = f.to
 	f.to.note(one)
+	f.noteLacked(one)
 	key := f.keyOf(one)
 	if !one.hasDetails && (key == "" || f.alike[key] == nil && len(f.alike) >= mostKinds) {
 		one.shorten()
@@ -130,6 +134,7 @@ func (f *folding) take(one *File) {
 func (a *alike) take(one *File) {
 	a.group.Names++
 	a.group.Bytes += one.Size
+	a.group.isAbove = a.group.isAbove || one.isAbove()
 	if !one.hasDetails {
 		a.group.Unsized++
 	}
@@ -150,6 +155,7 @@ func (f *folding) end() ([]*File, []*Group) {
 	}
 	sort.Slice(files, func(a, b int) bool { return files[a].Name < files[b].Name })
 	for _, one := range files {
+		f.noteBelow(one)
 		one.Advice = adviceOf(one, f.named)
 	}
 	link(files)

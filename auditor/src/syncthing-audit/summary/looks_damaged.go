@@ -88,8 +88,9 @@ func wordsOfChanged(faults []*Fault) string {
 // others have something newer, that stays once what is damaged is moved away: what they have goes before a deletion.
 func (f *File) orDamaged(one *Fault, wanted string, named labels) string {
 	if one.isReplacedDirectory() {
-		return "before Syncthing scans there (the scan takes all that was below the directory for deleted, and sends that on), " + copying(one, f, named, overAnother) +
-			". If it is wanted as it is: " + wanted
+		deleted, without := f.filesBelow(one)
+		return "before Syncthing scans there (the scan takes all that was below the directory for deleted" + deleted + ", and sends that on), " +
+			copying(one, f, named, overAnother) + ". If it is wanted as it is" + without + ": " + wanted
 	}
 	if !one.isDamagedChange() {
 		return wanted

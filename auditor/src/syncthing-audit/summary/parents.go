@@ -51,5 +51,6 @@ func copyingParent(one *Fault, file *File, named labels) string {
 
 // isReplacedDirectory says whether something else stands in place of a directory, so that a scan takes all below that for deleted, and sends it.
 func (f *Fault) isReplacedDirectory() bool {
-	return f.Cause == Changed && f.Kind != receiveOnly && f.late == notLate && f.Recorded.isDirectory() && f.Found != nil && f.Found.Type != "directory"
+	isDue := f.late == notLate || f.late == lateChange && f.Due.isDirectory()
+	return f.Cause == Changed && f.Kind != receiveOnly && isDue && f.Recorded.isDirectory() && f.Found != nil && f.Found.Type != "directory"
 }

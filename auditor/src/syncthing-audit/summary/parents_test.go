@@ -54,8 +54,8 @@ func TestAFileInPlaceOfADirectory(t *testing.T) {
 		fresh(folder, 1)
 	}))
 	for _, has := range []string{"first, on server: do what the entries below",
-		"to do: before Syncthing scans there (the scan takes all that was below the directory for deleted, and sends that on), copy it from laptop to server as it is (cp -a, or rsync -aI, as the user who " +
-			"runs Syncthing there), once what stands there is moved away, while Syncthing is stopped there. If it is wanted as it is: start Syncthing on server",
+		"to do: before Syncthing scans there (the scan takes all that was below the directory for deleted, 6 files, and sends that on), copy it from laptop to server as it is (cp -a, or rsync -aI, as the user who " +
+			"runs Syncthing there), once what stands there is moved away, while Syncthing is stopped there. If it is wanted as it is, without 6 files below it: start Syncthing on server",
 		"To keep them, first copy the uppermost directories above them that aren't there from laptop to server as they are (cp -a"} {
 		if !strings.Contains(text, has) {
 			t.Errorf("%q isn't in %s", has, text)

@@ -179,7 +179,7 @@ func Of(answer *finding.Answer) *Summary {
 		reverts: map[string]bool{}, started: map[string][]int{}}
 	names := []*folding{}
 	for _, one := range answer.Folders {
-		all := &folding{named: named, to: made.actions, alike: map[string]*alike{}}
+		all := &folding{named: named, to: made.actions, alike: map[string]*alike{}, lacking: map[lacked]int64{}}
 		made.Folders, names = append(made.Folders, folderOf(answer, one, all)), append(names, all)
 	}
 	for place, one := range made.Folders { // what is told of one name depends on what is told of all others

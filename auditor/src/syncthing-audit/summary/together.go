@@ -12,12 +12,12 @@ import (
 var readTogether = map[Cause]bool{OtherBytes: true, LocalChange: true, LocalAddition: true, Changed: true, Back: true, Conflicting: true, OnlySeen: true,
 	Behind: true, Missing: true, NotScanned: true, OtherTime: true}
 
-// files prints the entries of names, those that may lose bytes or the others. Of many with the same fault on the same devices one entry tells the first ones and counts
+// files prints the entries of those names of which this is so. Of many with the same fault on the same devices one entry tells the first ones and counts
 // the others.
-func (p *printer) files(folder *Folder, mayLose bool) {
+func (p *printer) files(folder *Folder, isSo func(*File) bool) {
 	files, keys, alike := []*File{}, []string{}, map[string][]*File{}
 	for _, one := range folder.Files {
-		if one.mayLose() == mayLose {
+		if isSo(one) {
 			key := one.readKey()
 			files, keys = append(files, one), append(keys, key)
 			alike[key] = append(alike[key], one)
