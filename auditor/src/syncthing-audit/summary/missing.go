@@ -11,7 +11,7 @@ func missingAdvice(one *Fault, file *File, at string, named labels) string {
 		return "see that the folder's disk is mounted on " + at + lateMissing(one, file, at, named)
 	}
 	if one.isGoneElsewhere(file) {
-		return "start Syncthing on " + at + " and 'Rescan': the other devices " + file.deleteToo(one, it)
+		return "start Syncthing on " + at + " and 'Rescan': " + file.deleteToo(one, it, named)
 	}
 	if one.Kind == receiveOnly {
 		from := ""
@@ -85,14 +85,14 @@ func (f *File) takenBefore(one *Fault, at string) string {
 }
 
 // deleteToo says that the other devices delete what is missing on one that only receives, or have done so.
-func (f *File) deleteToo(one *Fault, it string) string {
+func (f *File) deleteToo(one *Fault, it string, named labels) string {
 	switch {
 	case one.isDeletedElsewhere():
-		return "have deleted " + it + ", too"
+		return f.deleted(one, named) + " deleted " + it + ", too"
 	case len(f.mayStay) == 0:
-		return "delete " + it + ", too"
+		return "the other devices delete " + it + ", too"
 	}
-	return "may delete " + it + ", too. Where they keep " + it + ", Syncthing brings what they have there, or 'Revert Local Changes' does"
+	return "the other devices may delete " + it + ", too. Where they keep " + it + ", Syncthing brings what they have there, or 'Revert Local Changes' does"
 }
 
 // lostAlone says what is lost where the device recorded a change that no other one has, and that is missing there.
