@@ -234,7 +234,7 @@ class AskedForRot(Exporting):
         path.write_text("the wrong bytes")
         os.utime(path, ns=(times.st_atime_ns, times.st_mtime_ns))
         told = " ".join(self.on_homes("check", [device.home for device in self.devices], "--syncaudit", self.auditor).stdout.split())
-        self.assertIn(f"before Syncthing starts there (another device may fetch it from {self.two.id[:7]}, and then these bytes go to all), "
+        self.assertIn(f" (another device may fetch it from {self.two.id[:7]}, and then these bytes go to all), "
                       f"copy it from {self.one.id[:7]} to {self.two.id[:7]} with its time", told)
         self.two.start()
         self.two.scan()

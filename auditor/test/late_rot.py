@@ -61,7 +61,7 @@ class RotThatIsFetched(LateRot):
             self.rot(name)
         for name in (KEPT, LOST):
             entry, _ = self.entry(name)
-            self.assertIn(f"to do: before Syncthing starts there (another device may fetch it from {self.label(self.two)}, and then these "
+            self.assertIn(f" (another device may fetch it from {self.label(self.two)}, and then these "
                           f"bytes go to all), copy it from {self.label(self.one)} to {self.label(self.two)} with its time alone "
                           "(cp --preserve=timestamps, ", entry)
         self.mend(KEPT, "--preserve=timestamps")

@@ -35,17 +35,17 @@ func (l labels) all(ids []string) string {
 	return strings.Join(names, ", ")
 }
 
-// adviceOf says what to do about a name, each thing once. What concerns a disk comes before what asks to start Syncthing for a device to take
-// something.
+// adviceOf says what to do about a name, each thing once. What saves bytes comes first, and what asks to start Syncthing for a device to take something
+// comes last.
 func adviceOf(file *File, named labels) []string {
 	made := append(file.waitsAdvice(named), file.unseenAdvice()...)
-	for _, isTaking := range []bool{false, true} {
-		if isTaking && file.isModeFirst() {
+	for turn := savesBytes; turn <= takes; turn++ {
+		if turn == takes && file.isModeFirst() {
 			made = append(made, permissionsAdvice(file, named))
 		}
 		for next := range file.Faults {
 			one := &file.Faults[next]
-			if (one.Cause == Behind || one.Cause == Conflicting) == isTaking {
+			if file.turnOf(one) == turn {
 				made = addOnce(made, file.orDamaged(one, adviceOfFault(one, file, named), named))
 			}
 		}

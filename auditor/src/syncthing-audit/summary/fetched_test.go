@@ -11,7 +11,7 @@ import (
 // Syncthing hashes a file anew whose blocks it sends, and whose bytes it then sends to all. A folder that only receives tells no change,
 // and one that is shared with nobody sends nothing.
 func TestAdviceOnOtherBytesThatOthersFetch(t *testing.T) {
-	const general, urgent = "sends these bytes to all once another device fetches the file from server. Before that, copy it", "before Syncthing starts there (another device may fetch it from server, and then these bytes go to all), copy it"
+	const general, urgent = "sends these bytes to all once another device fetches the file from server. Before that, copy it", "before Syncthing starts on phone (another device may fetch it from server, and then these bytes go to all), copy it"
 	for _, one := range []struct {
 		kind                string
 		isOwn, other        bool
@@ -46,7 +46,7 @@ func TestAdviceOnOtherBytesThatOthersFetch(t *testing.T) {
 
 // A device from which another one fetches a file of other bytes sends these to all. Nobody is told to start it before they are mended.
 func TestOtherBytesThatAnAuditedDeviceFetches(t *testing.T) {
-	const told = "before Syncthing starts there (another device may fetch it from server, and then these bytes go to all), copy it from laptop"
+	const told = "before Syncthing starts on phone (another device may fetch it from server, and then these bytes go to all), copy it from laptop"
 	for _, one := range []struct {
 		why  string
 		kind string
@@ -90,7 +90,7 @@ var rottenBesideAChange = []struct {
 
 const (
 	becoming = ". But the other bytes on server may become a change before that comes there"
-	fetching = "before Syncthing starts there (another device may fetch it from server, and then these bytes "
+	fetching = "before Syncthing starts on phone (another device may fetch it from server, and then these bytes "
 )
 
 // Other bytes that another device fetches are a change, too. Nobody is just told that another one goes to all, or that all devices delete the file.

@@ -48,7 +48,7 @@ func whenToMend(one *Fault, file *File, at string, named labels) string {
 	case one.mayMove:
 		return "before Syncthing starts there (a scan of another device finds " + it + " missing, and " + file.whyMoved(one) + "), "
 	case one.isFetched:
-		return "before Syncthing starts there (another device may fetch " + it + " from " + at + ", and then these bytes " +
+		return file.beforeFetching(one, named) + " (another device may fetch " + it + " from " + at + ", and then these bytes " +
 			file.asChange(one, "go "+file.toAll(one.Device, named), "are a change", named) + "), "
 	case one.mayShow():
 		return "before Syncthing scans there (the scan may " +
