@@ -24,3 +24,8 @@ func (f *File) deleted(one *Fault, named labels) string {
 	}
 	return "the other devices have"
 }
+
+// isDeletionDue says whether what all are to have of the name is its deletion.
+func (f *File) isDeletionDue() bool {
+	return slices.IndexFunc(f.Faults, func(one Fault) bool { return one.isDeletedElsewhere() }) >= 0
+}

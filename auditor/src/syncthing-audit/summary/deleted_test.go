@@ -25,3 +25,13 @@ func TestWhoHasDeletedAName(t *testing.T) {
 		}
 	}
 }
+
+// A deletion isn't told as if the file stood there as recorded.
+func TestWhereANameIsDeleted(t *testing.T) {
+	for _, names := range []int{1, mostAlone + 1} {
+		text := toldOf([]*part.Name{with(with(file(2, 2), again), absent), file(1, 1)}, "RecordDiffers 2", 0, names, func(*finding.Folder) {})
+		if !strings.Contains(text, " deleted on: laptop to do") || strings.Contains(text, "as recorded on") {
+			t.Error(text)
+		}
+	}
+}

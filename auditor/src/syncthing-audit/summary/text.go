@@ -98,7 +98,7 @@ func (p *printer) group(folder *Folder, one *Group) {
 	}
 	p.line("  the first: %s, and %s more (--lines has all)", strings.Join(first, " "), thousands(one.Names-int64(len(first))))
 	if len(one.Have) > 0 && one.Cause != Permissions {
-		p.have(one.Have, one.isOfAnotherTime)
+		p.have(one.Have, one.isOfAnotherTime, one.of.isDeletionDue())
 	}
 	p.advice(one.Advice)
 }
@@ -127,7 +127,7 @@ func (p *printer) file(folder *Folder, one *File) {
 	}
 	p.modes(one.Permissions)
 	if len(one.Faults) > 0 && !isOfNobody(one) && !strings.HasSuffix(string(one.Name), "/") {
-		p.have(one.Have, one.isOfAnotherTime)
+		p.have(one.Have, one.isOfAnotherTime, one.isDeletionDue())
 	}
 	if len(one.Follows) > 0 && !one.isTied() {
 		p.line("  so %s can still take another version of it, until that is mended", p.named.all(devicesOf(one.Follows)))
@@ -136,8 +136,10 @@ func (p *printer) file(folder *Folder, one *File) {
 }
 
 // have prints which devices have what is due, be it with another time.
-func (p *printer) have(devices []string, isOfAnotherTime bool) {
+func (p *printer) have(devices []string, isOfAnotherTime, isDeletion bool) {
 	switch {
+	case isDeletion && len(devices) > 0:
+		p.line("  deleted on: %s", p.named.all(devices))
 	case len(devices) == 0:
 		p.line("  as recorded on: no audited device")
 	case isOfAnotherTime:

@@ -175,7 +175,7 @@ link  (in docs)
 
 a  (in docs, 300.0 kB)
   server: behind: hasn't deleted it yet (since 2020-09-13 12:27:40 UTC)
-  as recorded on: laptop
+  deleted on: laptop
   to do: let Syncthing run on server and on laptop, and let them finish. If it stays so, see whether
          a device or the folder is paused, whether they are connected, whether a disk is full, and
          whether Syncthing's page lists 'Failed Items'; or 'Ignore Delete' is set for the folder on

@@ -72,7 +72,7 @@ func (p *printer) together(folder *Folder, all []*File) {
 	}
 	p.line("  the first: %s, and %s more (--lines has all)", strings.Join(first, " "), thousands(int64(len(all)-mostAlone)))
 	if !isOfNobody(all[0]) {
-		p.have(all[0].Have, all[0].isOfAnotherTime)
+		p.have(all[0].Have, all[0].isOfAnotherTime, all[0].isDeletionDue())
 	}
 	told := *all[0]
 	told.isMany = true
