@@ -2,7 +2,7 @@
 """mutants.py: tries the wrong bodies in mutants/, which the prover lets through. The tests of a running cluster must refuse each.
 
     mutants.py [CRATE[/NAME]..]  tries those of these crates, these alone, or all
-    mutants.py --turn            tries some, for the time that the gate has for them
+    mutants.py --turn            tries some, for a minute or two
     mutants.py --fit             says whether each still fits its file, in which the text that it changes must stand once
 
 No contract says what happens under a lock, so these bodies are those of threads, locks and tickets. Each is tried on a copy, by
