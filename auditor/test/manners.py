@@ -120,7 +120,7 @@ class Manners(unittest.TestCase):
     def test_root_becomes_the_user_whose_home_it_reads(self):
         """What that user can't read isn't hashed, and no symlink of his leads root's output elsewhere."""
         nobody = 65534
-        room = Path(tempfile.mkdtemp(prefix="syncthing-audit-test-"))
+        room = Path(tempfile.mkdtemp(prefix="syncthing-audit-test-", dir="/var/tmp"))  # which that user can reach
         self.addCleanup(shutil.rmtree, room)
         run([self.program.parent / "sample", "--files", "5", "--bytes", "100", room], check=True)
         secret = room / "device1" / "files" / "secret"
