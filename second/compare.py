@@ -1,7 +1,7 @@
 #!/usr/bin/env python3
 """Compares the program's answers with those of a second reading (reading.py): of `check`, `firm` and `explain` (with
-`--firm` too), each with `--certify` too, and of `certify` (with `--partial` too); on the examples, on documents with
-something as great as it may be or one more, and on random documents.
+`--firm` too), each with `--certify` too, of `converge`, and of `certify` (with `--partial` too); on the examples, on
+documents with something as great as it may be or one more, and on random documents.
 
     second/compare.py [COUNT [SEED]]
 
@@ -14,6 +14,7 @@ import subprocess
 import sys
 from collections import Counter
 
+import converge
 import firm
 import reading
 import reports
@@ -110,6 +111,9 @@ def compare(document):
         told = run(f"{command} --certify", document)
         if told != wanted:
             tell_difference(f"{command} --certify", document, wanted, told)
+    told, wanted = run("converge", document), converge.answer(document)
+    if told != wanted:
+        tell_difference("converge", document, wanted, told)
     compare_certified(document)
     compare_part(document)
     return check[0]

@@ -12,6 +12,10 @@ at first, or the content and version of a record that was known then and is abov
 A run of the second kind has a link between each two devices, and takes steps of this project's peers alone, each of
 which has something to do, in any order. Such a run must end, with each device at the top of each name. Then the cut must
 be firm, unless a device without a record hears of an old one that isn't deleted.
+
+A run of the third kind takes some such steps, and then brings each name to each device that isn't at its top, by the run of
+bring.py, in any order and from any owner of the top. Each of its steps must be done, it must end within its bound, and no
+other device may come to another top by it.
 """
 
 import contextlib
@@ -20,7 +24,10 @@ import random
 import sys
 from collections import Counter
 from functools import partial
+from unittest import mock
 
+from bring import bring
+from cluster import index
 from cluster.core import Cluster
 from cluster.link import Index, IndexUpdate, Link
 from cluster.refusal import Moved
@@ -152,11 +159,58 @@ def run_to_the_end(making: PrevailingMaking, answers: Counter) -> None:
     answers.update(walk.answers)
 
 
+def behind(cluster: Cluster) -> list[tuple[Key, int]]:
+    """Each name with each device that isn't at its top."""
+    return [(key, device.number) for key, at in names_of(cluster).items() for device in at.devices if not at.is_at_top(device)]
+
+
+def bring_one(walk: Walk, was: Prevailing, key: Key, device: int) -> None:
+    """Brings the name to the device, from any owner of its top."""
+    def take(step: Step) -> None:
+        answer = walk.cluster.apply(step)
+        walk.answers[type(step).__name__, answer.name] += 1
+        if answer is not Moved.Changed:
+            raise Contradiction("a step that brings a name isn't done", step, answer)
+        was.check(walk.cluster, step)
+
+    at = names_of(walk.cluster)[key]
+    tops = at.tops()
+    owners = [one.number for one in at.devices if one.own.get(at.name) in tops]
+    bring(walk.cluster, device, walk.random.choice(owners), key[0].decode(), key[1].decode(), take)
+
+
+def take_some(walk: Walk, count: int) -> None:
+    """Takes so many steps that have something to do, or fewer where none is left."""
+    for _ in range(count):
+        steps = list(walk.open_steps())
+        if not steps:
+            return
+        walk.cluster.apply(walk.random.choice(steps))
+
+
+def run_of_brings(making: PrevailingMaking, answers: Counter) -> None:
+    """A run that begins with some steps of this project's peers, and then brings each name to all."""
+    cluster = settled_cluster(making)
+    link_all(cluster)
+    open_anew(cluster)
+    walk, was = checked_start(making, cluster)
+    take_some(walk, making.random.randint(0, 40))
+    with mock.patch.object(index, "MOST_RECORDS", making.random.choice([1, 2, 1000])):
+        left = behind(cluster)
+        while left:
+            pair = making.random.choice(left)
+            bring_one(walk, was, *pair)
+            if behind(cluster) != [one for one in left if one != pair]:
+                raise Contradiction("not one pair alone came to its top", pair, left, behind(cluster))
+            left = behind(cluster)
+    answers.update(walk.answers)
+
+
 def main() -> None:
     """Makes the runs, and tells how often each step answered what."""
     count = int(sys.argv[1]) if len(sys.argv) > 1 else 1000
     seed = int(sys.argv[2]) if len(sys.argv) > 2 else 1
-    orderly, ended = Counter(), Counter()
+    orderly, ended, brought = Counter(), Counter(), Counter()
     for number in range(seed, seed + count):
         with small_limits() if number % 2 else contextlib.nullcontext():
             try:
@@ -167,7 +221,11 @@ def main() -> None:
             run_to_the_end(PrevailingMaking(random.Random(number)), ended)
         except Contradiction as found:
             sys.exit(f"run {number} to its end: {found}")
-    for title, answers in (("of orderly peers", orderly), ("to their ends", ended)):
+        try:
+            run_of_brings(PrevailingMaking(random.Random(number)), brought)
+        except Contradiction as found:
+            sys.exit(f"run {number} of brings: {found}")
+    for title, answers in (("of orderly peers", orderly), ("to their ends", ended), ("of brings", brought)):
         print(f"{count} runs {title}, {sum(answers.values())} steps")
         for (step, answer), times in sorted(answers.items()):
             print(f"{times:9} {step} {answer}")

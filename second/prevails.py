@@ -21,9 +21,12 @@ class Sharer(verdict.Device):
 
     def held(self, name: bytes) -> list[dict]:
         """The valid records of the name that it has as its own, or from elsewhere."""
-        foreign = [entry for part in (self.viewed, self.coming, self.pulls) for entry in part.get(name, ())]
         own = [self.own[name]] if name in self.own else []
-        return [entry for entry in own + foreign if not entry["invalid"]]
+        return [entry for entry in own + self.foreign(name) if not entry["invalid"]]
+
+    def foreign(self, name: bytes) -> list[dict]:
+        """The records of the name that it has from elsewhere."""
+        return [entry for part in (self.viewed, self.coming, self.pulls) for entry in part.get(name, ())]
 
     def own_version(self, name: bytes) -> dict:
         """The own record's version; without a record it is empty."""

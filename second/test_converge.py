@@ -16,7 +16,8 @@ from cluster.index import View
 from cluster.record import Node, Record, deletion
 from cluster.replica import Pull, Replica
 from cluster.step import Finish, Scan, StartPull
-from converge_runs import Prevailing, come_to_end, run_of_orderly_peers, run_to_the_end
+from bring import bring, most_steps
+from converge_runs import Prevailing, bring_one, come_to_end, run_of_brings, run_of_orderly_peers, run_to_the_end
 from free import FreeReplica
 from orderly import OrderlyReplica
 from prevailing import PrevailingMaking
@@ -132,6 +133,48 @@ class Runs(unittest.TestCase):
         for number in range(5):
             run_to_the_end(PrevailingMaking(random.Random(number)), answers)
         self.assertIn(("Finish", "Changed"), answers)
+
+    def test_each_name_is_brought_to_each_device(self):
+        answers = Counter()
+        for number in range(12):
+            run_of_brings(PrevailingMaking(random.Random(number)), answers)
+        self.assertEqual({answer for _, answer in answers}, {"Changed"})
+        self.assertLess({("Announce", "Changed"), ("Ask", "Changed"), ("Finish", "Changed")}, set(answers))
+
+    def test_nothing_is_brought_to_a_send_only_device(self):
+        made = cluster_of((TOP, NEW), (LOW, OLD), kinds=(BOTH, SEND), replica=Replica)
+        walk = Walk(Making(random.Random(1)), made)
+        with self.assertRaisesRegex(Contradiction, "isn't done"):
+            bring_one(walk, Unchecked(), (DOCS.encode(), NAME.encode()), 2)
+        self.assertEqual(walk.answers["StartPull", "KindForbids"], 1)
+
+    def test_no_run_is_shorter_than_its_bound_where_all_is_fetched(self):
+        made = cluster_of((TOP, NEW), (LOW, OLD), replica=Replica)
+        walk = Walk(Making(random.Random(1)), made)
+        bring_one(walk, Unchecked(), (DOCS.encode(), NAME.encode()), 2)
+        self.assertEqual(sum(walk.answers.values()), most_steps(docs(made, 1).own(NAME)))
+        self.assertEqual(docs(made, 2).store.nodes, {NAME: NEW})
+
+    def test_what_a_view_with_a_gap_lacks_is_not_brought(self):
+        made = cluster_of((TOP, NEW), (LOW, OLD), replica=Replica)
+        docs(made, 2).views[1] = View(*docs(made, 1).index.point)
+        walk = Walk(Making(random.Random(1)), made)
+        with self.assertRaisesRegex(Contradiction, "isn't done"):
+            bring_one(walk, Unchecked(), (DOCS.encode(), NAME.encode()), 2)
+        self.assertEqual(walk.answers["Announce", "NothingToDo"], 1)
+
+    def test_no_run_has_more_steps_than_its_bound(self):
+        made = cluster_of((TOP, NEW), (LOW, OLD), replica=Replica)
+        taken = []
+        with self.assertRaisesRegex(Contradiction, "too many steps"):
+            bring(made, 2, 1, DOCS, NAME, taken.append)
+
+
+class Unchecked:
+    """Looks at nothing."""
+
+    def check(self, cluster: Cluster, step) -> None:
+        """Nothing."""
 
 
 class Missing(unittest.TestCase):

@@ -18,7 +18,7 @@ looks_or_not kinds.File node entry =
 looks_or_not kinds.Directory node entry = inl tt
 looks_or_not kinds.Symlink node entry = same_or_not (coded_list coded_ℕ) node.target entry.target
 
-clean_or_unclean : (node : Option NodeParts) (own : Option Entry) → OrNot (IsClean node own)
+pub clean_or_unclean : (node : Option NodeParts) (own : Option Entry) → OrNot (IsClean node own)
 clean_or_unclean None None = inl tt
 clean_or_unclean None (Some entry) = true_or_not entry.deleted
 clean_or_unclean (Some node) None = inr (λ h. h)

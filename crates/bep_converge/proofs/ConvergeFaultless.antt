@@ -17,13 +17,13 @@ use Rattle.bep_converge.proofs.VersionFacts.{equal_through}
 
 -- ---- two tops
 
-deleted_too : (top other : Entry) → content_of top ≡ content_of other → top.deleted ≡ true → other.deleted ≡ true
+pub deleted_too : (top other : Entry) → content_of top ≡ content_of other → top.deleted ≡ true → other.deleted ≡ true
 deleted_too top other same deleted =
     let gone : content_of top ≡ Deleted = ap (λ (b : Bool). cond b Deleted (content_of_kind top.kind top.blocks top.target)) deleted in
     ⊎_elim (λ is. is) (λ there. absurd (not_deleted other there (sym same ∙ gone))) (cases_Bool other.deleted)
 
 -- who is at one of two tops of one version and content is at the other
-at_other_top : (own : Option Entry) (top other : Entry) → AreEqual top.version other.version → content_of top ≡ content_of other → IsAtTop own top → IsAtTop own other
+pub at_other_top : (own : Option Entry) (top other : Entry) → AreEqual top.version other.version → content_of top ≡ content_of other → IsAtTop own top → IsAtTop own other
 at_other_top None top other version same at = deleted_too top other same at
 at_other_top (Some own) top other version same at = equal_through own.version top.version other.version at version
 

@@ -97,7 +97,7 @@ module _ (Receives : Type 0) (device : Device) (old : Replica) where
       (λ apart. inl (get-insert_apart nat_list_cmp_total exact_bytes old.index.records entry.name (numbered entry (old.index.sequence + 1)) other (λ same. apart (same ∙ named)), refl))
       (same_name other name)
 
-  finds_named : (name : FileName) (node : Option NodeParts) (own : Option Entry) (version : List (ℕ × ℕ)) (entry : Entry) → Finds device name node own version entry → entry.name ≡ name
+  pub finds_named : (name : FileName) (node : Option NodeParts) (own : Option Entry) (version : List (ℕ × ℕ)) (entry : Entry) → Finds device name node own version entry → entry.name ≡ name
   finds_named name (Some node) own version entry finds = ap (λ (e : Entry). e.name) finds
   finds_named name None (Some own) version entry finds = ap (λ (e : Entry). e.name) finds
   finds_named name None None version entry finds = absurd finds

@@ -6,4 +6,11 @@ pub mod Ended
 pub mod Bound
 pub mod ConvergeReasons
 pub mod ConvergeVerdict
+pub mod Awaits
+pub mod Tops
+pub mod AfterLaws
 pub mod Laws
+pub mod Bring
+pub mod BringLaws
+pub mod CutReached
+pub mod Arrival

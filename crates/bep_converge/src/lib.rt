@@ -6,10 +6,18 @@
 //! ```
 #![tactic(auto)]
 
+mod after;
+mod arrival;
+mod bring;
 mod converge_reason;
 mod laws;
 mod steps;
 
+pub use after::{
+    edit_makes_top, override_makes_top, revert_lets_in, scan_makes_top, scans_make_tops,
+};
+pub use arrival::{all_come, all_stay, behind_is_listed, bring_keeps, scans_make_ready};
+pub use bring::{bring_brings, cuts_are_reached};
 pub use converge_reason::ConvergeReason;
 pub use laws::{
     converge_verdict_is_unique, converging_is_faultless, end_is_firm, orderly_runs_are_free,

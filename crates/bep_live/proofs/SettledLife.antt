@@ -5,14 +5,22 @@ use Rattle.bep_answer.specs.Exchange.{IsWhole}
 use Rattle.bep_answer.specs.declared.outcome.Outcome.{Outcome}
 use Rattle.bep_answer.specs.declared.outcome.Outcome.TheVariants as outcomes
 use Rattle.bep_document.specs.Reading.{Reading, Read, Refused}
+use Rattle.bep_fit.specs.declared.verdict.RunVerdict.{RunVerdict}
+use Rattle.bep_fit.specs.declared.verdict.RunVerdict.TheVariants.{Fits, Misfit}
 use Rattle.bep_machine.specs.Laws.{SettledStaysPut, SettledStaysSettled}
 use Rattle.bep_scenario.specs.Scenario.{Said, scenario_of}
 use Rattle.bep_tables.specs.Cut.{tables_of}
-use Rattle.bep_live.specs.Lived.{EndsLived, IsLiveOf, IsLiveOfBytes, LivesSettled, cut_in}
+use Rattle.bep_live.specs.Lived.{EndsLived, IsLiveOf, IsLiveOfBytes, LivesSettled, cut_in, outcome_under}
+
+-- settled is answered only where the logs fit and settled was found
+fits_and_found : (verdict : RunVerdict) (found outcome : Outcome) → outcome ≡ outcome_under verdict found → outcome ≡ outcomes.Settled → (count : ℕ) × (verdict ≡ Fits count) × (found ≡ outcomes.Settled)
+fits_and_found (Fits count) found outcome ended is = (count, refl, sym ended ∙ is)
+fits_and_found (Misfit object ticket) found outcome ended is = let e : outcomes.NotSettled ≡ outcomes.Settled = sym ended ∙ is in absurd (cc)
 
 settled_run : SettledStaysPut → SettledStaysSettled → (reading : Reading Said) (outcome : Outcome) (text : List ℕ) → IsLiveOf reading outcome text → outcome ≡ outcomes.Settled → LivesSettled reading
 settled_run put again (Read scenario) outcome text lived is =
-    let found = settled_under (cut_in lived.run) lived.end.rows outcome lived.end.report lived.end.audit is in
+    let fits = fits_and_found lived.verdict lived.found outcome lived.ended is in
+    let found = settled_under (cut_in lived.run) lived.end.rows lived.found lived.end.report lived.end.audit fits.2 in
     record {
       scenario = scenario;
       says = refl;
@@ -21,6 +29,8 @@ settled_run put again (Read scenario) outcome text lived is =
       leads = lived.leads;
       verdict = lived.verdict;
       judged = lived.judged;
+      count = fits.0;
+      fits = fits.1;
       rows = found.0;
       settled = found.2;
       stays_put = put (tables_of (cut_in lived.run)) found.0 found.2;

@@ -12,7 +12,7 @@ use Rattle.bep_document.specs.Reading.{Reading, Read, Refused}
 use Rattle.bep_fit.specs.Fit.{IsRunVerdict}
 use Rattle.bep_fit.specs.Replayed.{AreQuietLogs, AreResetOf}
 use Rattle.bep_fit.specs.declared.verdict.RunVerdict.{RunVerdict}
-use Rattle.bep_fit.specs.declared.verdict.RunVerdict.TheVariants.{Fits}
+use Rattle.bep_fit.specs.declared.verdict.RunVerdict.TheVariants.{Fits, Misfit}
 use Rattle.bep_machine.specs.Laws.{StaysSettled}
 use Rattle.bep_machine.specs.Laws as laws
 use Rattle.bep_model.specs.Settled.{IsSettled}
@@ -57,8 +57,13 @@ pub record IsJudged (run : RunState) (verdict : RunVerdict) : Type 0 where
   pub one_run : (count : ℕ) → verdict ≡ Fits count → IsRunOf run count
   pub stays : (count : ℕ) → verdict ≡ Fits count → StoresStay run
 
+-- Where the logs don't fit, the cut isn't known to be of one run, so it isn't answered that it is settled.
+abbrev pub outcome_under : RunVerdict → Outcome → Outcome
+outcome_under (Fits count) found = found
+outcome_under (Misfit object ticket) found = outcomes.NotSettled
+
 -- The steps are made. There is a run cut whose logs begin at the cluster to which they lead, and its cut is reported as the cut
--- of a scenario's end is. The last line is the verdict on its logs.
+-- of a scenario's end is. The last line is the verdict on its logs. What is answered is what was found, if they fit.
 pub record IsLived (scenario : Said) (outcome : Outcome) (text : List ℕ) : Type 0 where
   pub told : List ℕ
   pub run : RunState
@@ -66,7 +71,9 @@ pub record IsLived (scenario : Said) (outcome : Outcome) (text : List ℕ) : Typ
   pub verdict : RunVerdict
   pub judged : IsJudged run verdict
   pub report : List ℕ
-  pub end : IsEnd scenario.version (cut_in run) told outcome report
+  pub found : Outcome
+  pub end : IsEnd scenario.version (cut_in run) told found report
+  pub ended : outcome ≡ outcome_under verdict found
   pub reported : text ≡ report ++ run_line verdict
 
 -- the outcome and the text for what a document says: that, or the fault for which it is refused
@@ -99,8 +106,8 @@ IsLiveEndOfBytes bytes outcome text = IsLiveEndOf (scenario_of bytes) outcome te
 
 -- ---- a settled end
 
--- The scenario's steps are made. There is a run cut whose logs begin at the cluster to which they lead, and its cut is settled
--- under its winners: so that stays, after every list of further steps without local edits.
+-- The scenario's steps are made. There is a run cut whose logs begin at the cluster to which they lead and fit, and its cut is
+-- settled under its winners: so that stays, after every list of further steps without local edits.
 pub record LivesSettled (reading : Reading Said) : Type 0 where
   pub scenario : Said
   pub says : reading ≡ Read scenario
@@ -109,6 +116,8 @@ pub record LivesSettled (reading : Reading Said) : Type 0 where
   pub leads : LeadsOn scenario run told
   pub verdict : RunVerdict
   pub judged : IsJudged run verdict
+  pub count : ℕ
+  pub fits : verdict ≡ Fits count
   pub rows : List Row
   pub settled : IsSettled (tables_of (cut_in run)) rows
   pub stays_put : laws.StaysPut (tables_of (cut_in run)) rows

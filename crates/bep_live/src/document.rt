@@ -8,6 +8,7 @@ ghost use Rattle.bep_live.specs.Lived.{IsLiveEndOfBytes, IsLivedTo, cut_in};
 
 use crate::lines::push_run;
 use crate::living::{judge, lived};
+use crate::logs::{append, lines_on};
 use bep_answer::{Answer, Certified, Hinted, certify_cut, fault_line, hint_for};
 use bep_document::DocError;
 use bep_hints::Expected;
@@ -22,8 +23,8 @@ use std::sync::Wait;
 use std::thread::Threads;
 
 /// Reads a scenario, and writes the check document of a cut of its cluster, once threads have run it for so many turns each.
-/// What is told beside it is for the caller to write: the lines of refused steps and of the verdict on the logs of that very
-/// cut, and where the scenario is refused, a hint on where it is at fault. May wait.
+/// What is told beside it is for the caller to write: the lines of refused steps, of the verdict on the logs of that very
+/// cut and on these logs, and where the scenario is refused, a hint on where it is at fault. May wait.
 pub(crate) fn exchange_document<P: AllocGlobal + Threads + Wait + Sync, R: Read, W: Write>(
     rt: &P,
     reader: &mut R,
@@ -75,7 +76,9 @@ fn live_document<R: Threads + Wait + Sync>(
     let (run, mut told) = lived(rt, alloc, scenario, turns)?;
     let verdict = judge(&run);
     let document = document_of(alloc, version, &run)?;
+    let lines = lines_on(alloc, &verdict, &run)?;
     push_run(&mut told, verdict)?;
+    append(&mut told, lines.as_slice())?;
     Ok((document, lines_of(told)))
 }
 

@@ -16,6 +16,7 @@ mod answers;
 mod document;
 mod lines;
 mod living;
+mod logs;
 mod report;
 mod told;
 

@@ -1,6 +1,6 @@
-mod Kept
-mod Alike
-mod OnlyFacts
+pub mod Kept
+pub mod Alike
+pub mod OnlyFacts
 mod AsksAlike
 mod AskedOfParts
 mod Merged

@@ -25,5 +25,7 @@ pub use certificate::{push_certificate, push_certificate_2};
 pub use error::ReportError;
 pub use input::read_document;
 pub use output::write_all;
-pub use reporting::{push_firm_report, push_firm_report_by, push_report, push_report_by};
+pub use reporting::{
+    push_firm_report, push_firm_report_by, push_folders_by, push_report, push_report_by,
+};
 pub use written::{certificate_text, certificate_text_2, report};

@@ -106,6 +106,20 @@ fn push_verdict(text: &mut Vec<u8>, verdict: &Verdict<'_>) -> Result<(), AllocEr
     }
 }
 
+/// Appends a line for each folder of the cut, names rising, as each report ends. Fails for memory alone, and then the text is as
+/// before.
+pub fn push_folders_by(
+    alloc: Global,
+    text: &mut Vec<u8>,
+    cut: &Cut,
+    table: &Table<'_>,
+) -> Result<(), AllocError>
+    requires { IsGrouped (cut_listed cut.now) table.now }
+    ensures { AppendsWhole result text.old.items text.new.items (folders_text cut.now cut.now.folders) }
+{
+    push_folders(alloc, text, cut, table, cut.folders())
+}
+
 fn push_folders(
     alloc: Global,
     text: &mut Vec<u8>,

@@ -14,7 +14,7 @@ use Rattle.bep_words.specs.declared.mode.Extent.TheVariants.{All, Won}
 use Rattle.bep_words.specs.declared.mode.Goal.{Goal}
 use Rattle.bep_words.specs.declared.mode.Goal.TheVariants as goals
 use Rattle.bep_words.specs.declared.mode.Mode.{Mode}
-use Rattle.bep_words.specs.declared.mode.Mode.TheVariants.{Check, Firm, Certify, Explain, Run}
+use Rattle.bep_words.specs.declared.mode.Mode.TheVariants.{Check, Firm, Converge, Certify, Explain, Run}
 use Rattle.bep_words.specs.declared.mode.Under.{Under}
 use Rattle.bep_words.specs.declared.mode.Under.TheVariants.{Given, Winners}
 use Rattle.bep_words.specs.declared.turns.TheConstants.{MAX_TURNS}
@@ -35,6 +35,9 @@ abbrev pub audit_app : Text → App
 audit_app name = with_rule (new_app name) (flag (codes "certify"))
 
 -- the other subcommands
+abbrev pub converge_app : App
+converge_app = new_app (codes "converge")
+
 abbrev pub explain_app : App
 explain_app = with_rule (with_rule (with_rule (new_app (codes "explain")) (flag (codes "json"))) (flag (codes "firm"))) (flag (codes "certify"))
 
@@ -49,7 +52,8 @@ abbrev pub program : App
 program =
     let check = with_subcommand top_level (audit_app (codes "check")).top in
     let firm = with_subcommand check (audit_app (codes "firm")).top in
-    let certify = with_subcommand firm certify_app.top in
+    let converge = with_subcommand firm converge_app.top in
+    let certify = with_subcommand converge certify_app.top in
     let explain = with_subcommand certify explain_app.top in
     with_subcommand explain run_app.top
 
@@ -100,6 +104,7 @@ ending_of met = if is_set (codes "document") met then Document else Report
 abbrev pub Asks : List Text → Mode → Type 0
 Asks words (Check under) = (named words ≡ Some (codes "check")) × (under ≡ under_of (subcommand_of program words))
 Asks words (Firm under) = (named words ≡ Some (codes "firm")) × (under ≡ under_of (subcommand_of program words))
+Asks words Converge = named words ≡ Some (codes "converge")
 Asks words (Certify extent) = (named words ≡ Some (codes "certify")) × (extent ≡ extent_of (subcommand_of program words))
 Asks words (Explain goal under form) =
     (named words ≡ Some (codes "explain"))
@@ -111,6 +116,7 @@ Asks words (Run ending turns) =
 abbrev pub MakesFewTurns : Mode → Type 0
 MakesFewTurns (Check under) = ⊤
 MakesFewTurns (Firm under) = ⊤
+MakesFewTurns Converge = ⊤
 MakesFewTurns (Certify extent) = ⊤
 MakesFewTurns (Explain goal under form) = ⊤
 MakesFewTurns (Run ending turns) = turns ≤ MAX_TURNS

@@ -17,6 +17,8 @@ pub enum Mode {
     Check(Under),
     /// Ask whether the check document that comes on standard input is firm, under these rows.
     Firm(Under),
+    /// Ask whether the cut that comes on standard input converges.
+    Converge,
     /// Write the cut that comes on standard input as a check document, with the winners of these names.
     Certify(Extent),
     /// Tell all that keeps the check document that comes on standard input from this, under these rows, in this form.
@@ -83,6 +85,13 @@ const FIRM_HELP: &str =
      Exit status: 0 firm, 1 not firm, 2 document refused, 3 usage or help, 4 out of memory, \
      5 read or write fault";
 
+const CONVERGE_HELP: &str =
+    "The document FILE is a check document, whose certificate may be missing and isn't looked at: documents.md \
+     describes it, and reasons.md what converging is.\n\n\
+     Example: syncaudit converge < examples/file-not-pulled-yet.json\n\n\
+     Exit status: 0 converging, 1 not converging, 2 document refused, 3 usage or help, 4 out of memory, \
+     5 read or write fault";
+
 const CERTIFY_HELP: &str =
     "The document FILE is a check document, whose certificate may be missing and isn't looked at: documents.md \
      describes it.\n\n\
@@ -132,8 +141,16 @@ fn command<'a>(alloc: Global) -> Result<Command<'a>, AllocError>
         FIRM_HELP,
     )?;
     let firms = checks.subcommand(firm)?;
+    let converge = plain_command(
+        alloc,
+        "converge",
+        "Says whether the cut on standard input comes right by itself, and if not, why",
+        "syncaudit converge < FILE",
+        CONVERGE_HELP,
+    );
+    let converges = firms.subcommand(converge)?;
     let certify = certify_command(alloc)?;
-    let certifies = firms.subcommand(certify)?;
+    let certifies = converges.subcommand(certify)?;
     let explain = explain_command(alloc)?;
     let explains = certifies.subcommand(explain)?;
     let run = run_command(alloc)?;
@@ -269,6 +286,7 @@ pub fn mode_of<'a, S: AsStr>(alloc: Global, words: &'a [S]) -> Result<Mode, Erro
     match matches.subcommand_name() {
         Some("check") => Ok(Mode::Check(under_of(&matches))),
         Some("firm") => Ok(Mode::Firm(under_of(&matches))),
+        Some("converge") => Ok(Mode::Converge),
         Some("certify") => Ok(Mode::Certify(extent_of(&matches))),
         Some("explain") => Ok(Mode::Explain(
             goal_of(&matches),

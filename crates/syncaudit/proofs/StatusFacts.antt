@@ -11,7 +11,7 @@ use Rattle.bep_words.specs.declared.mode.Extent.TheVariants.{All, Won}
 use Rattle.bep_words.specs.declared.mode.Goal.TheVariants.{Settled}
 use Rattle.bep_words.specs.declared.mode.Goal.TheVariants as goals
 use Rattle.bep_words.specs.declared.mode.Mode.{Mode}
-use Rattle.bep_words.specs.declared.mode.Mode.TheVariants.{Check, Firm, Certify, Explain, Run}
+use Rattle.bep_words.specs.declared.mode.Mode.TheVariants.{Check, Firm, Converge, Certify, Explain, Run}
 use Rattle.bep_words.specs.declared.mode.Under.TheVariants.{Given, Winners}
 
 done_without_memory : (mode : Mode) (unread held : Option (List ℕ)) (status : ℕ) → status ≡ status_of (Err Memory) → IsDone mode unread unread held held status
@@ -19,6 +19,7 @@ done_without_memory (Check Given) unread held status told = record { answer = Er
 done_without_memory (Check Winners) unread held status told = record { answer = Err Memory; told = told; done = Keeps-refl held }
 done_without_memory (Firm Given) unread held status told = record { answer = Err Memory; told = told; done = Keeps-refl held }
 done_without_memory (Firm Winners) unread held status told = record { answer = Err Memory; told = told; done = Keeps-refl held }
+done_without_memory Converge unread held status told = record { answer = Err Memory; told = told; done = Keeps-refl held }
 done_without_memory (Certify All) unread held status told = record { answer = Err Memory; told = told; done = Keeps-refl held }
 done_without_memory (Certify Won) unread held status told = record { answer = Err Memory; told = told; done = Keeps-refl held }
 done_without_memory (Explain Settled Given form) unread held status told = record { answer = Err Memory; told = told; done = Keeps-refl held }
@@ -52,6 +53,7 @@ run_without_memory ask words unread held status told =
       settled_under_winners = λ asks zero. absurd (isnt zero);
       firm = λ asks zero. absurd (isnt zero);
       firm_under_winners = λ asks zero. absurd (isnt zero);
+      converging = λ asks zero. absurd (isnt zero);
       ends_settled = λ asks zero. absurd (isnt zero);
       lives_settled = λ turns asks some zero. absurd (isnt zero);
     }

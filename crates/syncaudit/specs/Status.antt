@@ -7,6 +7,8 @@ use Rattle.bep_answer.specs.Answer.{SaysSettled}
 use Rattle.bep_answer.specs.Firm.{SaysFirm}
 use Rattle.bep_answer.specs.Status.{IsCertificateTold, IsFirmTold, IsFirmToldUnderWinners, IsPartTold, IsTold, IsToldUnderWinners, status_of, usage}
 use Rattle.bep_answer.specs.UnderWinners.{SaysFirmUnderWinners, SaysSettledUnderWinners}
+use Rattle.bep_converge_answer.specs.Convergence.{SaysConverging}
+use Rattle.bep_converge_answer.specs.Status.{IsConvergeTold}
 use Rattle.bep_lines.specs.declared.form.Form.{Form}
 use Rattle.bep_live.specs.Lived.{EndsLived}
 use Rattle.bep_live.specs.Told.{IsLiveEndTold, IsLiveTold}
@@ -26,7 +28,7 @@ use Rattle.bep_words.specs.declared.mode.Goal.{Goal}
 use Rattle.bep_words.specs.declared.mode.Goal.TheVariants.{Settled}
 use Rattle.bep_words.specs.declared.mode.Goal.TheVariants as goals
 use Rattle.bep_words.specs.declared.mode.Mode.{Mode}
-use Rattle.bep_words.specs.declared.mode.Mode.TheVariants.{Check, Firm, Certify, Explain, Run}
+use Rattle.bep_words.specs.declared.mode.Mode.TheVariants.{Check, Firm, Converge, Certify, Explain, Run}
 use Rattle.bep_words.specs.declared.mode.Under.{Under}
 use Rattle.bep_words.specs.declared.mode.Under.TheVariants.{Given, Winners}
 
@@ -79,6 +81,7 @@ IsExplaining goal Winners form = IsExplainingUnderWinners goal form
 abbrev pub IsDone : Mode → Option (List ℕ) → Option (List ℕ) → Option (List ℕ) → Option (List ℕ) → ℕ → Type 0
 IsDone (Check under) = IsChecking under
 IsDone (Firm under) = IsFirming under
+IsDone Converge = IsConvergeTold
 IsDone (Certify extent) = IsCertifying extent
 IsDone (Explain goal under form) = IsExplaining goal under form
 IsDone (Run ending turns) = IsRunning ending turns
@@ -106,6 +109,7 @@ pub record IsProgramRun (words : List Text) (unread left held now : Option (List
   pub settled_under_winners : Asks words (Check Winners) → status ≡ 0 → SaysSettledUnderWinners unread left
   pub firm : Asks words (Firm Given) → status ≡ 0 → SaysFirm unread left
   pub firm_under_winners : Asks words (Firm Winners) → status ≡ 0 → SaysFirmUnderWinners unread left
+  pub converging : Asks words Converge → status ≡ 0 → SaysConverging unread left
   pub ends_settled : Asks words (Run Report 0) → status ≡ 0 → EndsSettled unread left
   pub lives_settled : (turns : ℕ) → Asks words (Run Report turns) → 0 < turns → status ≡ 0 → EndsLived unread left
 

@@ -1,5 +1,5 @@
-//! `syncaudit`: says whether a Syncthing cluster is settled, or firm, and why not, at first or in full; and makes the
-//! certificate that this rests on.
+//! `syncaudit`: says whether a Syncthing cluster is settled, or firm, and why not, at first or in full; whether it comes right
+//! by itself; and makes the certificate that settled rests on.
 #![tactic(auto)]
 
 mod run;

@@ -7,18 +7,20 @@ ghost use Rattle.clap.specs.Words.{fault_of};
 ghost use Rattle.bep_answer.specs.Answer.{SaysSettled};
 ghost use Rattle.bep_answer.specs.Firm.{SaysFirm};
 ghost use Rattle.bep_answer.specs.UnderWinners.{SaysFirmUnderWinners, SaysSettledUnderWinners};
+ghost use Rattle.bep_converge_answer.specs.Convergence.{SaysConverging};
 ghost use Rattle.bep_live.specs.Lived.{EndsLived};
 ghost use Rattle.bep_play.specs.Played.{EndsSettled};
 ghost use Rattle.bep_words.specs.Mode.{Asks, program};
 ghost use Rattle.syncaudit.specs.Status.{IsCertifying, IsChecking, IsEnd, IsEnding, IsExplaining, IsExplainingGiven, IsExplainingUnderWinners, IsFirming, IsFollowed, IsLiveEnding, IsProgramRun, IsRunning, IsUnfollowed, IsWithoutWords, status_without};
 ghost use Rattle.bep_words.specs.declared.mode.Ending.TheVariants.{Report};
-ghost use Rattle.bep_words.specs.declared.mode.Mode.TheVariants.{Check, Firm, Run};
+ghost use Rattle.bep_words.specs.declared.mode.Mode.TheVariants.{Check, Converge, Firm, Run};
 ghost use Rattle.bep_words.specs.declared.mode.Under.TheVariants.{Given, Winners};
 
 use bep_answer::{
     USAGE, certify_and_tell, certify_partly_and_tell, check_and_tell, check_under_winners_and_tell,
     end, firm_and_tell, firm_under_winners_and_tell,
 };
+use bep_converge_answer::converge_and_tell;
 use bep_explain::{
     explain_and_tell, explain_firm_and_tell, explain_firm_under_winners_and_tell,
     explain_under_winners_and_tell,
@@ -92,6 +94,8 @@ pub fn run<P: AllocGlobal + Eprint + Threads + Wait + Sync, R: Read, W: Write, S
         → result ≡ 0 → SaysFirm (R.remaining reader.old) (R.remaining reader.new) }
     ensures firm_under_winners { Asks (map S.text words.entry.now) (Firm Winners)
         → result ≡ 0 → SaysFirmUnderWinners (R.remaining reader.old) (R.remaining reader.new) }
+    ensures converging { Asks (map S.text words.entry.now) Converge
+        → result ≡ 0 → SaysConverging (R.remaining reader.old) (R.remaining reader.new) }
     ensures ends_settled { Asks (map S.text words.entry.now) (Run Report 0)
         → result ≡ 0 → EndsSettled (R.remaining reader.old) (R.remaining reader.new) }
     ensures lives_settled { (turns : ℕ) → Asks (map S.text words.entry.now) (Run Report turns) → 0 < turns
@@ -101,6 +105,7 @@ pub fn run<P: AllocGlobal + Eprint + Threads + Wait + Sync, R: Read, W: Write, S
     match mode_told(rt, words) {
         Ok(Mode::Check(under)) => check(rt, under, reader, writer),
         Ok(Mode::Firm(under)) => firm(rt, under, reader, writer),
+        Ok(Mode::Converge) => converge_and_tell(rt, reader, writer),
         Ok(Mode::Certify(extent)) => certify(rt, extent, reader, writer),
         Ok(Mode::Explain(goal, under, form)) => explain(rt, goal, under, form, reader, writer),
         Ok(Mode::Run(ending, turns)) => run_scenario(rt, ending, turns, reader, writer),

@@ -1,5 +1,6 @@
-use Rattle.std.proofs.Common.{subst}
+use Rattle.std.proofs.Common.{◌++◌, ◌∙◌, ℕ, List, ap, subst}
 use Rattle.bep_answer.specs.Beside.{AreLines}
+use Rattle.bep_live.specs.Lines.{run_line}
 use Rattle.bep_live.proofs.document.live_document.Goals as goal
 
 pub returns-clause-beside : goal.returns-clause-beside
@@ -12,5 +13,10 @@ returns-clause-beside g c = record {
     judged = c.judge-verdict.ensures;
     certificate = c.in_ok-document.ensures;
   };
-  lines = subst (λ text. AreLines text c.lines_of.result) c.in_ok-push_run.ensures.line c.lines_of.ensures;
+  lines =
+      let told = c.in_ok-run.told.items ++ run_line c.judge-verdict.result in
+      subst (λ text. AreLines text c.lines_of.result)
+      (c.in_ok-append.ensures.line ∙ ap (λ (text : List ℕ). text ++ c.as_slice.result.now) c.in_ok-push_run.ensures.line
+      ∙ ap (λ (lines : List ℕ). told ++ lines) (c.as_slice.ensures.value ∙ c.in_ok-lines.ensures.lines))
+      c.lines_of.ensures;
 }

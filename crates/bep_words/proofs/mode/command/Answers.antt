@@ -7,6 +7,7 @@ pub returns : goal.returns
 returns c =
     let checking = c.in_ok-checks.ensures.shape c.in_ok-check.ensures.local ∙ ap₂ with_subcommand c.in_ok-top.ensures (ap (λ (a : App). a.top) c.in_ok-check.ensures.shape) in
     let firming = c.in_ok-firms.ensures.shape c.in_ok-firm.ensures.local ∙ ap₂ with_subcommand checking (ap (λ (a : App). a.top) c.in_ok-firm.ensures.shape) in
-    let certifying = c.in_ok-certifies.ensures.shape c.in_ok-certify.ensures.local ∙ ap₂ with_subcommand firming (ap (λ (a : App). a.top) c.in_ok-certify.ensures.shape) in
+    let converging = c.in_ok-converges.ensures.shape c.plain_command-converge.ensures.local ∙ ap₂ with_subcommand firming (ap (λ (a : App). a.top) c.plain_command-converge.ensures.shape) in
+    let certifying = c.in_ok-certifies.ensures.shape c.in_ok-certify.ensures.local ∙ ap₂ with_subcommand converging (ap (λ (a : App). a.top) c.in_ok-certify.ensures.shape) in
     let explaining = c.in_ok-explains.ensures.shape c.in_ok-explain.ensures.local ∙ ap₂ with_subcommand certifying (ap (λ (a : App). a.top) c.in_ok-explain.ensures.shape) in
-    IfOk-weaker c.subcommand-5.result _ _ (λ made h. h.shape c.in_ok-run.ensures.local ∙ ap₂ with_subcommand explaining (ap (λ (a : App). a.top) c.in_ok-run.ensures.shape)) c.subcommand-5.ensures
+    IfOk-weaker c.subcommand-6.result _ _ (λ made h. h.shape c.in_ok-run.ensures.local ∙ ap₂ with_subcommand explaining (ap (λ (a : App). a.top) c.in_ok-run.ensures.shape)) c.subcommand-6.ensures

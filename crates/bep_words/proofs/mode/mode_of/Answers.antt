@@ -11,6 +11,9 @@ returns-in-Some-check-clause-faults g c = no_fault _ _ c.in_ok-command.ensures c
 pub returns-in-Some-firm-clause-faults : goal.returns-in-Some-firm-clause-faults
 returns-in-Some-firm-clause-faults g c = no_fault _ _ c.in_ok-command.ensures c.in_ok-matches.ensures.kinds
 
+pub returns-in-Some-converge-clause-faults : goal.returns-in-Some-converge-clause-faults
+returns-in-Some-converge-clause-faults g c = no_fault _ _ c.in_ok-command.ensures c.in_ok-matches.ensures.kinds
+
 pub returns-in-Some-certify-clause-faults : goal.returns-in-Some-certify-clause-faults
 returns-in-Some-certify-clause-faults g c = no_fault _ _ c.in_ok-command.ensures c.in_ok-matches.ensures.kinds
 
@@ -35,6 +38,12 @@ returns-in-Some-firm-clause-asked g c =
       name_told _ _ _ c.in_ok-command.ensures c.in_ok-matches.ensures.matches ∙ sym lent ∙ ap Some named,
       c.under_of-in-Some-firm.ensures ∙ ap under_of (rows_told _ _ _ c.in_ok-command.ensures c.in_ok-matches.ensures.matches),
     )
+
+pub returns-in-Some-converge-clause-asked : goal.returns-in-Some-converge-clause-asked
+returns-in-Some-converge-clause-asked g c =
+    let lent = sym (ap (option_map (λ s. s.now)) c.in-Some-converge.is) ∙ c.subcommand_name.ensures in
+    let named : c.in-Some-converge.field-0.now ≡ codes "converge" = search (rules, c.in-Some-converge.is-converge) in
+    name_told _ _ _ c.in_ok-command.ensures c.in_ok-matches.ensures.matches ∙ sym lent ∙ ap Some named
 
 pub returns-in-Some-certify-clause-asked : goal.returns-in-Some-certify-clause-asked
 returns-in-Some-certify-clause-asked g c =
@@ -81,14 +90,18 @@ unreachable-requires g c =
                 let same : w.in_default.field-0.now ≡ codes "firm" = cc in
                 w.in_default.not-firm (search (rules, same, w.in_default.is))
             | inr (inr (inl name)) ↦
+                let one : Some w.in_default.field-0.now ≡ Some (codes "converge") = lent ∙ name in
+                let same : w.in_default.field-0.now ≡ codes "converge" = cc in
+                w.in_default.not-converge (search (rules, same, w.in_default.is))
+            | inr (inr (inr (inl name))) ↦
                 let one : Some w.in_default.field-0.now ≡ Some (codes "certify") = lent ∙ name in
                 let same : w.in_default.field-0.now ≡ codes "certify" = cc in
                 w.in_default.not-certify (search (rules, same, w.in_default.is))
-            | inr (inr (inr (inl name))) ↦
+            | inr (inr (inr (inr (inl name)))) ↦
                 let one : Some w.in_default.field-0.now ≡ Some (codes "explain") = lent ∙ name in
                 let same : w.in_default.field-0.now ≡ codes "explain" = cc in
                 w.in_default.not-explain (search (rules, same, w.in_default.is))
-            | inr (inr (inr (inr name))) ↦
+            | inr (inr (inr (inr (inr name)))) ↦
                 let one : Some w.in_default.field-0.now ≡ Some (codes "run") = lent ∙ name in
                 let same : w.in_default.field-0.now ≡ codes "run" = cc in
                 w.in_default.not-run (search (rules, same, w.in_default.is))

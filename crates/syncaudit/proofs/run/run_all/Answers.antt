@@ -16,6 +16,7 @@ returns-in-Ok g c =
       settled_under_winners = c.run.ensures.settled_under_winners;
       firm = c.run.ensures.firm;
       firm_under_winners = c.run.ensures.firm_under_winners;
+      converging = c.run.ensures.converging;
       ends_settled = c.run.ensures.ends_settled;
       lives_settled = c.run.ensures.lives_settled;
     })

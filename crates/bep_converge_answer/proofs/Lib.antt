@@ -1,0 +1,2 @@
+pub mod ConvergingSaid
+pub mod ProgressTold

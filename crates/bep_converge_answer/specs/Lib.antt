@@ -1,0 +1,4 @@
+pub mod Lines
+pub mod Convergence
+pub mod Status
+pub mod inner

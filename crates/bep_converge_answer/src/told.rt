@@ -1,0 +1,59 @@
+//! What is told on standard error beside the answer, and the exit status.
+ghost use Rattle.std.specs.Prelude.{◌≡◌};
+ghost use Rattle.bep_answer.specs.Status.{without_hint};
+ghost use Rattle.bep_converge_answer.specs.Convergence.{SaysConverging};
+ghost use Rattle.bep_converge_answer.specs.Status.{IsConvergeTold};
+ghost use Rattle.bep_converge_answer.specs.Status as spec;
+
+use crate::answer::ConvergenceOfCut;
+use crate::outcome::Convergence;
+use crate::status::converge_status_of;
+use bep_answer::{Beside, Hinted, exchange};
+use bep_converge::prevailing_goes_on;
+use bep_report::ReportError;
+use std::io::{Read, Write};
+
+/// Asks whether the cut of a document converges, and writes the report; tells a hint on where a refused document is at fault, or
+/// why there is no answer, on standard error, and answers the exit status. The certificate may be missing, and isn't looked at.
+pub fn converge_and_tell<P: AllocGlobal + Eprint, R: Read, W: Write>(
+    rt: &P,
+    reader: &mut R,
+    writer: &mut W,
+) -> u8
+    ensures told { IsConvergeTold (R.remaining reader.old) (R.remaining reader.new) (W.contents writer.old) (W.contents writer.new) result }
+    ensures converging { result ≡ 0 → SaysConverging (R.remaining reader.old) (R.remaining reader.new) }
+{
+    prevailing_goes_on();
+    end_converge(rt, exchange(rt.alloc(), ConvergenceOfCut, reader, writer))
+}
+
+// Tells what was answered beside the outcome, if there is anything, or why there is no answer, and answers the exit status.
+fn end_converge<P: Eprint>(rt: &P, answer: Result<Hinted<Convergence>, ReportError>) -> u8
+    ensures { result ≡ spec.converge_status_of (without_hint answer) }
+{
+    match answer {
+        Ok((outcome, beside)) => {
+            if let Some(beside) = beside {
+                tell_beside(rt, &beside);
+            }
+            converge_status_of(Ok(outcome))
+        }
+        Err(error) => {
+            let _ = eprintln!(rt; "{error}");
+            converge_status_of(Err(error))
+        }
+    }
+}
+
+// Tells what was answered beside the outcome.
+fn tell_beside<P: Eprint>(rt: &P, beside: &Beside) {
+    match beside {
+        Beside::Hint(hint) => {
+            let sentence = hint.sentence();
+            let _ = eprintln!(rt; "{sentence}");
+        }
+        Beside::Lines(lines) => {
+            let _ = eprint!(rt; "{lines}");
+        }
+    }
+}

@@ -1,0 +1,10 @@
+pub mod WeightFacts
+pub mod LineFacts
+pub mod KnownFacts
+pub mod NameSays
+pub mod DeviceReasons
+pub mod AtName
+pub mod HinderWalk
+pub mod SoManyFacts
+pub mod BehindFacts
+pub mod ProgressFacts

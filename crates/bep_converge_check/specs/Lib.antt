@@ -1,0 +1,4 @@
+pub mod Hindrance
+pub mod SoMany
+pub mod Progress
+pub mod inner

@@ -1,0 +1,3 @@
+mod MakesCut
+mod Found
+mod Made

@@ -1,0 +1,13 @@
+use Rattle.std.proofs.Common.{rules, tests}
+use Rattle.std.proofs.lemmas.Iterator.{YieldsList-from_slice, cases_from_all}
+use Rattle.bep_tables.specs.declared.share.Share.{Share}
+use Rattle.bep_audit.proofs.ListFacts.{each_exactly}
+use Rattle.bep_row.specs.Fits.{IsShareFit}
+use Rattle.bep_row.specs.Row.{cell_of}
+use Rattle.bep_row.proofs.fits.are_shares_fit.Goals as goal
+
+pub returns : goal.returns
+returns c =
+    let P = λ (share : Share). IsShareFit c.args.row.now (cell_of c.args.row.now.devices share.device) share in
+    each_exactly P c.all.result c.args.shares.now
+    (cases_from_all _ _ _ P (λ x. ¬ P x) c.all.ensures.ran (YieldsList-from_slice c.args.shares.now cc) (λ x q k. search (rules, tests)) (λ x q k. search (rules, tests)))

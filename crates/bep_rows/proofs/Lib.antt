@@ -1,0 +1,6 @@
+mod Kept
+mod Order
+mod Whole
+mod Reading
+mod AllRows
+mod ListRead

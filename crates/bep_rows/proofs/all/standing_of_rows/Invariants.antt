@@ -1,0 +1,6 @@
+use Rattle.std.proofs.Common.{take}
+use Rattle.bep_rows.proofs.ListRead.{IsListRead}
+use Rattle.bep_rows.proofs.all.standing_of_rows.Given as goal
+
+abbrev pub invariant-loop-row : goal.invariant-loop-row
+invariant-loop-row l = IsListRead l.header (take l.row-index l.rows) l.stream

@@ -1,0 +1,5 @@
+pub mod Names
+pub mod Standing
+pub mod Stream
+pub mod Row
+pub mod AllRows

@@ -1,0 +1,21 @@
+//! A cut read name by name: what is answered of each name by itself, and what these answers say together of the whole.
+//!
+//! ```rust
+//! let mut stream = Stream::new();
+//! let here = standing_of_row(alloc, &header, &row)?;
+//! stream.take(row.folder.copy(alloc)?, row.name.copy(alloc)?, here)?;
+//! let standing = stream.standing();
+//! ```
+#![tactic(auto)]
+
+mod all;
+mod laws;
+mod row;
+mod standing;
+mod stream;
+
+pub use all::standing_of_rows;
+pub use laws::rows_make_a_cut;
+pub use row::{RowError, standing_of_row};
+pub use standing::{Standing, standing_of};
+pub use stream::{NotAbove, Stream};

@@ -1,0 +1,5 @@
+//! Tests of names that are read one by one, over public calls.
+#![tactic(auto)]
+
+#[cfg(test)]
+mod tests;

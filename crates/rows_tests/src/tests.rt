@@ -1,0 +1,3 @@
+//! A module for each crate, or two.
+mod row;
+mod stream;
