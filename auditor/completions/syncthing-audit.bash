@@ -4,17 +4,21 @@
 # The flags of each command.
 _syncthing_audit_flags() {
   case $1 in
-    part) echo '--home --data --folder --names --slice --jobs --about --begin --end --tokens --heed-input --rescan --still --leave-out -o --help' ;;
-    run) echo '--data --folder --names --slice --jobs --leave-out --lines --json --syncaudit --still --rescan --remote-program --dry-run --help' ;;
-    check) echo '--home --data --folder --names --slice --jobs --leave-out --bytes --lines --json --syncaudit --help' ;;
-    export) echo '--home --data --folder --names --slice --jobs --leave-out --bytes --into --help' ;;
+    part) echo '--observer --home --data --folder --names --slice --jobs --about --begin --end --tokens --heed-input --rescan --still --strict --leave-out --sign --paths -o --help' ;;
+    run) echo '--observer --data --folder --names --slice --jobs --strict --leave-out --lines --json --syncaudit --still --rescan --remote-program --paths --dry-run --history --help' ;;
+    check) echo '--observer --home --data --folder --names --slice --jobs --strict --leave-out --bytes --allowed-signers --lines --json --syncaudit --history --help' ;;
+    observe) echo '--init --home --folder --names --slice --jobs --records --listen --disk --still --into --history --strict --leave-out --lines --json --syncaudit --help' ;;
+    disk) echo '--after --block-size --names --slice --jobs --config --marker --paths --sign -o --help' ;;
+    export) echo '--observer --home --data --folder --names --slice --jobs --strict --leave-out --bytes --allowed-signers --into --help' ;;
+    watch) echo '--jobs --still --syncaudit --help' ;;
     sum) echo '--lines --json --help' ;;
+    find) echo '--history --folder --jobs --help' ;;
   esac
 }
 
 # Kinds with commas between: the last one is completed.
 _syncthing_audit_kinds() {
-  local kinds='ignored unreadable changing special names targets records rescan large absent encrypted unshared'
+  local kinds='ignored unreadable changing special names targets records rescan large absent encrypted unshared moment unknown'
   local before=
   [[ $1 != *,* ]] || before=${1%,*},
   compgen -P "$before" -W "$kinds" -- "${1##*,}"
@@ -26,18 +30,18 @@ _syncthing_audit() {
   local command=${COMP_WORDS[1]}
   COMPREPLY=()
   if [ "$COMP_CWORD" = 1 ]; then
-    mapfile -t COMPREPLY < <(compgen -W 'part check run export sum --help --version' -- "$word")
+    mapfile -t COMPREPLY < <(compgen -W 'part check run observe watch disk export sum find --help --version' -- "$word")
     return
   fi
   case $before in
-    --home | --data | --into) mapfile -t COMPREPLY < <(compgen -d -- "$word") ;;
-    --syncaudit | --tokens | -o) mapfile -t COMPREPLY < <(compgen -f -- "$word") ;;
+    --home | --data | --into | --history) mapfile -t COMPREPLY < <(compgen -d -- "$word") ;;
+    --syncaudit | --tokens | --sign | --allowed-signers | --disk | --config | -o) mapfile -t COMPREPLY < <(compgen -f -- "$word") ;;
     --leave-out) mapfile -t COMPREPLY < <(_syncthing_audit_kinds "$word") ;;
-    --folder | --names | --slice | --jobs | --still | --remote-program) ;;
+    --folder | --names | --slice | --jobs | --still | --remote-program | --listen | --observer | --after | --block-size | --marker) ;;
     *)
       if [[ $word == -* ]]; then
         mapfile -t COMPREPLY < <(compgen -W "$(_syncthing_audit_flags "$command")" -- "$word")
-      elif [ "$command" = sum ] || [ "$command" = run ]; then
+      elif [ "$command" = sum ] || [ "$command" = find ] || [ "$command" = run ]; then
         mapfile -t COMPREPLY < <(compgen -d -- "$word")
       elif [ "$command" = check ] || [ "$command" = export ]; then
         mapfile -t COMPREPLY < <(compgen -f -X '!*.part' -- "$word"; compgen -d -- "$word")

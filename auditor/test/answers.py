@@ -40,8 +40,7 @@ class Answers:
         self.assertEqual([line for line in lines if line.startswith("text")], [f"text  (in {FOLDER}, 5 bytes)"])
         for told in (f"  {self.label(self.two)}: other bytes on the disk; size and time are as recorded",
                      "    block 0 differs (1 of 1 block of 128 KiB; the first is block 0)", f"  as recorded on: {self.label(self.one)}",
-                     "  to do: Syncthing won't repair it, and sends these bytes to all once another device fetches the\n"
-                     f"         file from {self.label(self.two)}. Before that, copy it from {self.label(self.one)} to {self.label(self.two)} with "):
+                     f"({self.label(self.two)}: it has other", f"to do: the steps for it above, behind 'to do in': all devices then have what {self.label(self.one)} has now.\n"):
             self.assertIn(told, text)
 
     def test_a_person_reads_of_a_rename(self):
@@ -54,8 +53,8 @@ class Answers:
             new.rename(old)
         self.assertEqual(status, 1)
         entries = {entry.split("  (in ")[0]: entry for entry in text.split("\n\n")}
-        self.assertIn("  it seems to be renamed to renamed: the bytes are the same\n", entries["folder/large"])
-        self.assertIn("  it seems to be renamed from folder/large: the bytes are the same\n", entries["renamed"])
+        self.assertIn("  it seems to be renamed to renamed: the recorded bytes are the same\n", entries["folder/large"])
+        self.assertIn("  it seems to be renamed from folder/large: the recorded bytes are the same\n", entries["renamed"])
 
     def test_a_program_reads_the_same(self):
         with self.other_bytes():

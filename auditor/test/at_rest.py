@@ -87,7 +87,7 @@ class ScanUnderWay(Live):
             threading.Timer(5, let_end).start()
             ran = self.run_on("--still", "60", "--lines")
         self.assertEqual((ran.returncode, "text" in self.moving(ran.stdout.splitlines())), (6, True), ran.stdout + ran.stderr)
-        self.assertNotIn("not known to be firm", ran.stdout)
+        self.assertNotIn(": busy: ", ran.stdout)
 
     def test_a_syncthing_that_cannot_be_asked(self):
         """Its configuration names another address than that at which it listens."""

@@ -61,7 +61,8 @@ class RotWhereAttributesAreScanned(WhereAttributesAreScanned):
 
     def test_a_scan_may_see_them_and_does(self):
         self.assert_told("size and time are as recorded, but a scan of owners or attributes may see it",
-                         "before Syncthing scans there (the scan may send these bytes to all), copy it from")
+                         "it isn't known what happens: owners or extended attributes are scanned, which the forecast leaves out",
+                         f"to have again what {self.two.id[:7]} recorded, copy elsewhere first what stands there, if it may be right, and copy it from")
         self.start()
         self.two.scan()
         wait_until("the other bytes are on the other device", lambda: text_of(self.one.files / "text") == "HELLO")
@@ -74,7 +75,7 @@ class RotThatAScanDrops(WhereAttributesAreScanned):
     kinds = {"two": "receiveonly"}
 
     def test_no_local_change_is_told(self):
-        told = ("size and time are as recorded, so no scan sees it", "Syncthing won't repair it: copy it from")
+        told = ("size and time are as recorded, so no scan sees it", f"to have again what {self.two.id[:7]} recorded, copy elsewhere first")
         self.assert_told(*told)
         self.start()
         self.two.scan()
@@ -88,7 +89,12 @@ class RotThatAScanDrops(WhereAttributesAreScanned):
 class RotWithAttributesThatAnOldChangeMeets(late_rot.RotThatAnOldChangeMeets, WhereAttributesAreScanned):
     """A device that is behind with the rotten files."""
 
-    takes = "may take"
+    def assert_told(self, name):
+        """Scans look at attributes, so nothing is foretold."""
+        entry, first = self.entry(name)
+        self.assertIn("it isn't known what happens: owners or extended attributes are scanned", entry)
+        self.assertIn("before Syncthing starts or scans on any of these devices, copy elsewhere what is to stay of what stands on ", entry)
+        self.assertTrue(first.startswith(self.label(self.two)))
 
     def rot(self, name):
         late_rot.LateRot.rot(self, name)
@@ -179,13 +185,10 @@ class AttributesOfATouchedFile(Synchronised):
         super().configure()
 
     def test_the_others_lose_them_where_the_second_device_is_of_1_19(self):
-        one, two = self.one.id[:7], self.two.id[:7]
         forgets = version_of(self.two.program).startswith("syncthing v1.19")
         self.assertEqual(self.marks(self.one), self.due("blue"))
         self.rot(KEPT)
-        text = " ".join(self.answer()[1].split())
-        told = f"let Syncthing scan: it sends them to all. Scans on {two} record no owners and attributes: touched there, the file loses those that it has on {one}."
-        self.assertEqual((told in text, " loses " in text), (forgets, forgets), text)
+        self.assertIn("it isn't known what happens: owners or extended attributes are scanned", " ".join(self.answer()[1].split()))
         (self.two.files / KEPT).touch()
         self.run_until_in_step()
         self.assertEqual(text_of(self.one.files / KEPT), text_of(self.two.files / KEPT))

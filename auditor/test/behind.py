@@ -20,6 +20,7 @@ class Behind(Exporting):
 
     kind = "sendreceive"
     texts = ("lost", "own", "touched", "back", "written", "dropped", "kept", "copied", "rotten")
+    all_names = (*texts, "folder", "folder/lost", "empty", "directory", "seeded")
 
     @classmethod
     def synchronise(cls):
@@ -47,7 +48,7 @@ class Behind(Exporting):
         cls.two.configure(cls.devices, kind=cls.kind)
         cls.change_one()
         cls.change_two()
-        cls.told = cls.entries()
+        cls.told, cls.fates = cls.entries(), cls.foretold()
 
     @classmethod
     def change_one(cls):
@@ -91,18 +92,6 @@ class Behind(Exporting):
         ran = cls.on_homes("check", [device.home for device in cls.devices], "--syncaudit", cls.auditor)
         return {entry.split("  (in ")[0].strip("\n"): " ".join(entry.split()) for entry in ran.stdout.split("\n\n")}
 
-    def assert_told(self, name, *texts):
-        """These stand in the entry of a name, which tells nobody that all devices delete it, or get it."""
-        for text in texts:
-            self.assertIn(text, self.told[name])
-        for text in ("all devices delete", "goes to all"):
-            self.assertNotIn(text, self.told[name])
-
-    def assert_told_of_the_same(self):
-        """What someone copied by hand is no conflict."""
-        for name in ("copied", "seeded", "directory"):
-            self.assert_told(name, "what stands there is what the others have, so nothing is copied, and no conflict copy is made")
-
     def run_both(self, are_through):
         """Has both devices run until something holds of them, and they have scanned again."""
         self.start()
@@ -127,16 +116,6 @@ class BehindAndSends(Behind):
     """The second device sends and receives."""
 
     def test_what_is_told_comes_so(self):
-        two, brings = self.two.id[:7], "the other devices keep it, and Syncthing brings what they have to"
-        for name in ("lost", "folder/lost", "empty"):
-            self.assert_told(name, f"a change goes before a deletion: {brings} {two}.")
-        self.assert_told("own", brings, f"What {two} recorded last of it no other device has")
-        for name in ("touched", "back", "written"):
-            self.assert_told(name, "Syncthing keeps the one that was modified later, and the other one as a conflict copy")
-        self.assert_told_of_the_same()
-        self.assert_told("rotten", f"once {two} takes what is newest, these bytes are gone, without a conflict copy: copy elsewhere first")
-        self.assertIn("the change goes before the deletion, and then to all", self.told["dropped"])
-        self.assertIn("and then all devices delete it", self.told["kept"])
         self.run_both(lambda: all((device.files / "touched").is_file() and (device.files / "touched").read_text() == OLD for device in self.devices))
         wait_until_in_step(*self.devices)
         self.stop()
@@ -144,6 +123,7 @@ class BehindAndSends(Behind):
             self.assert_texts(device, lost=[NEW], folder_lost=[NEW], own=[NEW], touched=[OLD, NEW], back=[NEW, "back"],
                               written=["written", NEW], dropped=[OLD], kept=[], copied=[NEW], seeded=[NEW], rotten=[NEW])
             self.assertTrue((device.files / "empty").is_dir())
+        self.assert_came(self.fates, *self.all_names)
         self.assertEqual(self.verdict(), "settled")
 
 
@@ -153,18 +133,13 @@ class BehindAndReceives(Behind):
     kind = "receiveonly"
 
     def test_what_is_told_comes_so(self):
-        for name in ("lost", "folder/lost", "empty", "own"):
-            self.assert_told(name, f"the other devices keep it, and Syncthing brings what they have to {self.two.id[:7]}.")
-            self.assertNotIn("Revert", self.told[name])
-        for name in ("touched", "back", "written"):
-            self.assert_told(name, "Syncthing then takes what the others have, and keeps what stands there as a conflict copy, a local addition")
-        self.assert_told_of_the_same()
         self.run_both(lambda: self.texts_of(self.two).get(("written", False)) == NEW)
         wait_until("all is taken", lambda: self.two.api("GET", "db/status?folder=docs")["needTotalItems"] == 0)
         self.stop()
         self.assert_texts(self.one, lost=[NEW], folder_lost=[NEW], own=[NEW], touched=[NEW], back=[NEW], written=[NEW], dropped=[], kept=[OLD])
         self.assert_texts(self.two, lost=[NEW], folder_lost=[NEW], own=[NEW], touched=[NEW, OLD], back=[NEW, "back"],
                           written=[NEW, "written"], dropped=[OLD], kept=[], copied=[NEW], seeded=[NEW])
+        self.assert_came(self.fates, *self.all_names)
 
 
 class BehindAndOnlySends(Behind):
@@ -174,14 +149,10 @@ class BehindAndOnlySends(Behind):
 
     def test_what_is_told_comes_so(self):
         """Its changes that are to go before others do so on these; what is missing there stays elsewhere until it overrides."""
-        for name in ("lost", "folder/lost", "own"):
-            self.assert_told(name, "the other devices keep it. 'Override Changes' there would then delete it on all devices")
-        for name in ("touched", "back", "written"):
-            self.assert_told(name, "Syncthing keeps the one that was modified later, and the other one as a conflict copy")
-        self.assert_told_of_the_same()
         self.run_both(lambda: self.texts_of(self.one).get(("written", False)) == "written")
         self.assert_texts(self.one, lost=[NEW], folder_lost=[NEW], own=[NEW], touched=[OLD, NEW], back=[NEW], written=["written", NEW],
                           dropped=[OLD], kept=[], copied=[NEW], seeded=[NEW])
+        wait_until("all names come to an end that was told", lambda: not self.untrue(self.fates, *self.all_names))
         self.two.api("POST", "db/override?folder=docs")
         wait_until("what is missing there is gone", lambda: not any((self.one.files / name).exists() for name in ("lost", "folder/lost", "own")))
         self.stop()
@@ -191,7 +162,7 @@ class BehindWithoutCopies(Exporting):
     """A folder whose 'Max Conflicts' is 0."""
 
     def test_no_copy_is_kept(self):
-        """Old bytes that were touched go over newer ones, as the answer says, unless they are deleted first, as it says, too."""
+        """Old bytes that were touched go over newer ones, as the answer says, unless they are deleted first."""
         for name in ("text", "empty"):
             (self.one.files / name).write_text(NEW)
             os.utime(self.one.files / name, (time.time() - 500,) * 2)
@@ -202,14 +173,14 @@ class BehindWithoutCopies(Exporting):
             device.choose(maxConflicts="0")
         for name in ("text", "empty"):
             os.utime(self.two.files / name, (time.time(),) * 2)
-        told = " ".join(self.on_homes("check", [device.home for device in self.devices], "--syncaudit", self.auditor).stdout.split())
-        self.assertIn("Where the folder's 'Max Conflicts' is 0 Syncthing keeps no copy, and beyond that number it deletes the oldest copies: save first what is to stay. "
-                      "To have only what the others have, first delete what stands there while Syncthing is stopped", told)
+        fates = self.foretold()
+        self.assertEqual([fates[name]["fate"] for name in ("text", "empty")], ["lost", "lost"])
         (self.two.files / "empty").unlink()
         self.start()
         wait_until("the touched one is on both", lambda: (self.one.files / "text").read_text() == "hello")
         wait_until_in_step(self.one, self.two)
         self.stop()
+        self.assert_came(fates, "text")
         for device in self.devices:
             self.assertEqual([device.files.joinpath(name).read_text() for name in ("text", "empty")], ["hello", NEW])
             self.assertEqual(list(device.files.glob("*conflict*")), [])
@@ -233,9 +204,8 @@ class AskedForRot(Exporting):
         path, times = self.two.files / "text", (self.two.files / "text").stat()
         path.write_text("the wrong bytes")
         os.utime(path, ns=(times.st_atime_ns, times.st_mtime_ns))
-        told = " ".join(self.on_homes("check", [device.home for device in self.devices], "--syncaudit", self.auditor).stdout.split())
-        self.assertIn(f" (another device may fetch it from {self.two.id[:7]}, and then these bytes go to all), "
-                      f"copy it from {self.one.id[:7]} to {self.two.id[:7]} with its time", told)
+        fates = self.foretold()
+        self.assertEqual(fates["text"]["fate"], "lost")
         self.two.start()
         self.two.scan()
         self.assertEqual(self.two.api("GET", "db/file?folder=docs&file=text")["local"]["version"], version, "the scan saw the other bytes")
@@ -245,6 +215,7 @@ class AskedForRot(Exporting):
         wait_until("the first device has it, too", lambda: (self.one.files / "text").read_text() == "the wrong bytes")
         wait_until_in_step(*self.devices)
         self.stop()
+        self.assert_came(fates, "text")
         self.assertEqual([list(device.files.glob("*conflict*")) for device in self.devices], [[], [], []])
 
 

@@ -20,25 +20,18 @@ class Conflict(Exporting):
         (self.one.files / "text").write_text("changed on one")
         (self.two.files / "text").write_text("changed on two")
         self.assertEqual(self.verdict("--names", "text")[:25], "not settled: StoreDiffers")
-        self.assert_a_person_reads_of_the_conflict()
+        fates = self.foretold()
         self.start()
         wait_until("both devices have the conflict copy", self.have_copies)
         wait_until_in_step(self.one, self.two)
         self.stop()
+        self.assert_came(fates, "text")
         self.assertEqual(self.verdict("--names", "text"), "settled")
         document = self.document("--names", "text")
         for share in document["cut"]["folders"][0]["devices"]:
             texts = {one["name"][:18]: one["text"] for one in share["store"]}
             self.assertEqual(sorted(texts), ["text", "text.sync-conflict"])
             self.assertEqual(sorted(texts.values()), ["changed on one", "changed on two"])
-
-    def assert_a_person_reads_of_the_conflict(self):
-        """Nobody is told that each change goes to all."""
-        told = self.on_homes("check", [device.home for device in self.devices], "--syncaudit", self.auditor).stdout
-        devices = ", ".join(sorted(device.id[:7] for device in self.devices))
-        self.assertIn(f"to do: start Syncthing on {devices} and 'Rescan': what they have there is then in conflict. Syncthing keeps the one that was "
-                      "modified later, and the other one as a conflict copy.", " ".join(told.split()))
-        self.assertNotIn("goes to all", " ".join(told.split()))
 
     def have_copies(self):
         """Whether both devices hold a conflict copy, after a scan of each."""
@@ -60,11 +53,13 @@ class ConflictOfSymlinks(Exporting):
             device.stop()
         told = " ".join(self.on_homes("check", [device.home for device in self.devices], "--syncaudit", self.auditor).stdout.split())
         self.assertIn("in conflict: has one change of it, and lacks another", told)
-        self.assertIn("so their versions decide; a symlink counts as of 1970), and the other one as a conflict copy only if it is a file", told)
+        fates = self.foretold()
+        self.assertEqual(fates["link"]["fate"], "lost")
         self.start()
         wait_until("both have one target", lambda: os.readlink(self.one.files / "link") == os.readlink(self.two.files / "link"))
         wait_until_in_step(self.one, self.two)
         self.stop()
+        self.assert_came(fates, "link")
         for device in self.devices:
             self.assertEqual(list(device.files.glob("*.sync-conflict-*")), [])
 
@@ -88,11 +83,8 @@ class ConflictOfAConflictCopy(Exporting):
             for name in ("text", self.copy):
                 (device.files / name).write_text(f"changed on {place}")
                 os.utime(device.files / name, (time.time() + place,) * 2)
-        told = " ".join(self.on_homes("check", [device.home for device in self.devices], "--syncaudit", self.auditor).stdout.split())
-        of_copy, _, of_text = told.partition(f"{self.copy} (in ")[2].partition(" text (in ")
-        self.assertIn("Syncthing keeps the one that was modified later. Syncthing keeps no copy of a conflict copy: save first what is to stay.", of_copy)
-        self.assertIn("and the other one as a conflict copy. Where the folder's 'Max Conflicts' is 0 Syncthing keeps no copy, and beyond that number it deletes the "
-                      "oldest copies: save first what is to stay.", of_text)
+        fates = self.foretold()
+        self.assertEqual([fates[name]["fate"] in ("lost", "not-known") for name in ("text", self.copy)], [True, True])
         self.start()
         wait_until("the older copy is deleted", self.is_older_deleted)
         wait_until_in_step(self.one, self.two)

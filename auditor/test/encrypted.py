@@ -54,7 +54,7 @@ class Encrypted(Exporting):
     def test_the_devices_that_are_trusted_are_audited_without_it(self):
         self.assertNotEqual([path for path in self.vault.files.iterdir() if path.name.endswith(".syncthing-enc")], [])
         for devices, why in ((self.devices, "the folder is encrypted there"), (self.devices[:2], "the folder is shared encrypted with it by device")):
-            ran = self.check_homes(self.homes(*devices))
+            ran = self.check_homes(self.homes(*devices), "--strict")
             self.assertEqual((ran.returncode, ran.stdout), (2, ""))
             self.assertIn("1 refused; --leave-out encrypted leaves it out", ran.stderr)
             status, lines = self.lines_without(*self.homes(*devices))

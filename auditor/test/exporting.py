@@ -26,6 +26,7 @@ STAND_IN = Path(__file__).with_name("stand_in.py")
 # The variable with the time, by the monotonic clock, from which on no case is begun.
 UNTIL = "SYNCTHING_AUDIT_UNTIL"
 STATUS_OF_USAGE = 3
+NOT_SIGNED = "not signed: the part of "
 STATUSES = {"settled": 0, "settled as far as audited": 6}
 
 
@@ -94,13 +95,18 @@ def is_on_firmness(line):
 
 
 def without_devices(lines):
-    """The lines but for the names of devices, which stand last."""
-    return [line for line in lines if not line.startswith("device ")]
+    """The lines but for the names of devices, which stand last, and for those on signatures."""
+    return [line for line in lines if not line.startswith(("device ", NOT_SIGNED))]
+
+
+def is_on_convergence(line):
+    """Whether a line says whether a folder comes right by itself."""
+    return line.startswith(("converging: ", "not converging: ", "not known to converge: ", "converging wasn't asked: "))
 
 
 def without_firmness(lines):
-    """The lines but for those on firmness, and for the names of devices."""
-    return [line for line in without_devices(lines) if not is_on_firmness(line)]
+    """The lines but for those on firmness and on convergence, and without devices."""
+    return without_devices(line for line in lines if not is_on_firmness(line) and not is_on_convergence(line))
 
 
 def is_over():
@@ -203,9 +209,33 @@ class Exporting(unittest.TestCase):
         return run([cls.program, command, *(word for home in homes for word in ("--home", home)), *words])
 
     @classmethod
+    def foretold(cls):
+        """What the answer foretells of each name that isn't at rest, if nobody does anything."""
+        ran = cls.on_homes("check", [device.home for device in cls.devices], "--syncaudit", cls.auditor, "--json")
+        return {fate["name"]: fate for fate in json.loads(ran.stdout)["folders"][0]["outlook"]["fates"]}
+
+    def untrue(self, fates, *names):
+        """The ends to which these names came, and that weren't told."""
+        from foretold import ends_of, shapes_on
+        shapes = [shapes_on(device, fates) for device in self.devices]
+        made = []
+        for name in names:
+            told = ends_of(fates[name], [device.id for device in self.devices]) if fates[name]["fate"] != "not-known" else []
+            came = tuple(shape.get(name, (None, ())) for shape in shapes)
+            made += [] if came in told else [f"{name} ({fates[name]['fate']}) came to {came}, and was told to come to {told}"]
+        return made
+
+    def assert_came(self, fates, *names):
+        """Each of these names came to an end that was told."""
+        self.assertTrue(names)
+        self.assertEqual(self.untrue(fates, *names), [])
+
+    @classmethod
     def check_parts(cls, parts, *words):
-        """Audits these parts."""
-        return run([cls.program, "check", *parts, "--lines", "--syncaudit", cls.auditor, *words])
+        """Audits these parts. The lines that no signature was checked are left out: homes have none."""
+        ran = run([cls.program, "check", *parts, "--lines", "--syncaudit", cls.auditor, *words])
+        ran.stdout = "".join(line for line in ran.stdout.splitlines(True) if not line.startswith(NOT_SIGNED))
+        return ran
 
     @classmethod
     def part(cls, device, *words):
@@ -242,8 +272,8 @@ class Exporting(unittest.TestCase):
         return json.loads(ran.stdout)
 
     def report(self, *words):
-        """The lines that an audit of the devices writes, but for those on firmness, which are kept. With bytes they are the same,
-        and so they are by parts."""
+        """The lines that an audit of the devices writes, but for those on firmness and on convergence, which are kept. With bytes
+        they are the same, and so they are by parts."""
         ran = self.check(*words)
         lines = ran.stdout.splitlines()
         self.assertTrue(lines, ran.stderr)
@@ -251,6 +281,7 @@ class Exporting(unittest.TestCase):
         if not self.is_large:
             self.assertEqual(self.check("--bytes", *words).stdout.splitlines(), lines)
         self.firmness = [line for line in lines if is_on_firmness(line)]
+        self.convergence = [line for line in lines if is_on_convergence(line)]
         return without_firmness(lines)
 
     def verdict(self, *words):
@@ -266,16 +297,16 @@ class Exporting(unittest.TestCase):
         return f"{reason} {FOLDER} {name}" + (f" on {self.number(device)}" if device else "")
 
     def refused(self, *words):
-        """What the audit says as it refuses."""
-        ran = self.check(*words)
+        """What the audit says as it refuses, strictly."""
+        ran = self.check("--strict", *words)
         self.assertEqual((ran.returncode, ran.stdout), (2, ""), ran.stderr)
         return ran.stderr
 
     def assert_left_out(self, name, kind, *more):
-        """An audit that leaves out this kind says so of the name, and is settled as far as it goes; without that it is
-        refused."""
+        """An audit leaves out this kind and says so of the name, and is settled as far as it goes; a strict one is refused, but for this kind."""
         self.assertRegex(self.refused(), f"(1 refused; --leave-out {kind} leaves it|--leave-out {kind} leaves them) out")
-        lines = self.report("--leave-out", kind)
+        lines = self.report()
+        self.assertEqual(self.report("--strict", "--leave-out", kind), lines)
         self.assertEqual(lines[0], "settled as far as audited")
         self.assertEqual([line.split(" on ")[0] for line in lines[2:]], [f"left out: {FOLDER} {name}", *more])
 

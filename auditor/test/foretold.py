@@ -4,10 +4,11 @@ import dataclasses
 import json
 import subprocess
 
-from quick import MARKER
+from quick import MARKER, tree_of
 from syncthing import FOLDER
 
 TYPES = {1: "file", 2: "directory", 3: "symlink"}
+NOTHING = (None, ())
 
 
 @dataclasses.dataclass
@@ -100,3 +101,21 @@ def compare(forecast, names, ends):
                 came = tuple(end[device].get(name, nothing) for device in names)
                 made.append(Finding(name, run, came in told, answer["IsAll"], len(told), came, told))
     return made
+
+
+def places_of(name, things, device):
+    """What a told end has at a name on a device."""
+    for thing in things:
+        if device in thing["devices"]:
+            more = {"file": (thing.get("size"), thing.get("content")), "symlink": (thing.get("target"),), "directory": ()}[thing["type"]]
+            yield name, thing.get("copy", False), (thing["type"], *more)
+
+
+def ends_of(fate, ids):
+    """The ends that an answer tells of a name, as shapes of each device."""
+    return [tuple(shapes_of(places_of(fate["name"], end, device)).get(fate["name"], NOTHING) for device in ids) for end in fate["ends"]]
+
+
+def shapes_on(device, known):
+    """For each name what stands there and in its copies on a device's disk now."""
+    return shapes_of(real_places(tree_of(device.files), known))

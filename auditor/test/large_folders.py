@@ -103,7 +103,9 @@ class LargeFiles(Exporting):
         lines = self.report()
         self.assertEqual(lines[0], self.fault("StoreDiffers", "sparse.bin", self.one))
         self.assertEqual(lines[2:], [self.failure("StoreDiffers", "sparse.bin", self.one),
-                                     self.failure("StoreDiffers", "twenty.bin", self.two)])
+                                     self.failure("StoreDiffers", "twenty.bin", self.two),
+                                     f"not as recorded: {FOLDER} sparse.bin on {self.number(self.one)}: over-zeros, "
+                                     f"{300 * MEGA} bytes recorded, {300 * MEGA} found"])
         self.assert_blocks(self.one, "sparse.bin", (256 << 10, [[1196, 1196]]))
         self.assert_blocks(self.two, "twenty.bin", (128 << 10, [[152, 152]]))
         for one in undo:
@@ -159,7 +161,7 @@ class ManyFiles(unittest.TestCase):
         ran = run([self.programs / PROGRAM, "sum", into, "--lines"])
         self.assertEqual((ran.returncode, ran.stdout), (2, ""))
         self.assertIn("a document has no answer yet", ran.stderr)
-        answer = f"{auditor()} certify < $1 > $1.c; {auditor()} check < $1.c; {auditor()} explain < $1.c; {auditor()} firm < $1.c"
+        answer = f"{auditor()} certify < $1 > $1.c; {auditor()} check < $1.c; {auditor()} explain < $1.c; {auditor()} firm < $1.c; {auditor()} converge < $1"
         for one in documents:
             one.with_suffix(".reply").write_text(run(["sh", "-c", answer, "-", one]).stdout)
         ran = run([self.programs / PROGRAM, "sum", into, "--lines"])

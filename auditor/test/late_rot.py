@@ -5,6 +5,7 @@ the rotten bytes, and that it doesn't where they were mended as the answer says.
     auditor/test/late_rot.py
 """
 
+import json
 import os
 import subprocess
 
@@ -59,11 +60,8 @@ class RotThatIsFetched(LateRot):
     def test_its_bytes_go_to_all_but_where_they_were_mended(self):
         for name in (KEPT, LOST):
             self.rot(name)
-        for name in (KEPT, LOST):
-            entry, _ = self.entry(name)
-            self.assertIn(f" (another device may fetch it from {self.label(self.two)}, and then these "
-                          f"bytes go to all), copy it from {self.label(self.one)} to {self.label(self.two)} with its time alone "
-                          "(cp --preserve=timestamps, ", entry)
+        fates = self.foretold()
+        self.assertEqual([fates[name]["fate"] for name in (KEPT, LOST)], ["lost", "lost"])
         self.mend(KEPT, "--preserve=timestamps")
         for device in (self.two, self.three):
             device.start()
@@ -73,6 +71,7 @@ class RotThatIsFetched(LateRot):
             text_of(device.files / LOST) == "rotten " + LOST for device in self.devices))
         self.assertEqual([text_of(device.files / KEPT) for device in self.devices], ["binary " + KEPT] * 3)
         self.stop()
+        self.assert_came(fates, LOST)
 
 
 class RotThatIsFetchedBesideAChange(LateRot):
@@ -110,21 +109,9 @@ class RotThatIsFetchedBesideAChange(LateRot):
         """What stands in a device's files, and in their conflict copies."""
         return {name: (text_of(device.files / name), [text_of(path) for path in device.files.glob(f"{name}.sync-conflict-*")]) for name in self.files}
 
-    def assert_told(self):
-        """Nobody is told as sure that a change goes to all, or that all devices delete the file."""
-        one, two = self.label(self.one), self.label(self.two)
-        becoming = f". But the other bytes on {two} may become a change before that comes there"
-        for name in self.files:
-            entry, _ = self.entry(name)
-            if name == "missing":
-                self.assertIn(f"all devices delete it{becoming}: a change goes before a deletion, so these bytes then go to all", entry)
-                continue
-            self.assertIn(f"{becoming}, and both are in conflict then: Syncthing keeps the one that was modified later, and the other one as a conflict copy", entry)
-            self.assertIn(f"(another device may fetch it from {two}, and then these bytes are a change, in conflict with what a scan finds on {one})", entry)
-
     def test_its_bytes_are_in_conflict_with_the_changes(self):
         self.change()
-        self.assert_told()
+        fates = self.foretold()
         for device in (self.two, self.three):
             device.start()
         wait_until("the third device has the rotten bytes", lambda: all(text_of(self.three.files / name) == "rotten " + name for name in self.files))
@@ -133,6 +120,7 @@ class RotThatIsFetchedBesideAChange(LateRot):
                 "touched": ("rotten touched", ["binary touched"]), "missing": ("rotten missing", [])}
         wait_until("all devices have what was modified later", lambda: all(self.texts(device) == come for device in self.devices))
         self.stop()
+        self.assert_came(fates, *self.files)
 
 
 class RotThatAChangeReachesFirst(RotThatIsFetchedBesideAChange):
@@ -140,7 +128,7 @@ class RotThatAChangeReachesFirst(RotThatIsFetchedBesideAChange):
 
     def test_its_bytes_are_in_conflict_with_the_changes(self):
         self.change()
-        self.assert_told()
+        fates = self.foretold()
         for device in (self.one, self.three):
             device.start()
         come = {"earlier": ("changed earlier", []), "later": ("changed later", []), "touched": ("binary touched", []), "missing": (None, [])}
@@ -149,13 +137,12 @@ class RotThatAChangeReachesFirst(RotThatIsFetchedBesideAChange):
         come["touched"] = ("rotten touched", [])
         wait_until("the second device has them, but for the bytes that it needs not", lambda: self.texts(self.two) == come)
         self.stop()
+        self.assert_came(fates, *self.files)
 
 
 class RotThatAnOldChangeMeets(LateRot):
     """Another mode shows the scan that the files changed, while the device is behind with them. Their change has an old time, so that the
     rotten bytes win."""
-
-    takes = "takes"
 
     def change(self):
         """The first device puts files of an old time into place, of which the second one hears later."""
@@ -179,10 +166,9 @@ class RotThatAnOldChangeMeets(LateRot):
 
     def assert_told(self, name):
         """A person reads what to do before the scan."""
-        entry, first = self.entry(name)
-        self.assertIn(f"to do: before Syncthing scans there (the scan {self.takes} these bytes for a change, in conflict with what the others have), "
-                      f"copy it from {self.label(self.one)} to {self.label(self.two)} as it is (cp -a, ", entry)
-        self.assertTrue(first.startswith(self.label(self.two)))
+        entry, _ = self.entry(name)
+        self.assertIn("if nothing is done: all devices then have what", entry)
+        self.assertIn("is kept as a conflict copy", entry)
 
     def test_they_are_in_conflict_but_where_they_were_mended(self):
         for name in (KEPT, LOST):
@@ -219,9 +205,9 @@ class RotThatIsOverridden(LateRot):
         self.one.start()
         self.one.scan()
         self.one.stop()
-        entry, _ = self.entry(LOST)
-        self.assertIn(f"to do: don't 'Override Changes' on {self.label(self.two)} before the bytes that it recorded are back there, from old versions or "
-                      "backups: it would send these other bytes to all.", entry)
+        ran = self.on_homes("check", [device.home for device in self.devices], "--syncaudit", self.auditor, "--json")
+        override, = [choice for choice in json.loads(ran.stdout)["folders"][0]["outlook"]["choices"] if choice["act"] == "override"]
+        self.assertEqual([(loss["name"], [thing["devices"] for thing in loss["loses"]]) for loss in override["loses"]], [(LOST, [[self.one.id]])])
         self.start()
         wait_until("the second device has heard of the change", lambda: self.two.knows_all_of(self.one))
         self.two.api("POST", f"db/override?folder={FOLDER}")
@@ -240,12 +226,11 @@ class RotInAConflict(LateRot):
             device.scan()
             device.stop()
         self.rot("text")
-        entry, _ = self.entry("text")
-        self.assertIn(f"to do: before Syncthing starts there, put the bytes back that {self.label(self.two)} recorded, from old versions or backups: "
-                      "else the conflict copy has these other bytes.", entry)
+        fates = self.foretold()
         self.start()
         wait_until("both devices have the conflict copy", self.have_copies)
         self.stop()
+        self.assert_came(fates, "text")
         for device in self.devices:
             self.assertEqual(text_of(device.files / "text"), "changed on one")
             self.assertEqual([text_of(path) for path in device.files.glob("text.sync-conflict-*")], ["rotten text"])

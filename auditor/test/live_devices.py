@@ -60,7 +60,7 @@ class LiveDevices(Live):
         for document in documents.glob("cut-*.json"):
             certified = subprocess.run([self.auditor, "certify"], input=document.read_bytes(), capture_output=True, check=True).stdout
             document.with_suffix(".reply").write_bytes(b"".join(subprocess.run([self.auditor, word], input=certified, capture_output=True).stdout
-                                                                for word in ("check", "explain", "firm")))
+                                                                for word in ("check", "explain", "firm", "converge")))
         ran = run([self.program, "sum", documents, "--lines"])
         self.assertEqual((ran.returncode, self.without_times(ran)), (status, lines))
 
@@ -99,7 +99,7 @@ class LiveDevices(Live):
     def test_a_wrong_order_is_found(self):
         self.begin(self.one, self.two)
         self.path(self.three, "token").unlink(missing_ok=True)
-        ran = self.try_end(self.one, self.one, self.two)
+        ran = self.try_end(self.one, self.one, self.two, words=["--strict"])
         self.assertEqual(ran.returncode, 2)
         self.assertIn(f"({self.three.id}), with which folders are shared", ran.stderr)
         self.begin(self.three)
@@ -110,9 +110,10 @@ class LiveDevices(Live):
         self.assertEqual((ran.returncode, ran.stdout), (2, ""))
         self.assertIn("its second look has no token of this first look", ran.stderr)
         self.end(self.three)
-        ran = self.check_parts(self.looks())
+        ran = self.check_parts(self.looks(), "--strict")
         self.assertEqual((ran.returncode, ran.stdout), (2, ""))
-        self.assertIn("its second look has no token of the first look of", ran.stderr)
+        self.assertIn(" has no token of its first look", ran.stderr)
+        self.assertEqual(self.told()[0], 6)
         self.end(self.one, self.two)
         self.assertEqual(self.told()[0], 0)
 

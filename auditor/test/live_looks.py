@@ -56,10 +56,10 @@ class Live(Exporting):
             ran = self.try_end(device, *self.devices)
             self.assertEqual(ran.returncode, 0, ran.stderr)
 
-    def try_end(self, device, *others):
+    def try_end(self, device, *others, words=()):
         """What comes of a second look with the tokens of these devices."""
         tokens = [word for one in others for word in ("--tokens", self.path(one, "token"))]
-        return run([self.program, "part", "--end", "--home", device.home, *tokens, "-o", self.path(device, "end"), *self.words])
+        return run([self.program, "part", "--end", "--home", device.home, *tokens, "-o", self.path(device, "end"), *self.words, *words])
 
     words = ()
 

@@ -19,6 +19,9 @@ from exporting import in_step, main, make_endless, run
 from live_looks import Live, rot
 from syncthing import FOLDER, SECONDS_TO_WAIT, wait_until, wait_until_in_step
 
+# What a busy machine is told of those that it waits for.
+WAITING = ": waiting for "
+
 
 class LiveRun(Live):
     """Three devices in step, of which one command asks by what stands for ssh."""
@@ -43,11 +46,15 @@ cd "{room}/$machine/user" && HOME=$PWD PATH={programs}:$PATH exec sh -c "$*"
         programs.mkdir()
         (programs / "ssh").write_text(cls.SSH.format(room=cls.room, programs=cls.program.parent))
         (programs / "ssh").chmod(0o700)
-        cls.path_with_ssh = f"{programs}:{os.environ['PATH']}"
+        cls.user = cls.room / "user"  # who runs this: what that one knows of devices stands in the home
+        cls.known = cls.user / ".local/state/syncthing-audit/known_devices"
+        cls.environment = {**os.environ, "PATH": f"{programs}:{os.environ['PATH']}", "HOME": str(cls.user)}
         for device in cls.devices:
             user = device.home.parent / "user" / ".config"
             user.mkdir(parents=True)
             (user / "syncthing").symlink_to(device.home)
+        _, two, three = cls.devices
+        cls.met = run([cls.program, "run", "one:", f"two:{two.home}", three.home, "--still", "0", "--syncaudit", cls.auditor], env=cls.environment)
 
     @property
     def commands(self):
@@ -66,18 +73,35 @@ cd "{room}/$machine/user" && HOME=$PWD PATH={programs}:$PATH exec sh -c "$*"
         """Runs the command at these places."""
         self.commands.write_text("")
         return run([self.program, "run", *places, "--still", "0", "--syncaudit", self.auditor, *words],
-                   env={**os.environ, "PATH": self.path_with_ssh})
+                   env=self.environment)
 
     def test_in_step(self):
         ran = self.run_on()
         self.assertEqual(ran.returncode, 0, ran.stderr)
         self.assertRegex(ran.stdout.splitlines()[0], rf"^{FOLDER}: {in_step()}; still for \d+ s: 6 names .*; in motion: 0$")
 
+    def test_a_machine_keeps_its_device(self):
+        """Which device each machine is, is told and kept as it is met first. Another one there is refused before any look."""
+        lines = [f"{self.one.id} one:", f"{self.two.id} two:{self.two.home}"]
+        had = self.known.read_text()
+        self.assertEqual((self.met.returncode, set(lines) - set(had.splitlines())), (0, set()), self.met.stderr)
+        self.assertEqual(self.known.stat().st_mode & 0o777, 0o600)
+        for place, device in (("one", self.one), (f"two:{self.two.home}", self.two)):
+            self.assertIn(f"syncthing-audit: {place}: it is device {device.id}, and is refused if it is another one next time", self.met.stderr)
+        self.known.write_text("\n".join([f"{self.three.id} one:", lines[1]]))
+        try:
+            ran = self.run_on()
+        finally:
+            self.known.write_text(had)
+        self.assertEqual((ran.returncode, ran.stdout), (2, ""))
+        self.assertIn(f"refused: one says that it is device {self.one.id}, and it was {self.three.id} when it was met first", ran.stderr)
+        self.assert_no_look()
+
     def test_a_pipe_is_told_nothing_of_steps(self):
         """What an answer means is told there, and the devices' numbers where lines have these."""
         ran = self.run_on("--lines")
         self.assertEqual(ran.returncode, 0, ran.stderr)
-        lines = [line for line in ran.stderr.splitlines() if line.startswith("syncthing-audit: ")]
+        lines = [line for line in ran.stderr.splitlines() if line.startswith("syncthing-audit: ") and WAITING not in line]
         self.assertEqual([line.split()[1] for line in lines], ["device", "device", "device", "what"], ran.stderr)
         self.assertIn("--begin", self.commands.read_text())
 
@@ -85,17 +109,18 @@ cd "{room}/$machine/user" && HOME=$PWD PATH={programs}:$PATH exec sh -c "$*"
         terminal, other_end = pty.openpty()
         self.addCleanup(os.close, terminal)
         process = subprocess.Popen([self.program, "run", "one:", f"two:{self.two.home}", self.three.home, "--still", "1", "--syncaudit", self.auditor],
-                                   env={**os.environ, "PATH": self.path_with_ssh}, stdout=subprocess.DEVNULL, stderr=other_end)
+                                   env=self.environment, stdout=subprocess.DEVNULL, stderr=other_end)
         os.close(other_end)
         told = b""
         while b"what an answer means" not in told:
             told += os.read(terminal, 4096)
         self.assertEqual(process.wait(SECONDS_TO_WAIT), 0)
-        steps = [line.partition("\r")[0] for line in told.decode().split("syncthing-audit: ")[1:-1]]
+        steps = [line.partition("\r")[0] for line in told.decode().split("syncthing-audit: ")[1:-1] if WAITING not in line]
         looks = {f"{name}: {look} look done in 0 s" for name in ("one", f"two:{self.two.home}", str(self.three.home)) for look in ("first", "second")}
-        self.assertEqual(sorted(re.sub(r"done in \d+ s", "done in 0 s", one) for one in steps[2:5] + steps[6:]), sorted(looks))
+        waits = [step for step in steps if step.startswith("second look in ")]
+        self.assertEqual(sorted(re.sub(r"done in \d+ s", "done in 0 s", step) for step in steps[2:] if step not in waits), sorted(looks))
         self.assertEqual(steps[:2], ["asking 3 devices what is shared", "first look at 3 devices, hashing all files"])
-        self.assertRegex(steps[5], "^second look in [01] s$")
+        self.assertIn(waits, ([], ["second look in 0 s"], ["second look in 1 s"]))  # none where a second has passed by then
 
     def test_other_bytes(self):
         with rot(self.two.files / "folder" / "large", 1000):
@@ -122,7 +147,7 @@ cd "{room}/$machine/user" && HOME=$PWD PATH={programs}:$PATH exec sh -c "$*"
     def test_a_scan_of_a_stopped_device_is_refused(self):
         self.two.stop()
         try:
-            ran = self.run_on("--rescan")
+            ran = self.run_on("--rescan", "--strict")
         finally:
             self.two.start()
             wait_until_in_step(*self.devices)
@@ -135,7 +160,7 @@ cd "{room}/$machine/user" && HOME=$PWD PATH={programs}:$PATH exec sh -c "$*"
         self.two.api("PATCH", f"config/folders/{FOLDER}", {"paused": True})
         try:
             wait_until("it is paused", lambda: "<paused>true" in (self.two.home / "config.xml").read_text())
-            ran = self.run_on("--rescan")
+            ran = self.run_on("--rescan", "--strict")
             alone = run([self.program, "part", "--begin", "--rescan", "--home", self.two.home, "-o", self.room / "paused.begin"])
         finally:
             self.two.api("PATCH", f"config/folders/{FOLDER}", {"paused": False})
@@ -145,17 +170,22 @@ cd "{room}/$machine/user" && HOME=$PWD PATH={programs}:$PATH exec sh -c "$*"
             self.assertIn(f"folder {FOLDER} is paused there, and Syncthing doesn't scan it: resume it", one.stderr)
         self.assert_no_look()
 
-    def test_a_folder_whose_disk_is_not_mounted_is_refused(self):
-        """It is told before any device hashes its files."""
+    def test_a_folder_whose_disk_is_not_mounted(self):
+        """It is left out on that device. A strict run says so before any device hashes its files."""
         marker = self.two.files / ".stfolder"
         marker.rename(self.room / "away")
         try:
-            ran = self.run_on()
+            strict = self.run_on("--strict")
+            self.assert_no_look()
+            told = [self.run_on(), self.run_on("--folder", FOLDER)]
         finally:
             (self.room / "away").rename(marker)
-        self.assertEqual((ran.returncode, ran.stdout), (2, ""))
-        self.assertIn(f"folder {FOLDER}: {self.two.files} has no .stfolder, by which Syncthing knows the folder: is its disk mounted?", ran.stderr)
-        self.assert_no_look()
+        why = "its directory has no .stfolder, by which Syncthing knows the folder"
+        self.assertEqual((strict.returncode, strict.stdout), (2, ""))
+        self.assertIn(why, strict.stderr)
+        for ran in told:
+            left, = [line for line in ran.stdout.splitlines() if line.startswith("left out: ")]
+            self.assertEqual((ran.returncode, left.startswith(f"left out: {FOLDER} of {self.two.id}: "), why in left), (6, True, True), ran.stdout)
         self.assertEqual(self.run_on("--lines").stdout.splitlines()[0], "settled")
 
     def test_a_program_reads_the_same(self):
@@ -183,16 +213,31 @@ cd "{room}/$machine/user" && HOME=$PWD PATH={programs}:$PATH exec sh -c "$*"
         room.mkdir()
         with rot(self.two.files / "folder" / "large", 1000):
             ran = run(["sh", "-e"], cwd=room, input=told.stdout,
-                      env={**os.environ, "PATH": self.path_with_ssh, "SYNCAUDIT": str(self.auditor)})
+                      env={**self.environment, "SYNCAUDIT": str(self.auditor)})
         self.assertEqual(ran.returncode, 1, ran.stderr)
         self.assertIn("folder/large", ran.stdout)
         self.assertEqual(len((room / "tokens").read_text().splitlines()), 3)
 
     def test_a_machine_that_does_not_answer(self):
-        ran = self.run_at(["one:", "off:"])
+        ran = self.run_at(["one:", "off:"], "--strict")
         self.assertEqual((ran.returncode, ran.stdout), (2, ""))
         self.assertEqual(ran.stderr.count("off: its command ended with exit status 255: ssh: connect to host off"), 1, ran.stderr)
         self.assert_no_look()
+
+    def test_the_others_are_audited_where_a_machine_does_not_answer(self):
+        """It is told in one line, whether its id is known or not. What rots elsewhere is told all the same."""
+        why = "off: its command ended with exit status 255: ssh: connect to host off"
+        ran = self.run_at(["one:", f"two:{self.two.home}", "off:"])
+        left = [line for line in ran.stdout.splitlines() if line.startswith("left out: ")]
+        self.assertEqual((ran.returncode, [why in line for line in left]), (6, [False, True]), ran.stdout)
+        known = self.user / ".local/state/syncthing-audit/known_devices"
+        with known.open("a") as file:
+            file.write(f"{self.three.id} off:\n")
+        with rot(self.two.files / "folder" / "large", 1000):
+            ran = self.run_at(["one:", f"two:{self.two.home}", "off:"])
+        left, = [line for line in ran.stdout.splitlines() if line.startswith("left out: ")]
+        self.assertEqual((ran.returncode, left.startswith(f"left out: {FOLDER} of {self.three.id}: {why}")), (1, True), ran.stdout)
+        self.assertIn("folder/large", ran.stdout)
 
     def test_a_machine_without_the_program(self):
         ran = self.run_at(["one:"], "--remote-program", "nothing-there")
@@ -201,11 +246,11 @@ cd "{room}/$machine/user" && HOME=$PWD PATH={programs}:$PATH exec sh -c "$*"
         self.assertIn("Is syncthing-audit installed there? --remote-program says how it is called", ran.stderr)
 
     def test_a_device_that_is_not_asked(self):
-        ran = self.run_at(["one:", "two:"])
+        ran = self.run_at(["one:", "two:"], "--strict")
         self.assertEqual((ran.returncode, ran.stdout), (2, ""))
         self.assertIn(self.three.id, ran.stderr)
         self.assert_no_look()
-        ran = self.run_at(["one:", "two:"], "--leave-out", "absent", "--lines")
+        ran = self.run_at(["one:", "two:"], "--lines")
         self.assertEqual((ran.returncode, ran.stdout.splitlines()[0]), (6, "settled as far as audited"), ran.stderr)
 
     def test_a_device_that_is_given_twice(self):
@@ -223,7 +268,7 @@ cd "{room}/$machine/user" && HOME=$PWD PATH={programs}:$PATH exec sh -c "$*"
         ran = self.run_on("--remote-program", str(older))
         self.assertEqual(ran.returncode, 0, ran.stderr)
         self.assertIn("one: the syncthing-audit there is older, and doesn't say what is shared before it hashes", ran.stderr)
-        ran = self.run_at(["one:", "two:"], "--remote-program", str(older))
+        ran = self.run_at(["one:", "two:"], "--strict", "--remote-program", str(older))
         self.assertEqual((ran.returncode, ran.stdout), (2, ""))
         self.assertIn(self.three.id, ran.stderr)
 
@@ -236,7 +281,7 @@ cd "{room}/$machine/user" && HOME=$PWD PATH={programs}:$PATH exec sh -c "$*"
         try:
             # Where the tests run in the background, their shell may have them ignore SIGINT.
             process = subprocess.Popen([self.program, "run", "far:", self.two.home, self.three.home, "--syncaudit", self.auditor],
-                                       env={**os.environ, "PATH": self.path_with_ssh}, stdout=subprocess.DEVNULL, stderr=subprocess.DEVNULL,
+                                       env=self.environment, stdout=subprocess.DEVNULL, stderr=subprocess.DEVNULL,
                                        preexec_fn=lambda: signal.signal(signal.SIGINT, signal.SIG_DFL))
             wait_until("the other machine hashes", lambda: list(room.iterdir()) and self.reads(endless))
             process.send_signal(signal.SIGINT)

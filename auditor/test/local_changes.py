@@ -47,24 +47,14 @@ class ReceiveOnlyChangedAgain(Exporting):
     def test_what_becomes_of_the_second_change(self):
         """Syncthing 1.19 puts it beside what the others have, and nobody has to revert. 1.29 keeps it as a local change. What is missing either of
         them brings back. The answer says so."""
-        ran = self.on_homes("check", [device.home for device in self.devices], "--syncaudit", self.auditor)
-        self.assertEqual(ran.returncode, 1, ran.stderr)
-        entries = {entry.split("  (in ")[0]: " ".join(entry.split()) for entry in ran.stdout.split("\n\n")}
-        is_copied = version_of(self.two.program).startswith("syncthing v1.19")
-        told = "Syncthing then takes what the others have, and keeps what stands there as a conflict copy, a local addition" if is_copied \
-            else "the change stays there as a local one, which 'Revert Local Changes' takes back"
-        for name in ("text", "empty"):
-            self.assertIn(f"'Rescan': {told}", entries[name])
-        scan = "what stands there for a change, in conflict with what the others have" if is_copied else "0600 for a local change"
-        self.assertIn(f"the scan takes {scan}; or", entries["folder/mode"])
-        for name in ("folder/large", "own"):
-            self.assertIn(f"the other devices keep it, and Syncthing brings what they have to {self.two.id[:7]}.", entries[name])
+        fates, is_copied = self.foretold(), version_of(self.two.program).startswith("syncthing v1.19")
         self.start()
         self.two.scan()
         wait_until("what is missing is brought back", lambda: all((self.two.files / name).exists() for name in ("folder/large", "own")))
         wait_until("all is taken", lambda: self.two.shows_up_to_date() and self.two.knows_all_of(self.one))
         for name in ("folder/large", "own"):
             self.assertEqual((self.two.files / name).read_bytes(), (self.one.files / name).read_bytes())
+        self.assert_came(fates, "text", "empty", "folder/mode", "folder/large", "own")
         if not is_copied:
             self.assert_they_stay()
             self.two.api("POST", f"db/revert?folder={FOLDER}")
@@ -99,18 +89,12 @@ class ReceiveOnlyThatOthersPassed(Exporting):
         self.one.start()
         self.one.scan()
         self.one.stop()
-        ran = self.on_homes("check", [device.home for device in self.devices], "--syncaudit", self.auditor)
-        self.assertEqual(ran.returncode, 1, ran.stderr)
-        entries = {entry.split("  (in ")[0]: " ".join(entry.split()) for entry in ran.stdout.split("\n\n")}
-        for name in ("text", "empty"):
-            self.assertIn(f"others changed it since. Once Syncthing runs on {self.two.id[:7]}, it takes what they have", entries[name])
-        self.assertIn("and keeps what stands there as a conflict copy, a local addition", entries["text"])
-        self.assertNotIn("conflict copy", entries["empty"])
-        self.assertIn("'Revert Local Changes' on", entries["folder/large"])
+        fates = self.foretold()
         self.start()
         wait_until("the others' files are there", lambda: all((files / name).exists() and (files / name).read_text() == "of one" for name in ("text", "empty")))
         wait_until("all is taken", lambda: self.two.shows_up_to_date() and self.two.knows_all_of(self.one))
         self.stop()
+        self.assert_came(fates, "text", "empty", "folder/large")
         self.assertEqual([path.read_text() for path in files.glob("*.sync-conflict-*")], ["my own"])
         self.assertEqual((files / "folder/large").read_text(), "my own")
 
@@ -135,17 +119,12 @@ class ReceiveOnlyChangedItsOwnAgain(Exporting):
         wait_until("the other device knows of the change", lambda: self.one.knows_all_of(self.two))
         self.stop()
         (self.two.files / "own").write_text("changed again")
-        ran = self.on_homes("check", [device.home for device in self.devices], "--syncaudit", self.auditor)
-        self.assertEqual(ran.returncode, 1, ran.stderr)
-        told = " ".join(ran.stdout.split())
-        self.assertIn("'Rescan': the change stays there as a local one", told)
-        self.assertNotIn("takes what the others have", told)
-        self.assertIn("make the folder 'Send & Receive' there (that sends all local changes of the folder, deletions too: put back first what is to "
-                      "stay): it then goes to all, since no other device ever changed it", told)
+        fates = self.foretold()
         self.start()
         self.two.scan()
         wait_until("nothing is to be taken", lambda: self.two.shows_up_to_date() and self.two.knows_all_of(self.one))
         self.stop()
+        self.assert_came(fates, "own")
         self.assertEqual((self.two.files / "own").read_text(), "changed again")
         self.assertEqual((self.one.files / "own").read_text(), "of two")
         self.assert_it_goes_to_all()

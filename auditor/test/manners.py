@@ -14,6 +14,7 @@ import subprocess
 import tempfile
 import unittest
 from pathlib import Path
+from types import SimpleNamespace
 
 from exporting import PROGRAM, auditor, built, in_step, is_over, main, make_endless, run
 from syncthing import SECONDS_TO_WAIT, wait_until
@@ -29,6 +30,14 @@ def has_open_below(process, directory):
         return any(os.path.realpath(one).startswith(f"{directory.resolve()}/") for one in Path(f"/proc/{process.pid}/fd").iterdir())
     except FileNotFoundError:
         return False
+
+
+def kill(process):
+    """Kills a process that may have ended."""
+    try:
+        os.kill(process, signal.SIGKILL)
+    except ProcessLookupError:
+        pass
 
 
 class Manners(unittest.TestCase):
@@ -148,6 +157,25 @@ class Manners(unittest.TestCase):
         self.assertEqual((ran.returncode, (room / "elsewhere.part").exists()), (2, False), ran.stderr)
         self.assertIn("is a symlink of another user, which root doesn't follow", ran.stderr)
 
+    @unittest.skipUnless(os.geteuid() == 0 and shutil.which("setpriv"), "this isn't root, or setpriv is missing")
+    def test_a_look_of_root_ends_with_the_run_that_began_it(self):
+        """Also once it has become the user whose home it reads."""
+        room = Path(tempfile.mkdtemp(prefix="syncthing-audit-test-", dir="/var/tmp"))  # which that user can reach
+        self.addCleanup(shutil.rmtree, room)
+        run([self.program.parent / "sample", "--files", "5", "--bytes", "100", room], check=True)
+        make_endless(room / "device1/files/endless")
+        for path in (room, *room.rglob("*")):
+            os.chown(path, 65534, 65534)
+        command = f"setpriv --pdeathsig TERM {self.program} part --home {room}/device1/home -o {room}/one.part > {room}/told 2>&1 & echo $!; wait"
+        with subprocess.Popen(["sh", "-c", command], stdout=subprocess.PIPE, env={**os.environ, "TMPDIR": str(room)}) as began:
+            look = SimpleNamespace(pid=int(began.stdout.readline()))
+            self.addCleanup(kill, look.pid)
+            wait_until("a file is hashed", lambda: has_open_below(look, room / "device1/files/endless"))
+            self.assertEqual(os.stat(f"/proc/{look.pid}").st_uid, 65534)
+            began.kill()
+        wait_until("the look has ended", lambda: has_ended(look.pid))
+        self.assertFalse((room / "one.part").exists())
+
     def test_what_a_killed_run_leaves_the_next_one_takes_away(self):
         """No part is there, and the copy of the index goes once another part is made. One that another run reads stays."""
         endless, into = self.room / "device1" / "files" / "endless", self.temporary / "into"
@@ -197,16 +225,22 @@ class Manners(unittest.TestCase):
         ran = run(["sh", "-c", f"{self.program} check {self.parts[0]} {self.parts[1]} >&-"])
         self.assertEqual(ran.returncode, 5, ran.stderr)
 
-    def test_a_signal_while_documents_are_exported_leaves_none(self):
-        """Nor does it leave the directories that were made for them."""
+    def test_an_export_that_is_ended_leaves_no_document(self):
+        """A signal leaves no directory that was made for them either. A kill does, and the next export into it takes away what is left."""
         endless, into = self.room / "device1" / "files" / "zz endless", self.temporary / "above" / "into"
         make_endless(endless)
         self.addCleanup(shutil.rmtree, endless)
-        process = self.start("export", *(word for home in self.homes for word in ("--home", home)), "--into", into, stderr=subprocess.DEVNULL)
-        wait_until("a document is written", (into / "cut-0001.json").exists)
-        process.send_signal(signal.SIGINT)
-        self.assertEqual(process.wait(SECONDS_TO_WAIT), 128 + signal.SIGINT)
-        self.assertEqual(list(self.temporary.iterdir()), [])
+        words = [word for home in self.homes for word in ("--home", home)] + ["--into", into]
+        for number, status, left in ((signal.SIGINT, 128 + signal.SIGINT, []), (signal.SIGKILL, -signal.SIGKILL, [into])):
+            process = self.start("export", *words, stderr=subprocess.DEVNULL)
+            wait_until("a document is written", lambda: any(into.glob(".*/cut-0001.json")))
+            process.send_signal(number)
+            self.assertEqual(process.wait(SECONDS_TO_WAIT), status)
+            self.assertEqual([*self.temporary.glob("above/into")], left)
+            self.assertEqual([*into.glob("[!.]*")], [])
+        ran = run([self.program, "export", *words, "--names", "0"])
+        names = sorted(path.name for path in into.iterdir())
+        self.assertEqual((ran.returncode, names[0], names[-1], any(name.startswith(".") for name in names)), (0, "cut-0001.json", "rest.jsonl", False), ran.stderr)
 
     def test_a_refused_export_leaves_no_document(self):
         """What is refused may stand behind names that have their document. Then the export may be made into the same directory."""
@@ -214,11 +248,11 @@ class Manners(unittest.TestCase):
         os.mkfifo(odd)
         self.addCleanup(odd.unlink)
         export = [self.program, "export", *(word for home in self.homes for word in ("--home", home)), "--into", into]
-        ran = run(export)
+        ran = run([*export, "--strict"])
         self.assertEqual((ran.returncode, into.exists()), (2, False), ran.stderr)
-        self.assertEqual(run([*export, "--leave-out", "special"]).returncode, 0)
+        self.assertEqual(run(export).returncode, 0)
         before = sorted(into.iterdir())
-        ran = run([*export, "--leave-out", "special"])
+        ran = run(export)
         self.assertEqual((ran.returncode, sorted(into.iterdir())), (2, before), ran.stderr)
         self.assertIn("into has an earlier export (cut-0001.json): name another directory, or take that away", ran.stderr)
 
@@ -228,7 +262,7 @@ class Manners(unittest.TestCase):
         os.mkfifo(odd)
         self.addCleanup(odd.unlink)
         into.mkdir(0o700)
-        ran = run([self.program, "export", *(word for home in self.homes for word in ("--home", home)), "--into", into])
+        ran = run([self.program, "export", *(word for home in self.homes for word in ("--home", home)), "--into", into, "--strict"])
         self.assertEqual((ran.returncode, into.exists()), (2, True), ran.stderr)
 
     def test_documents_go_into_directories_alone(self):

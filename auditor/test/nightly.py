@@ -153,11 +153,11 @@ class Nightly(Audited):
                          ['syncthing_audit_names_wrong{folder="default"} 1', 'syncthing_audit_names{folder="default"} 5'])
 
     def test_a_part_that_stayed_away(self):
-        """Without the other part there is no answer; with an old one the age is told, though all is in step."""
+        """Without the other part the answer is as far as audited; with an old one the age is told, though all is in step."""
         status, _ = self.run_service()
-        self.assertEqual(status, 2)
+        self.assertEqual(status, 6)
         self.assertIn("no home or part of it is given", self.told("mails"))
-        self.assertNotIn("names_wrong", self.metrics.read_text())
+        self.assertIn("syncthing_audit_status 6", self.metrics.read_text().splitlines())
         self.part_of_the_other()
         status, text = self.run_service(HOURS="0")
         self.assertEqual(status, 2)

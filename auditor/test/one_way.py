@@ -4,13 +4,26 @@
     auditor/test/one_way.py
 """
 
+import json
 import os
 
 from exporting import Exporting, main
 from syncthing import FOLDER, wait_until, wait_until_in_step
 
 
-class ReceiveOnly(Exporting):
+class OneWay(Exporting):
+    """Devices of which one only receives or only sends."""
+
+    @classmethod
+    def lost_by(cls, act, *devices):
+        """The names that lose something by what may be chosen for the whole folder, of all devices or of these alone. What changes the end of no name
+        isn't told as a choice."""
+        ran = cls.on_homes("check", [device.home for device in devices or cls.devices], "--syncaudit", cls.auditor, "--json")
+        choices = json.loads(ran.stdout)["folders"][0]["outlook"].get("choices", [])
+        return {loss["name"] for choice in choices if choice["act"] == act for loss in choice["loses"]}
+
+
+class ReceiveOnly(OneWay):
     """Local changes on a device that only receives."""
 
     @classmethod
@@ -34,7 +47,8 @@ class ReceiveOnly(Exporting):
                          [self.fault("NotWinner", "added"), f"folder {FOLDER}: 1 names, 0 deleted, 2 devices",
                           self.failure("NotWinner", "added"),
                           f"no winner: {FOLDER} added on {self.number(self.two)}: local change",
-                          f"not asked for: names of {FOLDER} that don't begin with added"])
+                          f"not asked for: names of {FOLDER} that don't begin with added",
+                          f"first: on {self.number(self.two)}: not-asked"])
 
     def test_they_go_as_over_the_wire(self):
         shares = {share["device"]: share for share in self.document()["cut"]["folders"][0]["devices"]}
@@ -45,13 +59,15 @@ class ReceiveOnly(Exporting):
                          [("empty", []), ("text", [])])
 
     def test_a_person_reads_what_reverting_does(self):
+        """It loses what was added and what was changed, and nothing of what was deleted."""
         ran = self.on_homes("check", [device.home for device in self.devices], "--syncaudit", self.auditor)
         self.assertEqual(ran.returncode, 1, ran.stderr)
         entries = {entry.split("  (in ")[0]: " ".join(entry.split()) for entry in ran.stdout.split("\n\n")}
-        self.assertIn("'Revert Local Changes' on", entries["added"])
-        self.assertIn("deletes what was added there: copy elsewhere first", entries["added"])
+        for name in ("added", "text", "empty"):
+            self.assertIn("choose for the whole folder what stands above, behind 'to choose in'", entries[name])
         self.assertIn("changed on this receive-only device", entries["text"])
         self.assertIn("deleted on this receive-only device", entries["empty"])
+        self.assertEqual(self.lost_by("revert"), {"added", "text"})
 
     def test_the_rest_is_settled(self):
         self.assertEqual(self.verdict("--names", "folder"), "settled")
@@ -72,7 +88,7 @@ class ReceiveOnly(Exporting):
             os.utime(path, ns=(times.st_atime_ns, times.st_mtime_ns))
 
 
-class ReceiveOnlyOfWhatIsDeleted(Exporting):
+class ReceiveOnlyOfWhatIsDeleted(OneWay):
     """A device that only receives changed a file, and the other one deleted it."""
 
     kinds = {"two": "receiveonly"}
@@ -91,7 +107,7 @@ class ReceiveOnlyOfWhatIsDeleted(Exporting):
         self.assertEqual(ran.returncode, 1, ran.stderr)
         told = " ".join(ran.stdout.split())
         self.assertIn("changed on this receive-only device, while the others have deleted it", told)
-        self.assertIn(f"'Revert Local Changes' on {self.two.id[:7]} deletes it, since the other devices have deleted it: copy elsewhere first", told)
+        self.assertEqual(self.lost_by("revert"), {"text"})
         self.start()
         wait_until("the devices are connected", lambda: self.two.knows_all_of(self.one))
         self.two.api("POST", f"db/revert?folder={FOLDER}")
@@ -99,7 +115,7 @@ class ReceiveOnlyOfWhatIsDeleted(Exporting):
         self.stop()
 
 
-class ReceiveOnlyThatChangedItBefore(Exporting):
+class ReceiveOnlyThatChangedItBefore(OneWay):
     """A device that changed files while it sent, too, and that only receives now: it changed them again, and its user reverts that."""
 
     @classmethod
@@ -129,8 +145,8 @@ class ReceiveOnlyThatChangedItBefore(Exporting):
         wait_until("the other device knows of the deletion", lambda: self.two.knows_all_of(self.one))
         self.stop()
         entries = self.entries()
-        self.assertIn(f"'Revert Local Changes' on {self.two.id[:7]} doesn't delete it, though the other devices have deleted it", entries["dropped"])
-        self.assertIn("Syncthing may keep what stands there now as a conflict copy", entries["changed"])
+        self.assertIn("choose for the whole folder what stands above", entries["changed"])
+        self.assertEqual(self.lost_by("revert"), set())
         self.start()
         wait_until("the devices are connected", lambda: self.two.knows_all_of(self.one))
         self.two.api("POST", f"db/revert?folder={FOLDER}")
@@ -168,23 +184,19 @@ class ReceiveOnlyThatKeepsItsChange(Exporting):
         (self.two.files / "empty").write_text("mine, too")
         for name in ("text", "empty", "folder/large"):
             (self.one.files / name).unlink()
-        ran = self.on_homes("check", [device.home for device in self.devices], "--syncaudit", self.auditor)
-        self.assertEqual(ran.returncode, 1, ran.stderr)
-        entries = {entry.split("  (in ")[0]: " ".join(entry.split()) for entry in ran.stdout.split("\n\n")}
-        for name in ("text", "empty"):
-            self.assertIn(f"and then no other device deletes it: {self.two.id[:7]} keeps its local change.", entries[name])
-        self.assertIn("and then all devices delete it.", entries["folder/large"])
+        fates = self.foretold()
         self.start()
         self.one.scan()
         wait_until("what isn't changed is gone", lambda: not (self.two.files / "folder/large").exists() and self.two.knows_all_of(self.one))
         self.two.scan()
         wait_until("all is taken", self.two.shows_up_to_date)
         self.stop()
+        self.assert_came(fates, "text", "empty", "folder/large")
         self.assertEqual([(self.two.files / name).read_text() for name in ("text", "empty")], ["my own", "mine, too"])
         self.assertEqual([(self.one.files / name).exists() for name in ("text", "empty")], [False, False])
 
 
-class OwnReceiveOnly(Exporting):
+class OwnReceiveOnly(OneWay):
     """A folder of a device that only receives, which the device shares with nobody any more."""
 
     def test_reverting_deletes_what_no_other_device_has(self):
@@ -192,11 +204,7 @@ class OwnReceiveOnly(Exporting):
         self.two.configure([self.two], kind="receiveonly")
         (self.two.files / "text").write_text("my own")
         (self.two.files / "empty").unlink()
-        ran = self.on_homes("check", [self.two.home], "--syncaudit", self.auditor)
-        self.assertEqual(ran.returncode, 1, ran.stderr)
-        told = " ".join(ran.stdout.split())
-        self.assertIn("Don't 'Revert Local Changes' then: that deletes the file: no other device has the folder.", told)
-        self.assertIn("'Revert Local Changes' there doesn't bring it back: look among old versions and backups", told)
+        self.assertEqual(self.lost_by("revert", self.two), {"text"})
         self.two.start()
         self.two.scan()
         self.assertEqual((self.two.files / "text").read_text(), "my own")
@@ -206,15 +214,15 @@ class OwnReceiveOnly(Exporting):
         self.assertFalse((self.two.files / "empty").exists())
 
 
-class OwnReceiveOnlyWithAFile(Exporting):
+class OwnReceiveOnlyWithAFile(OneWay):
     """A file that no scan has seen, in a folder that a device only receives and shares with nobody."""
 
     def test_only_another_kind_brings_it_into_step(self):
         """After a scan it is an addition, as the answer says; once the folder sends, too, it is as any other file."""
         self.two.configure([self.two], kind="receiveonly")
         (self.two.files / "new").write_text("new")
-        told = f"make the folder 'Send & Receive' on {self.two.id[:7]} and 'Rescan': it is then recorded. While the folder only receives, a scan takes it"
-        self.assertIn(told, self.told())
+        self.assertIn("on the disk, and no scan has seen it", self.told())
+        self.assertEqual(self.lost_by("revert", self.two), {"new"})
         self.scan()
         self.assertIn("added on this receive-only device", self.told())
         self.two.configure([self.two])
@@ -235,7 +243,7 @@ class OwnReceiveOnlyWithAFile(Exporting):
         self.two.stop()
 
 
-class ReceiveOnlyThatIsToSend(Exporting):
+class ReceiveOnlyThatIsToSend(OneWay):
     """Local changes of a device that only receives, whose folder is made to send, too."""
 
     kinds = {"two": "receiveonly"}
@@ -251,8 +259,7 @@ class ReceiveOnlyThatIsToSend(Exporting):
         self.two.scan()
         wait_until("the other device knows of the changes", lambda: self.one.knows_all_of(self.two))
         self.stop()
-        told = " ".join(self.on_homes("check", [device.home for device in self.devices], "--syncaudit", self.auditor).stdout.split())
-        self.assertEqual(told.count("it is then in conflict with what the others have. Syncthing keeps the one that was modified later"), 2)
+        self.assertEqual(self.lost_by("send-and-receive"), {"link"})
         self.two.configure(self.devices)
         self.start()
         self.two.scan()
@@ -264,22 +271,19 @@ class ReceiveOnlyThatIsToSend(Exporting):
             self.assertFalse((device.files / "link").is_symlink())
 
 
-class ReceiveOnlyThatSendsItsDeletion(Exporting):
+class ReceiveOnlyThatSendsItsDeletion(OneWay):
     """A device that only receives, on which one file was deleted and another one added; then its folder is made to send, too."""
 
     kinds = {"two": "receiveonly"}
 
     def test_what_is_deleted_goes_to_all(self):
-        """The entry of what was added says so, also where only that name is audited."""
+        """What may be chosen for the whole folder says so."""
         (self.two.files / "text").unlink()
         (self.two.files / "added").write_text("added")
         self.two.start()
         self.two.scan()
         self.two.stop()
-        for words in ((), ("--names", "added")):
-            told = " ".join(self.on_homes("check", [device.home for device in self.devices], "--syncaudit", self.auditor, *words).stdout.split())
-            self.assertIn("To have it everywhere, make the folder 'Send & Receive' there (that sends all local changes of the folder, deletions too: put back "
-                          "first what is to stay).", told)
+        self.assertEqual(self.lost_by("send-and-receive"), {"text"})
         self.assertTrue((self.one.files / "text").exists())
         self.two.configure(self.devices)
         self.start()
@@ -291,7 +295,7 @@ class ReceiveOnlyThatSendsItsDeletion(Exporting):
         self.assertEqual(self.verdict(), "settled")
 
 
-class ReceiveOnlyThatSendsTimeAndMode(Exporting):
+class ReceiveOnlyThatSendsTimeAndMode(OneWay):
     """A device that only receives, on which a file has another mode, and another file a later time; then its folder is made to send, too."""
 
     kinds = {"two": "receiveonly"}
@@ -303,9 +307,7 @@ class ReceiveOnlyThatSendsTimeAndMode(Exporting):
         self.two.start()
         self.two.scan()
         self.two.stop()
-        told = " ".join(self.on_homes("check", [device.home for device in self.devices], "--syncaudit", self.auditor).stdout.split())
-        self.assertEqual(told.count("The bytes are the same on all, so Syncthing keeps no conflict copy."), 2, told)
-        self.assertNotIn("as a conflict copy", told)
+        self.assertEqual(self.lost_by("send-and-receive"), set())
         self.two.configure(self.devices)
         self.start()
         self.two.scan()

@@ -17,8 +17,8 @@ from syncthing import FOLDER, free_ports, wait_until
 BLOCK = 128 << 10
 SECONDS_OF_A_RESCAN = 3
 # What a device logs of a connection of any device that it knows.
-OF_CONNECTIONS = re.compile(r"Established secure connection|New device connection|Lost primary connection|Connection to |Device \S+ client is|"
-                            r"has a new index ID|Additional connection|closed: |Joined swarm|failed to exchange Hello")
+OF_CONNECTIONS = re.compile(r"Established secure connection|New device connection|Lost primary connection|Connection (to|from) |Device \S+ client is|"
+                            r"has a new index ID|Additional connection|closed: |Joined swarm|[Ff]ailed to exchange Hello")
 
 
 class OverTheWire(Exporting):
@@ -67,8 +67,12 @@ class OverTheWire(Exporting):
         (files / "doomed").write_text("back")
 
     def asked(self, device):
-        """What is heard and found of a running device."""
-        ran = run([self.program.with_name("overwire"), self.room / "observer", FOLDER, device.id, f"127.0.0.1:{device.listen_port}"])
+        """What is heard and found of a running device. Under load a device may close a connection that was just made."""
+        for _ in range(3):
+            ran = run([self.program.with_name("overwire"), self.room / "observer", FOLDER, device.id, f"127.0.0.1:{device.listen_port}"])
+            if "connection is closed" not in ran.stderr:
+                break
+            time.sleep(2)
         self.assertEqual(ran.returncode, 0, ran.stderr)
         return json.loads(ran.stdout)
 
@@ -109,11 +113,11 @@ class OverTheWire(Exporting):
 
     def check_faults(self, names):
         """Checks that each fault is found as it is."""
-        found = {name: (one["state"], one.get("content", {}).get("size"), one.get("differ", [])) for name, one in names.items()}
+        found = {name: (one["state"], one.get("content", {}).get("size"), one.get("differ", {}).get("ranges", [])) for name, one in names.items()}
         large = 3 * BLOCK + 5
-        expected = {"rot": ("differs", large, [1]), "truncated": ("differs", 2 * BLOCK + 100, [2, 3]), "cut at a block": ("differs", BLOCK, [1, 2, 3]),
-                    "emptied": ("differs", 0, [0, 1, 2, 3]), "grown": ("differs", large + 4, []), "one byte grown": ("differs", 5, []),
-                    "empty grown": ("differs", 4, []), "missing": ("missing", None, []), "doomed": ("present", None, []),
+        expected = {"rot": ("differs", large, [[1, 1]]), "truncated": ("differs", 2 * BLOCK + 100, [[2, 3]]), "cut at a block": ("differs", BLOCK, [[1, 3]]),
+                    "emptied": ("differs", 0, [[0, 3]]), "grown": ("differs", large + 4, [[3, 3]]), "one byte grown": ("differs", 5, [[0, 0]]),
+                    "empty grown": ("differs", 4, [[0, 0]]), "missing": ("missing", None, []), "doomed": ("present", 4, []),
                     "one byte": ("same", 1, []), "empty": ("same", 0, []), "ünïcode": ("same", 4, []), "ignored": ("ignored", None, []),
                     "folder": ("missing", None, []), "link": ("missing", None, [])}
         self.assertEqual({name: found.get(name) for name in expected}, expected)
@@ -129,13 +133,11 @@ class OverTheWire(Exporting):
         names = {one["name"]: one for one in asked["names"]}
         self.assertEqual({name: one["own"] for name, one in names.items() if "own" in one},
                          {name: one["own"] for name, one in lines.items() if "own" in one})
-        # A part leaves out what another device ignores; of a file that is longer than its record more is hashed there.
-        hashed = {name: line["disk"]["contents"][0] for name, line in lines.items()
-                  if "contents" in line.get("disk", {}) and "content" in line.get("own", {})}
-        longer = {name for name, content in hashed.items() if content["size"] > names[name]["own"]["content"]["size"]}
-        self.assertEqual({name: names[name].get("content") for name in hashed.keys() - longer},
-                         {name: hashed[name] for name in hashed.keys() - longer})
-        self.assertGreater(len(hashed.keys() - longer), 6)
+        # A part leaves out what another device ignores.
+        hashed = {name: line["disk"]["contents"][0] for name, line in lines.items() if "contents" in line.get("disk", {}) and "own" in line}
+        self.assertEqual({name: names[name].get("content") for name in hashed}, hashed)
+        self.assertEqual({name: names[name].get("differ") for name in hashed}, {name: lines[name]["disk"].get("differ") for name in hashed})
+        self.assertGreater(len(hashed), 8)
         seen = {one["name"]: one["own"] for one in of_other["names"] if "own" in one and one["own"]["sequence"] <= known[other.id][1]}
         views = {name: {**one["own"], "sequence": seen["same"]} if "same" in seen else seen["record"]
                  for name, one in lines.items() for seen in one.get("views", []) if folder["views"][seen["view"]]["device"] == other.id}

@@ -14,6 +14,7 @@ from syncthing import FOLDER, Device, wait_until
 
 syncthing.OPTIONS = {**syncthing.OPTIONS, "reconnectionIntervalS": "1", "progressUpdateIntervalS": "-1"}
 MARKER = ".sync-conflict-"
+BLOCK = 128 << 10
 SECONDS_OF_REST = 3
 SECONDS_OUT_OF_STEP = 11  # a pull that fails is tried again after some seconds
 SECONDS_UNTIL_REST = 100
@@ -39,7 +40,7 @@ class Quick(Device):
         """What tells whether anything goes on."""
         status = self.api("GET", f"db/status?folder={FOLDER}")
         connections = self.api("GET", "system/connections")["connections"]
-        others = [other for other in running if other is not self]
+        others = [other for other in running if other in self.peers]
         heard = {other.name: self.api("GET", f"db/completion?folder={FOLDER}&device={other.id}")["sequence"] for other in others}
         return {"state": status["state"], "sequence": status["sequence"], "needs": status["needTotalItems"], "errors": status["errors"],
                 "heard": heard, "connected": all(connections[other.id]["connected"] for other in others)}
@@ -102,8 +103,9 @@ def come_to_an_end(devices, order=None):
 
 
 def content_of(data):
-    """A file's bytes as a part tells them: their count and the hash of the hash of their one block."""
-    return [len(data), hashlib.sha256(hashlib.sha256(data).digest()).hexdigest()]
+    """A file's bytes as a part tells them: their count and the hash of the hashes of their blocks, which are the smallest that there are."""
+    blocks = [data[place:place + BLOCK] for place in range(0, len(data), BLOCK)] or [b""]
+    return [len(data), hashlib.sha256(b"".join(hashlib.sha256(block).digest() for block in blocks)).hexdigest()]
 
 
 def node_of(path):

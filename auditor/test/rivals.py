@@ -13,9 +13,6 @@ from rot import text_of
 from syncthing import wait_until, wait_until_in_step
 
 CHANGED, ROTTEN = "changed on two", "dlo"
-IN_CONFLICT = "what they have there is then in conflict. Syncthing keeps the one that was modified later"
-AS_A_COPY = ", and the other one as a conflict copy."
-ONLY_FILES = " (a symlink counts as of 1970), and the other one as a conflict copy only if it is a file"
 
 
 class Rivals(Behind):
@@ -49,12 +46,6 @@ class Rivals(Behind):
         for name in cls.names_of_files:
             cls.put(cls.two, name, CHANGED, -2000 if name == "mode" else 500)
 
-    def assert_told(self, name, *texts):
-        """These stand in the entry of a name, which tells nobody that all devices delete it."""
-        for text in texts:
-            self.assertIn(text, self.told[name])
-        self.assertNotIn("all devices delete", self.told[name])
-
     def assert_stays(self):
         """A directory that isn't empty is replaced on neither device, as the answer says."""
         self.assertEqual(text_of(self.one.files / "directory/in"), OLD)
@@ -65,21 +56,13 @@ class BothChanged(Rivals):
     """Both devices send and receive."""
 
     def test_what_is_told_comes_so(self):
-        one = self.one.id[:7]
-        self.assert_told("deleted", "A scan there takes it for deleted, and a change goes before a deletion: the other devices keep it, and Syncthing "
-                         f"brings what they have to {one}")
-        for name in ("touched", "mode", "rotten"):
-            self.assert_told(name, IN_CONFLICT + AS_A_COPY)
-        self.assert_told("rotten", "before Syncthing scans there (the scan takes these bytes for a change, in conflict with what the others have)")
-        for name in ("linked", "directory"):
-            self.assert_told(name, IN_CONFLICT + ONLY_FILES, "It puts nothing in place of a directory that has more than Syncthing's temporary files and what "
-                             ".stignore marks with (?d): these it deletes")
         self.run_both(lambda: all(self.have_all(device) for device in self.devices))
         self.stop()
         for device in self.devices:
             self.assert_texts(device, deleted=[CHANGED], touched=[OLD, CHANGED], mode=[OLD, CHANGED], rotten=[CHANGED, ROTTEN], linked=[CHANGED])
             self.assertFalse((device.files / "linked").is_symlink())
         self.assert_stays()
+        self.assert_came(self.fates, *self.names_of_files)
 
     def have_all(self, device):
         """Whether a device has what the other one sends of the files, and the conflict copies."""
@@ -94,9 +77,6 @@ class BothChangedAndOneReceives(Rivals):
 
     def test_what_is_told_comes_so(self):
         """It takes what the first one's scan records, and keeps its own as a copy; only a deletion doesn't go before its change."""
-        takes = "Syncthing then takes what the others have, and keeps what stands there as a conflict copy, a local addition"
-        for name in ("touched", "mode", "rotten", "linked", "directory"):
-            self.assert_told(name, takes)
         self.run_both(lambda: {path.name.partition(".")[0] for path in self.two.files.glob("*.sync-conflict-*")} >= {
             "touched", "mode", "rotten", "linked", "directory"})
         wait_until("all is taken", lambda: self.two.api("GET", "db/status?folder=docs")["needTotalItems"] == 0)
@@ -104,6 +84,7 @@ class BothChangedAndOneReceives(Rivals):
         self.assert_texts(self.two, deleted=[CHANGED], touched=[OLD, CHANGED], mode=[OLD, CHANGED], rotten=[ROTTEN, CHANGED], directory_in=[OLD])
         self.assert_texts(self.one, touched=[OLD], mode=[OLD], rotten=[ROTTEN], directory_in=[OLD])
         self.assertEqual(os.readlink(self.two.files / "linked"), "deleted")
+        self.assert_came(self.fates, *self.names_of_files)
 
 
 class BehindWithAnotherMode(Behind):
@@ -129,13 +110,12 @@ class BehindWithAnotherMode(Behind):
 
     def test_the_mode_is_a_change(self):
         """So the old file goes over the newer one, and what was deleted is back, as the answer says."""
-        self.assert_told("changed", "the scan takes what stands there for a change, in conflict with what the others have")
-        self.assert_told("gone", "the scan takes that for a change, which goes before the deletion")
         self.run_both(lambda: text_of(self.one.files / "changed") == text_of(self.one.files / "gone") == OLD
                       and all(list(device.files.glob("changed.sync-conflict-*")) for device in self.devices))
         self.stop()
         for device in self.devices:
             self.assert_texts(device, changed=[OLD, NEW], gone=[OLD])
+        self.assert_came(self.fates, "changed", "gone")
 
 
 class MissingOnTwoThatChangedIt(Behind):
@@ -174,15 +154,10 @@ class MissingOnTwoThatChangedIt(Behind):
                 (device.files / name).unlink()
 
     def test_what_is_told_comes_so(self):
-        for name, device in (("taken", self.two), ("not-taken", self.one)):
-            self.assertEqual(self.told[name].count("a scan takes it for deleted, and then all devices delete it"), 2, self.told[name])
-            self.assertEqual(self.told[name].count(f"Or they keep what {self.three.id[:7]} has"), 2 if name == "taken" else 0)
-            self.assertNotIn("the other devices keep it", self.told[name])
-            self.assertIn(f"What {device.id[:7]} recorded last of it no other device has", self.told[name])
-        self.assertIn(f"To keep it, first copy it from {self.three.id[:7]} to {self.one.id[:7]}", self.told["taken"])
         self.run_both(lambda: not any((device.files / "not-taken").exists() for device in self.devices))
         wait_until_in_step(*self.devices)
         self.stop()
+        self.assert_came(self.fates, *self.missing)
         kept = self.texts_of(self.three)
         self.assertIn(kept, ({}, {("taken", False): NEW}))
         for device in self.devices:

@@ -97,7 +97,7 @@ class RotWithAnotherMode(Rotten):
         entry, = [" ".join(entry.split()) for entry in text.split("\n\n") if entry.startswith("text")]
         for told in (f"{self.two.id[:7]}: other bytes on the disk; size and time are as recorded, the mode isn't, so the next scan sees it",
                      "permissions differ (they don't count for the verdict)", "0644 recorded, 0600 on the disk",
-                     "before Syncthing scans there (the scan sends these bytes to all), copy it from"):
+                     f"if nothing is done: all devices then have what {self.two.id[:7]} has now; what {self.one.id[:7]} has now goes."):
             self.assertIn(told, entry)
 
     def assert_the_next_scan_sends_them(self):
@@ -126,7 +126,10 @@ class BlockSizes(Rotten):
         undo = [rot(self.two.files / name, size - 1) for name, (size, _) in self.sizes.items()]
         try:
             lines = self.report()
-            self.assertEqual(lines[2:], [self.failure("StoreDiffers", name, self.two) for name in sorted(self.sizes)])
+            names = sorted(self.sizes)
+            self.assertEqual(lines[2:5], [self.failure("StoreDiffers", name, self.two) for name in names])
+            # All of these files is recorded as zeros, so a byte of another value may be the right one.
+            self.assertEqual([line.split()[3:5] for line in lines[5:]], [["docs", name] for name in names])
             for name, (size, kilo) in self.sizes.items():
                 blocks = self.file_of(name)["faults"][0]["blocks"]
                 count = size // (kilo * KILO)

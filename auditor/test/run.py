@@ -25,19 +25,8 @@ from concurrent.futures import ThreadPoolExecutor
 from pathlib import Path
 
 HERE = Path(__file__).resolve().parent
-# The longest first.
-CLASSES = [("worlds", "Worlds"),
-           ("rot", "BlockSizes"), ("large_folders", "LargeFiles"), ("large_folders", "LargeFolder"), ("large_folders", "ManyFiles"), ("three_devices", "LeftBehind"), ("three_devices", "EachKind"),
-           ("live_changes", "LiveWriter"), ("live_changes", "LiveReceiver"), ("live_devices", "LiveDevices"), ("live_run", "LiveRun"), ("emulated", "OnARM"),
-           ("firm_devices", "Firm"), ("writers", "OldVersionsInside"), ("unasked", "OtherFolders"), ("unasked", "OwnFolders"), ("unasked", "AwayFolders"), ("data_elsewhere", "DataElsewhere"), ("data_elsewhere", "OldIndex"), ("near_times", "NearTimes"), ("to_repair", "ToRepair"), ("damage", "Damage"), ("encrypted", "Encrypted"), ("conflict", "Conflict"), ("conflict", "ConflictOfSymlinks"), ("conflict", "ConflictOfAConflictCopy"), ("sliced", "Slices"), ("sliced", "SlicesOfRunningDevices"), ("outside", "TemporaryNames"), ("strangers", "Strangers"), ("started", "StartedMeanwhile"), ("at_rest", "ScanUnderWay"), ("unsure", "LinkedFiles"), ("unsure", "ToIgnore"), ("unsure", "OwnData"), ("outside", "Whitelist"), ("outside", "WhitelistOnOneDevice"),
-           ("two_devices", "TwoDevices"), ("one_way", "SendOnly"), ("one_way", "ReceiveOnly"), ("one_way", "OwnReceiveOnly"), ("one_way", "ReceiveOnlyOfWhatIsDeleted"), ("one_way", "ReceiveOnlyThatChangedItBefore"), ("local_changes", "ReceiveOnlyChangedAgain"), ("local_changes", "ReceiveOnlyThatOthersPassed"), ("one_way", "ReceiveOnlyThatKeepsItsChange"), ("local_changes", "ReceiveOnlyChangedItsOwnAgain"), ("one_way", "OwnReceiveOnlyWithAFile"),
-           ("one_way", "ReceiveOnlyThatIsToSend"), ("three_devices", "Chain"), ("three_devices", "ThreeDevices"),
-           ("rot", "RotInManyBlocks"), ("rot", "RotWithAnotherMode"), ("late_rot", "RotThatIsFetched"), ("late_rot", "RotThatIsFetchedBesideAChange"), ("late_rot", "RotThatAChangeReachesFirst"), ("late_rot", "RotThatAnOldChangeMeets"), ("late_rot", "RotThatIsOverridden"), ("late_rot", "RotInAConflict"), ("one_way", "ReceiveOnlyThatSendsItsDeletion"), ("one_way", "ReceiveOnlyThatSendsTimeAndMode"),
-           ("attributes", "RotWithAttributesThatAnOldChangeMeets"), ("attributes", "AttributesOfAMendedFile"), ("attributes", "AttributesOfATouchedFile"), ("attributes", "AttributesThatNoScanHasSeen"), ("attributes", "RotWhereAttributesAreScanned"), ("attributes", "RotThatAScanDrops"),
-           ("behind", "BehindAndSends"), ("behind", "BehindAndReceives"),
-           ("nightly_damaged", "NightlyDamaged"),
-           ("rivals", "BothChanged"), ("rivals", "BothChangedAndOneReceives"), ("rivals", "BehindWithAnotherMode"), ("rivals", "MissingOnTwoThatChangedIt"), ("stuck", "BelowWhatIsReplaced"), ("stuck", "BelowWhatAReceiverReplaced"), ("stuck", "ADirectoryInPlaceOfADeletedFile"), ("taken", "TakenBeforeTheScan"), ("taken", "TakenFromOneThatOnlyReceives"), ("same_time", "ChangesOfOneTime"), ("three_changes", "ThreeChanges"), ("three_changes", "ThreeChangesInAnotherOrder"), ("takers", "ADeviceThatOnlySends"), ("behind", "BehindAndOnlySends"), ("behind", "BehindWithoutCopies"), ("behind", "AskedForRot"), ("untold", "ChangesThatNobodyTells"), ("behind", "NamesThatNoScanTakes"), ("manners", "Manners"), ("nightly", "Nightly"), ("nightly", "NightlySlices"), ("spread", "Spread"), ("untold", "AChangeThatIsHeardAndNotTaken"), ("directories", "DirectoriesOfOneThatOnlyReceives"), ("nightly_down", "NightlyWhereSyncthingIsDown"), ("safe_steps", "FromWhomIsTaken"), ("safe_steps", "Emptied"), ("safe_steps", "MissingAndDeleted"), ("safe_steps", "RotThatIsRenamed"), ("safe_steps", "RotThatAnOldDeviceFetches"), ("safe_steps", "BelowAFile"),
-           ("over_wire", "OverTheWire"), ("waiting_names", "WaitingNames")]
+# The longest first: a module and a class of it on each line.
+CLASSES = [tuple(line.split()) for line in (HERE / "classes.txt").read_text().splitlines()]
 # The classes and Go's tests.
 ALL = len(CLASSES) + 1
 SIDE_BY_SIDE = 4
@@ -45,8 +34,8 @@ SIDE_BY_SIDE = 4
 COMMITS_APART = 7
 # What devices may run.
 VERSIONS = ("syncthing v1.19", "syncthing v1.29")
-# Go's tests take some seconds. One of the others fails by itself where a wait takes 300; this is for what else may hang.
-SECONDS_OF_GO = 240
+# Go's tests take two minutes of a processor. One of the others fails by itself where a wait takes 300; this is for what else may hang.
+SECONDS_OF_GO = 900
 SECONDS_OF_A_CASE = 600
 
 

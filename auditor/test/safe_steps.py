@@ -50,8 +50,9 @@ class FromWhomIsTaken(Followed):
         self.rot("zeta")
         first, told = self.read()
         one, two, three = map(self.label, self.devices)
-        self.assertTrue(first.startswith(f"first, on {two}: do what the entries below say to do before Syncthing starts or scans there."), first)
+        self.assertTrue(first.startswith(f"first, on {two}: do what the steps and the entries below say to do before Syncthing starts or scans there."), first)
         self.assertEqual(list(told), ["zeta", "alpha"], "what may lose bytes doesn't come first")
+        self.assertIn(f"all devices then have what {one} has now", told["zeta"])
         self.assertIn(f"let Syncthing run on {three} and on {one}, and let them finish", told["alpha"])
         for device in (self.three, self.one):
             device.start()
@@ -94,9 +95,8 @@ class Emptied(LateRot):
         self.assertIn(f"first, on {two}: 8 files look damaged, not edited. Copy back what is to stay, as said below, before Syncthing starts or scans there", text)
         self.assertIn(f"6 names in docs: 90 bytes {two}: looks damaged: 90 bytes recorded, 0 bytes on the disk: EMPTY the first: emptied0", text)
         self.assertIn(f"{two}: looks damaged: 10 bytes recorded, 3 bytes on the disk: cut short under the recorded time (modified", text)
-        self.assertIn(f"{two}: looks damaged: a block of it is all zeros now (modified", text)
-        self.assertEqual(text.count("this looks like damage, not like an edit. Before Syncthing scans there (the scan takes "), 3)
-        self.assertEqual(text.count(f"from {one} to {two} with its time alone (cp --preserve=timestamps,"), 2)
+        self.assertIn(f"{two}: looks damaged: all of it is ZEROS (modified", text)
+        self.assertEqual(text.count(f"behind 'to do in': all devices then have what {one} has now."), 3)
         for name in (*self.emptied, "cut", "zeroed"):
             self.mend(name, "--preserve=timestamps")
         self.assertEqual(self.verdict(), "settled")
@@ -123,7 +123,7 @@ class MissingAndDeleted(LateRot):
         (self.two.files / "folder" / "large").unlink()
         (self.two.files / "folder").rmdir()
         text = " ".join(self.answer()[1].split())
-        self.assertEqual(text.count(f"to do: start Syncthing on {self.label(self.two)} and 'Rescan': the other devices have deleted it, too."), 3)
+        self.assertEqual(text.count("if nothing is done: no device has it then."), 3)
         for word in ("mounted", "cp -a", "first, on", "before Syncthing"):
             self.assertNotIn(word, text)
         self.start()
@@ -152,10 +152,9 @@ class RotThatIsRenamed(LateRot):
         two = self.label(self.two)
         for name in (KEPT, LOST):
             entry, first = self.entry(name)
-            self.assertIn(f"to do: before Syncthing starts there, move it out of the folder on {two} while Syncthing is stopped there: others deleted it, and Syncthing takes "
-                          "that for a rename: it moves these bytes to the new name, and takes them for the right ones", entry)
-            self.assertNotIn("are gone", entry)
-            self.assertTrue(first.startswith(two))
+            self.assertIn("if nothing is done: no device has it then", entry)
+        fates = self.foretold()
+        self.assertEqual([fates["new-" + name]["fate"] for name in (KEPT, LOST)], ["stays", "stays"])
         (self.two.files / KEPT).rename(self.room / KEPT)
         self.start()
         wait_until("the second device has both new names", lambda: all(text_of(self.two.files / ("new-" + name)) for name in (KEPT, LOST)))
@@ -201,19 +200,16 @@ class RotThatAnOldDeviceFetches(LateRot):
             self.rot(name)
         self.record(self.one, "changed ", -1000)
         self.record(self.three, "an older ", -2000)
-        one, two = self.label(self.one), self.label(self.two)
+        fates = self.foretold()
         for name in (KEPT, LOST):
-            entry, first = self.entry(name)
-            self.assertIn(f"to do: these bytes may go to all: if another device takes it from {two} before {two} has what is newest, they become a change, in conflict with "
-                          f"what the others have. So before Syncthing starts there, keep a copy elsewhere of what {one} has, and copy it from {one} to {two} as it is (cp -a,", entry)
-            self.assertNotIn("are gone", entry)
-            self.assertTrue(first.startswith(two))
+            self.assertEqual(fates[name]["fate"], "lost")
         self.mend(KEPT, "-a")
         for device in (self.two, self.three):
             device.start()
         wait_until("the third device has taken both", lambda: text_of(self.three.files / LOST) == "rotten " + LOST and text_of(self.three.files / KEPT) == "changed " + KEPT)
         self.one.start()
         wait_until("the rotten bytes are on all devices", lambda: text_of(self.one.files / LOST) == "rotten " + LOST)
+        wait_until("it came to an end that was told", lambda: not self.untrue(fates, LOST))
         self.stop()
         for device in self.devices:
             self.assertEqual(text_of(device.files / KEPT), "changed " + KEPT)
@@ -237,14 +233,10 @@ class BelowAFile(LateRot):
         inner.write_text("a file")
         one, two = self.label(self.one), self.label(self.two)
         text = self.answer()[1]
-        first, *entries = [" ".join(part.split()) for part in text.split("\n\n")[1:]]
-        self.assertTrue(first.startswith("folder/inner "), text)
-        self.assertIn("to do: before Syncthing scans there (the scan takes all that was below the directory for deleted, 2 files, and sends that on), "
-                      f"copy it from {one} to {two} as it is (cp -a, ", first)
-        for name, entry in zip((KEPT, LOST), entries):
-            self.assertTrue(entry.startswith(f"folder/inner/{name} "), text)
-            self.assertIn(f"first copy the directory folder/inner, in which it is, from {one} to {two} as it is (cp -a, ", entry)
-            self.assertIn("with all that is below, once the file that stands in its place is moved away, while Syncthing is stopped there", entry)
+        copied = f"copy it from {one}, as it is there, with all below it (cp -a, or rsync -aI, as the user who runs Syncthing there)"
+        steps = ("copy it elsewhere if what stands there may be right: it goes by the steps below", "delete what stands there in its place", copied)
+        told = "".join(f"    {number}. on {two}: {step}\n" for number, step in enumerate(steps, 1))
+        self.assertIn("  for folder/inner, with 2 names below it:\n" + told, text)
         inner.rename(self.room / "moved away")
         subprocess.run(["cp", "-a", self.one.files / "folder" / "inner", inner], check=True)
         self.assertEqual(self.verdict(), "settled")

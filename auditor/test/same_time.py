@@ -6,13 +6,11 @@ versions, and keeps what the answer says that it keeps.
 """
 
 import os
-import re
 
 from behind import OLD, Behind
 from exporting import main
 from syncthing import wait_until, wait_until_in_step
 
-WHOSE = re.compile(r"keeps that of (\w{7}) \(both were modified at the same time, so their versions decide[);]")
 
 
 class ChangesOfOneTime(Behind):
@@ -64,22 +62,12 @@ class ChangesOfOneTime(Behind):
         (device.files / name).symlink_to(target)
 
     def test_syncthing_keeps_whose_the_answer_says(self):
-        first = {name: WHOSE.search(self.told[name]) for name in self.recorded + self.found + self.links}
-        self.assertNotIn(None, first.values(), self.told)
-        self.assertIn("keeps the one that was modified later, and the other one as a conflict copy", self.told["later"])
-        texts = {self.one.id[:7]: "one", self.two.id[:7]: "number two"}
         self.run_both(lambda: all(self.have_all(device) for device in self.devices))
         wait_until_in_step(*self.devices)
         self.stop()
-        for name in self.recorded + self.found:
-            kept = [OLD if name == "mode" and text == "one" else text for text in texts.values()]
-            if texts[first[name][1]] == "number two":
-                kept.reverse()
-            for device in self.devices:
-                self.assert_texts(device, **{name: kept, "later": ["number two", "one"]})
-        for name in self.links:
-            for device in self.devices:
-                self.assertEqual(os.readlink(device.files / name), texts[first[name][1]])
+        self.assert_came(self.fates, *self.recorded, *self.found, *self.links, "later")
+        for name in (*self.recorded, *self.found, *self.links):
+            self.assertEqual(len(self.fates[name]["ends"]), 1, name)
 
     def have_all(self, device):
         """Whether a device has the conflict copies of all files, and a target that both have."""

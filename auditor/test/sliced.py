@@ -56,10 +56,11 @@ class Slices(Exporting):
         return lines[0], {one["name"]: one for one in names}, lines[-1]["end"]
 
     def faults(self, *words):
-        """What an audit finds wrong: the lines with a reason and a name, and what is said beside them; how many names it is of."""
+        """What an audit finds wrong: the lines with a reason and a name, and what is said beside them, but of what comes first on a device; how many
+        names it is of."""
         lines = without_firmness(self.check(*words).stdout.splitlines())
         counts = [int(number) for number in re.findall(r"\d+", lines[1])[:2]]
-        return [line for line in lines[2:] if not line.startswith("not asked for: ")], counts
+        return [line for line in lines[2:] if not line.startswith(("not asked for: ", "first: "))], counts
 
     def test_each_name_is_in_one_slice(self):
         """Names that are on the disk alone are, too, as are those that an index has alone. The slice is that of the page. Of a slice no
@@ -172,7 +173,7 @@ class Slices(Exporting):
         ignored.write_text("/link\n")
         try:
             for number in range(1, SLICES + 1):
-                ran = self.check(*words_of(number))
+                ran = self.check("--strict", *words_of(number))
                 self.assertEqual((ran.returncode, "link" in ran.stderr), (2, True) if number == slice_of("link") else (0, False), ran.stderr)
         finally:
             ignored.unlink()

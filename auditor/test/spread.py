@@ -78,7 +78,7 @@ class Spread(unittest.TestCase):
     def test_the_command_of_the_page(self):
         """The sum of the answers is the answer of 'check', and nothing of the jobs stays."""
         alone = run([self.program, "check", *self.parts, "--lines", "--syncaudit", auditor()])
-        self.assertEqual((alone.returncode, len(alone.stdout.splitlines())), (1, 5))
+        self.assertEqual((alone.returncode, len(alone.stdout.splitlines())), (1, 8))
         block, = re.findall(r"```\n(syncthing-audit export .*?)```", README.read_text(), re.DOTALL)
         self.assertIn(MACHINES, block)
         configuration = self.start_sshd()

@@ -1,21 +1,23 @@
 #!/usr/bin/env python3
-"""Stands for the program `syncaudit` where it isn't built: `certify`, and `check`, `firm` and `explain`, each also with
-`--certify`, by the second reading in second/. It explains without what is indented.
+"""Stands for the program `syncaudit` where it isn't built: `certify`, `converge`, and `check`, `firm` and `explain`,
+each also with `--certify`, by the second reading in second/. It explains without what is indented.
 
     auditor/test/stand_in.py certify < CUT
     auditor/test/stand_in.py check < DOCUMENT
     auditor/test/stand_in.py firm < DOCUMENT
     auditor/test/stand_in.py explain < DOCUMENT
     auditor/test/stand_in.py check --certify < CUT
+    auditor/test/stand_in.py converge < CUT
 
 CUT is what is exported, without a certificate. Where $WITHOUT_FIRM is set, it doesn't know
-`firm` and `--certify`, as an older program.
+`firm`, `converge` and `--certify`, as an older program.
 """
 
 import os
 import sys
 
 from documents import certified  # first: it finds second/
+import converge
 import firm
 import under_winners
 from reports import answer, answers, printed, refusal
@@ -44,13 +46,13 @@ def say_whether_firm(written):
     return firm.answers(written)[0]
 
 
-COMMANDS = {"certify": certify, "check": answer, "explain": explain, "firm": say_whether_firm}
+COMMANDS = {"certify": certify, "check": answer, "explain": explain, "firm": say_whether_firm, "converge": converge.answer}
 STATUS_OF_USAGE = 3
 
 
 def main():
     word, *flags = sys.argv[1:]
-    if (word == "firm" or flags) and "WITHOUT_FIRM" in os.environ:
+    if (word in ("firm", "converge") or flags) and "WITHOUT_FIRM" in os.environ:
         sys.exit(STATUS_OF_USAGE)
     document = sys.stdin.buffer.read()
     said, status = under_winners.answers(document)[word] if flags else COMMANDS[word](document)

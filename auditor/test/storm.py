@@ -45,10 +45,14 @@ class Round:
         self.kinds = {device.name: self.random.choice(KINDS) for device in self.devices}
         self.storm = Storm(self.devices, self.random)
 
+    def linked(self, device):
+        """The devices with which one shares the folder, and itself."""
+        return self.devices
+
     def begin(self):
         """Brings all devices into step, and has some history."""
         for device in self.devices:
-            device.set_up(self.devices, "sendreceive")
+            device.set_up(self.linked(device), "sendreceive")
         self.storm.make_all()
         start(self.devices)
         rest(self.devices)
@@ -60,7 +64,7 @@ class Round:
             rest(self.devices)
         stop(self.devices)
         for device in self.devices:
-            device.set_up(self.devices, self.kinds[device.name])
+            device.set_up(self.linked(device), self.kinds[device.name])
 
     def plan(self, phases):
         """When which names are changed on which devices."""

@@ -5,6 +5,7 @@ something; be it one that only receives. What the answer says that Syncthing doe
     auditor/test/stuck.py
 """
 
+import json
 import shutil
 
 from behind import NEW, OLD, Behind
@@ -55,16 +56,6 @@ class BelowWhatIsReplaced(Behind):
         return device.api("GET", "folder/errors?folder=docs")["errors"] or []
 
     def test_what_is_told_comes_so(self):
-        two = self.two.id[:7]
-        for name, told, what in (("recorded", "recorded/in", "a file"), ("found", "found/in", "a file"), ("linked", "linked/new", "a symlink")):
-            for entry in (name, told):
-                self.assertIn(f"Syncthing gets stuck here, and lists 'Failed Items': on {two} {what} stands in place of the directory {name}", self.told[entry])
-                self.assertNotIn("since a change goes before a deletion", self.told[entry])
-                self.assertNotIn("goes to all", self.told[entry])
-        self.assertIn("a scan takes it for deleted. Below it there is what other devices keep, so Syncthing makes the directory again", self.told["missing"])
-        self.assertNotIn("all devices delete", self.told["missing"])
-        for entry in ("recorded", "found", "linked"):
-            self.assertIn("nothing in place of a directory that has more than Syncthing's temporary files and what .stignore marks with (?d): these it deletes.", self.told[entry])
         self.put_what_is_deleted()
         self.start()
         wait_until("both are stuck", lambda: {"recorded", "found", "linked"} <= self.failed(self.one).keys()
@@ -74,6 +65,8 @@ class BelowWhatIsReplaced(Behind):
         self.assertEqual([path.name for path in (self.one.files / "recorded").iterdir()], ["in"])
         for device in self.devices:
             wait_until("what is kept is there, and its directory", lambda: text_of(device.files / "missing/in") == NEW)
+        names = [f"{name}{below}" for name in self.directories for below in ("", "/in")]
+        wait_until("all names come to an end that was told", lambda: not self.untrue(self.fates, *names, "linked/new"))
         self.mend()
         wait_until("all is as it was decided", lambda: all(self.is_mended(device) for device in self.devices))
         self.stop()
@@ -90,7 +83,7 @@ class BelowWhatIsReplaced(Behind):
                 and (device.files / "linked").is_symlink() and device.shows_up_to_date())
 
     def mend(self):
-        """Does what the answer says: the one directory is to stay, and the others aren't."""
+        """The one directory is to stay, and the others aren't."""
         shutil.move(self.two.files / "recorded", self.room / "away")
         self.two.scan()
         for name in ("found", "linked"):
@@ -139,21 +132,22 @@ class BelowWhatAReceiverReplaced(Behind):
         cls.put(cls.two, name, "a file", 500)
 
     def test_what_is_told_comes_so(self):
-        two = self.two.id[:7]
-        for told, name, what in (("recorded/in", "recorded", "file"), ("found/in", "found", "file"), ("linked/new", "linked", "symlink")):
-            self.assertIn(f"on {two} a {what} stands in place of the directory {name}, and as long as it does, Syncthing puts nothing below that there", self.told[told])
-            self.assertNotIn("goes to all", self.told[told])
-            self.assertNotIn("brings what they have", self.told[told])
-        self.assertIn(f"'Revert Local Changes' on {two} makes it the directory again", self.told["found/in"])
-        self.assertIn(f"Once Syncthing runs on {two}, it takes what they have", self.told["passed/in"])
+        revert, = [choice for choice in self.choices() if choice["act"] == "revert"]
+        self.assertEqual((revert["device"], revert["not_known"]), (self.two.id, 0))
         self.start()
         wait_until("the second device is stuck", lambda: {"recorded/in", "found/in", "linked/new"} <= self.failed())
         wait_until("it has what it takes by itself", lambda: (self.two.files / "passed/in").exists() and text_of(self.two.files / "passed/in") == NEW)
+        wait_until("all names come to an end that was told", lambda: not self.untrue(self.fates, *(f"{name}/in" for name in self.directories), "linked/new"))
         self.two.api("POST", "db/revert?folder=docs")
         wait_until("it has all", lambda: all((self.two.files / name).is_dir() for name in self.directories) and self.one.is_in_step_with(self.two))
         self.stop()
         for name in ("recorded/in", "passed/in", "found/in", "linked/new"):
             self.assertEqual(text_of(self.two.files / name), NEW)
+
+    def choices(self):
+        """What may be chosen for the whole folder."""
+        ran = self.on_homes("check", [device.home for device in self.devices], "--syncaudit", self.auditor, "--json")
+        return json.loads(ran.stdout)["folders"][0]["outlook"]["choices"]
 
     def failed(self):
         return {one["path"] for one in self.two.api("GET", "folder/errors?folder=docs")["errors"] or []}
@@ -185,11 +179,9 @@ class ADirectoryInPlaceOfADeletedFile(Behind):
         (cls.two.files / "missing").unlink()
 
     def test_what_is_told_comes_so(self):
-        one = self.one.id[:7]
-        self.assertIn(f"{one} has a directory in its place, which Syncthing doesn't delete for a deleted file or symlink", self.told["deleted"])
-        self.assertIn(f"But {one} has a directory in its place, which Syncthing may not delete", self.told["missing"])
         self.start()
         wait_until("both fail", lambda: "".join(one["error"] for one in self.failed()).count("encountered directory") == 2)
+        self.assert_came(self.fates, "deleted", "missing")
         for name in ("deleted", "missing"):
             (self.one.files / name).rmdir()
         self.one.scan()

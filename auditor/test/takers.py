@@ -47,17 +47,10 @@ class ADeviceThatOnlySends(Behind):
             (cls.three.files / name).chmod(0o600)
 
     def test_what_is_told_comes_so(self):
-        one, three = self.one.id[:7], self.three.id[:7]
-        keeps = f": {three} only sends, keeps what it has, shows 'Out of Sync', and 'Override Changes' there takes this back"
-        for name, goes in (("touched", "the time then goes to all but"), ("changed", "the change then goes to all but"), ("new", "it then goes to all but")):
-            self.assertIn(f"start Syncthing on {one} and 'Rescan': {goes} {three}{keeps}", self.told[name])
-        self.assertIn(f"a scan takes it for deleted, and then all devices but {three} delete it{keeps}", self.told["missing"])
-        for name in ("earlier", "later"):
-            self.assertIn(f"{three} only sends: it keeps what stands there in any case. Where that was modified earlier, the others keep theirs, and may have no copy of it",
-                          self.told[name])
         self.run_both(self.have_taken)
         wait_until("the third device has heard of all", lambda: self.three.knows_all_of(self.one) and self.three.knows_all_of(self.two))
         self.assert_taken()
+        self.assert_came(self.fates, *self.old, "new")
         status = self.three.api("GET", "db/status?folder=docs")
         copies = ("later", True) in self.texts_of(self.two)
         self.assertEqual(status["needTotalItems"], len(("touched", "changed", "missing", "new", "later", "earlier.sync-conflict")) + copies)

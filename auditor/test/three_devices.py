@@ -30,9 +30,11 @@ class ThreeDevices(Exporting):
         for some in (parts, parts[::-1]):
             ran = self.check_parts(some)
             self.assertEqual((ran.returncode, without_firmness(ran.stdout.splitlines())), (0, settled), ran.stderr)
+        why = f"no home or part of it is given ({self.three.id})"
+        ran = self.check_parts(parts[:2], "--strict")
+        self.assertEqual((ran.returncode, ran.stdout, why in ran.stderr), (2, "", True), ran.stderr)
         ran = self.check_parts(parts[:2])
-        self.assertEqual((ran.returncode, ran.stdout), (2, ""))
-        self.assertIn(f"no home or part of it is given ({self.three.id})", ran.stderr)
+        self.assertEqual((ran.returncode, why in ran.stdout), (6, True), ran.stdout)
 
     def test_each_device_has_a_view_of_each_other(self):
         cut = self.document()["cut"]
@@ -101,16 +103,20 @@ class LeftBehind(Exporting):
         wait_until_in_step(self.one, self.two)
         self.stop()
         self.assertEqual(self.verdict(), self.fault("RecordDiffers", "text", three))
+        self.assertEqual(self.convergence, [f"converging: {FOLDER}"])
         self.assert_a_person_reads_of_it_once(three)
         self.assert_parts_are_of_one_moment(before)
 
         (three.files / "empty").write_text("written while it was off")
         self.assertEqual(self.verdict("--names", "empty"), self.fault("StoreDiffers", "empty", three))
+        self.assertEqual(self.convergence, [f"not converging: {self.failure('StoreUnclean', 'empty', three)}"])
 
         self.start()
         wait_until_in_step(*self.devices)
         for device in self.devices:
             self.assertEqual((device.files / "empty").read_text(), "written while it was off")
+            self.assertEqual((device.files / "text").read_text(), "changed on one")
+            self.assertEqual(list(device.files.glob("*.sync-conflict-*")), [])
         self.stop()
         self.assertEqual(self.verdict(), "settled")
 
@@ -122,17 +128,21 @@ class LeftBehind(Exporting):
         self.assertEqual(len(entries), 1, ran.stdout)
         self.assertEqual(entries[0].splitlines()[0], f"text  (in {FOLDER}, 14 bytes)")
         self.assertIn(f"  {three.id[:7]}: behind: hasn't taken what is newest (modified ", entries[0])
+        self.assertIn("  still to come: 1 pair of a name and a device\n  proved for devices that keep a few rules ", ran.stdout)
 
     def assert_parts_are_of_one_moment(self, before):
-        """Parts of the three devices say what their homes do; with the first device's part of before they are
-        refused."""
+        """Parts of the three devices say what their homes do; with the first device's part of before, what changed since is in
+        motion, or they are refused."""
         parts = [self.part(device) for device in self.devices]
         ran = self.check_parts(parts)
         self.assertEqual(without_firmness(ran.stdout.splitlines()), self.report())
         parts[0].write_bytes(before)
-        ran = self.check_parts(parts)
+        ran = self.check_parts(parts, "--strict")
         self.assertEqual((ran.returncode, ran.stdout), (2, ""))
         self.assertIn("it is of an earlier moment than", ran.stderr)
+        ran = self.check_parts(parts)
+        self.assertEqual(ran.returncode, 6, ran.stderr)
+        self.assertIn(f"in motion: {FOLDER} text on {self.number(self.one)}: later", ran.stdout.splitlines())
 
 
 class Chain(Exporting):

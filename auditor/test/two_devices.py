@@ -244,10 +244,10 @@ class TwoDevices(Answers, Exporting):
                 self.assertIn(f"its directory {self.one.files} is that of device", ran.stderr)
 
     def test_a_missing_home_is_refused_or_left_out(self):
-        ran = self.check_homes([self.one.home])
+        ran = self.check_homes([self.one.home], "--strict")
         self.assertEqual((ran.returncode, ran.stdout), (2, ""))
         self.assertIn(f"it shares the folder, and no home or part of it is given ({self.two.id})", ran.stderr)
-        ran = self.check_homes([self.one.home], "--leave-out", "absent")
+        ran = self.check_homes([self.one.home])
         self.assertEqual((ran.returncode, ran.stdout.splitlines()[0]), (6, "settled as far as audited"))
         self.assertIn(f"left out: folder {FOLDER}, device", ran.stdout)
 
@@ -255,7 +255,7 @@ class TwoDevices(Answers, Exporting):
         self.one.configure([self.one, self.two], password="secret")
         try:
             self.assertIn("the folder is shared encrypted with it by device", self.refused())
-            ran = self.check("--leave-out", "encrypted")
+            ran = self.check()
             self.assertEqual((ran.returncode, ran.stdout.splitlines()[:2]), (6, ["settled as far as audited", f"folder {FOLDER}: 6 names, 1 deleted, 1 devices"]))
         finally:
             self.one.configure([self.one, self.two])
@@ -264,6 +264,8 @@ class TwoDevices(Answers, Exporting):
         self.two.configure([self.two])
         try:
             self.assertIn("it doesn't share the folder with device", self.refused())
+            ran = self.check()
+            self.assertEqual((ran.returncode, ran.stdout.splitlines()[1]), (6, f"folder {FOLDER}: 6 names, 1 deleted, 1 devices"), ran.stderr)
         finally:
             self.two.configure([self.one, self.two])
 
@@ -272,7 +274,7 @@ class TwoDevices(Answers, Exporting):
         open(path, "xb").close()
         try:
             self.assertIn(r"name '[not-for-typing:odd\xff]': its name", self.refused())
-            ran = self.check("--leave-out", "names")
+            ran = self.check()
             self.assertEqual((ran.returncode, ran.stdout.splitlines()[0]), (6, "settled as far as audited"))
         finally:
             os.remove(path)
@@ -375,7 +377,8 @@ class TwoDevices(Answers, Exporting):
             parts = [self.part(device) for device in self.devices]
         ran = self.check_parts(parts)
         self.assertEqual((ran.returncode, ran.stdout.splitlines()[0]), (1, self.differs()), ran.stderr)
-        ran = self.check_parts(parts[:1])
+        self.assertEqual(self.check_parts(parts[:1]).returncode, 6)
+        ran = self.check_parts(parts[:1], "--strict")
         self.assertEqual((ran.returncode, ran.stdout), (2, ""))
 
     def test_a_part_tells_which_syncthing_runs(self):

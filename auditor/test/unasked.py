@@ -42,7 +42,7 @@ class OtherFolders(Exporting):
     def told(self, *words):
         """What an audit for people says of other folders, and its status."""
         ran = run([self.program, "check", *words, "--syncaudit", self.auditor])
-        return ran.returncode, [line for line in ran.stdout.splitlines() if line.startswith("not ") and "compared" not in line]
+        return ran.returncode, [line for line in ran.stdout.splitlines() if line.startswith("not ") and not line.startswith("not signed") and "compared" not in line]
 
     def homes(self):
         """The words for all homes."""
@@ -82,9 +82,13 @@ class OtherFolders(Exporting):
         self.assertIn(f"documents would be in folder {OTHER} ({LABEL}) of {self.one.home}, whose devices would all get the documents", ran.stderr)
 
     def test_one_part_is_without_a_folder(self):
-        ran = self.check_parts([self.part(self.one), self.part(self.two, "--folder", FOLDER)])
+        parts, why = [self.part(self.one), self.part(self.two, "--folder", FOLDER)], f"folder {OTHER}{{}}, device {self.two.id}: its part is without the folder: make it without --folder"
+        ran = self.check_parts(parts, "--strict")
         self.assertEqual((ran.returncode, ran.stdout), (2, ""))
-        self.assertIn(f"folder {OTHER} ({LABEL}), device {self.two.id}: its part is without the folder: make it without --folder", ran.stderr)
+        self.assertIn(why.format(f" ({LABEL})"), ran.stderr)
+        ran = self.check_parts(parts)
+        self.assertEqual((ran.returncode, ran.stdout.splitlines()[0]), (6, "settled as far as audited"))
+        self.assertIn(why.format(""), ran.stdout)
 
     def test_one_folder_of_all(self):
         for inputs in (self.homes(), [self.part(device) for device in self.devices]):
@@ -132,7 +136,7 @@ class OtherFolders(Exporting):
     def test_refusals_name_the_label(self):
         part = ("part", "--home", self.one.home, "--folder", OTHER, "-o")
         files = self.one.home.parent / OTHER
-        self.assert_named(["check", "--home", self.one.home, "--syncaudit", self.auditor], ", device .*: it shares the folder")
+        self.assert_named(["check", "--strict", "--home", self.one.home, "--syncaudit", self.auditor], ", device .*: it shares the folder")
         self.assert_named([*part, files / "one.part"], ", whose devices would all get it")
         (files / ".stignore").write_text("#include nowhere\n")
         for look in ((), ("--begin",)):
@@ -175,10 +179,10 @@ class AwayFolders(Exporting):
         folder.find("paused").text = str(is_paused).lower()
         tree.write(path)
 
-    def assert_left_out_there(self, ran):
+    def assert_left_out_there(self, ran, why=None):
         """The other folder is audited, and what isn't there is told."""
         self.assertEqual(ran.returncode, 6, ran.stderr)
-        told = f"left out: {OTHER} ({LABEL}) of {self.two.id}: it is paused there, and there is no {self.files}: mount its disk, and audit again\n"
+        told = f"left out: {OTHER} ({LABEL}) of {self.two.id}: it is paused there, and {why or f'there is no {self.files}'}: mount its disk, and audit again\n"
         self.assertEqual(ran.stdout.count(told), 1, ran.stdout)
         self.assertRegex(ran.stdout, rf"(?m)^{FOLDER}: {in_step()}[;,] ")
         self.assertNotIn("not audited:", ran.stdout)
@@ -190,7 +194,8 @@ class AwayFolders(Exporting):
         self.assertEqual((ran.returncode, ran.stderr.count(f"the part is without folder {OTHER} ({LABEL}): it is paused there")), (0, 1), ran.stderr)
         homes = [device.home for device in self.devices]
         for words in (("check", *parts), ("check", "--home", homes[0], "--home", homes[1]), ("run", *homes, "--still", "0")):
-            self.assert_left_out_there(run([self.program, *words, "--syncaudit", self.auditor]))
+            why = "its directory isn't there" if words[1:] == tuple(parts) else None
+            self.assert_left_out_there(run([self.program, *words, "--syncaudit", self.auditor]), why)
         ran = run([self.program, "check", *parts, "--json", "--syncaudit", self.auditor])
         read = json.loads(ran.stdout)
         self.assertEqual((read["verdict"], read["not_asked"], [(one["folder"], one["kind"]) for one in read["left_out"]]),
@@ -204,17 +209,24 @@ class AwayFolders(Exporting):
         parts = [self.part(device) for device in self.devices]
         for folder, status, verdict, count in ((OTHER, 6, "settled as far as audited", 1), (FOLDER, 0, "settled", 0)):
             ran = self.check_parts(parts, "--folder", folder)
-            self.assertEqual((ran.returncode, ran.stdout.splitlines()[0], ran.stdout.count("it is paused there, and there is no")), (status, verdict, count))
+            self.assertEqual((ran.returncode, ran.stdout.splitlines()[0], ran.stdout.count("it is paused there, and its directory isn't there")), (status, verdict, count))
 
     def test_it_is_not_paused(self):
-        """Syncthing stops such a folder with an error, so it is refused."""
+        """Syncthing stops such a folder with an error. It is left out, and the others are audited; a strict run refuses it."""
+        words = [self.program, "run", self.one.home, self.two.home, "--still", "0", "--syncaudit", self.auditor]
         self.pause(self.two, False)
         try:
-            ran = run([self.program, "run", self.one.home, self.two.home, "--still", "0", "--syncaudit", self.auditor])
+            ran, strict = run(words), run([*words, "--strict"])
+            part = run([self.program, "part", "--strict", "--home", self.two.home, "-o", self.room / "none.part"])
         finally:
             self.pause(self.two, True)
-        self.assertEqual((ran.returncode, ran.stdout), (2, ""))
-        self.assertIn(f"there is no {self.files}: is its disk mounted?", ran.stderr)
+        why = f"{OTHER} ({LABEL}) of {self.two.id}: there is no {self.files}: mount its disk, and audit again. Syncthing has stopped the folder there\n"
+        self.assertEqual((ran.returncode, ran.stdout.count(f"left out: {why}")), (6, 1), ran.stdout)
+        self.assertRegex(ran.stdout, rf"(?m)^{FOLDER}: .*{in_step()}[;,] ")
+        self.assertEqual((strict.returncode, strict.stdout), (2, ""))
+        self.assertIn(f"there is no {self.files}: mount its disk", strict.stderr)
+        self.assertEqual(part.returncode, 2)
+        self.assertIn(f"there is no {self.files}: is its disk mounted?", part.stderr)
 
     def test_both_have_it_away(self):
         """No device has anything of the folder then. That is told of each."""
@@ -228,7 +240,7 @@ class AwayFolders(Exporting):
             files.with_name("away").rename(files)
             self.pause(self.one, False)
         self.assertEqual((asked.returncode, asked.stdout), (2, ""))
-        self.assertRegex(asked.stderr, f"no part has folder {OTHER} .*: it is paused there, and there is no")
+        self.assertRegex(asked.stderr, f"no part has folder {OTHER} .*: it is paused there, and its directory isn't there")
         self.assert_left_out_there(ran)
         self.assertEqual(ran.stdout.count(f"left out: {OTHER} ({LABEL}) of "), 2)
 
@@ -326,14 +338,14 @@ class OwnFolders(Exporting):
                     wrong = [one for one in json.loads(self.told("check", *inputs, "--json")[1])["folders"] if one["names_wrong"]]
                     self.assertEqual([(one["id"], [at["device"] for at in one["devices"]], one["not_shared"]) for one in wrong],
                                      [("default", [device.id], True)])
-                    self.assertIn("'touch' the file there and let Syncthing scan: it records them.", " ".join(self.told("check", *inputs)[1].split()))
+                    self.assertIn("look among old versions and backups for a file with the recorded bytes", " ".join(self.told("check", *inputs)[1].split()))
 
     def test_a_folder_that_is_shared_with_a_device_that_is_missing(self):
         """There is another device to compare it with, and that is told."""
         alone = self.part(self.one)
-        ran = run([self.program, "check", alone, "--syncaudit", self.auditor])
+        ran = run([self.program, "check", "--strict", alone, "--syncaudit", self.auditor])
         self.assertEqual((ran.returncode, ran.stdout), (2, ""))
-        status, text = self.told("check", alone, "--leave-out", "absent")
+        status, text = self.told("check", alone)
         self.assertEqual(status, 6)
         self.assertIn(f"\nalone: {FOLDER} is audited on one device", text)
 
@@ -363,7 +375,7 @@ class OwnFolders(Exporting):
         xml.SubElement(tree.getroot(), "device", id=third)
         tree.write(path)
         try:
-            status, text = self.told("check", *self.inputs()[0], "--leave-out", "absent,unshared")
+            status, text = self.told("check", *self.inputs()[0])
         finally:
             path.write_text(before)
         self.assertEqual(status, 6)

@@ -55,7 +55,7 @@ class LinkedFiles(Unsure):
         self.stop()
         self.other(self.two).unlink()
         os.link(self.two.files / "text", self.other(self.two))
-        self.assert_not_known("1 name of files that have hard links elsewhere")
+        self.assert_not_known("1 name stands for a file that has a name elsewhere, too (a hard link)")
         self.start()
         self.two.api("POST", f"db/scan?folder={OTHER}")
         os.utime(self.other(self.one), (LATER, LATER))

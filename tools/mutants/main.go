@@ -1,7 +1,8 @@
 // Mutants says which bugs a package's tests don't see. It changes one place of the package at a time, by Go's own syntax tree,
-// and runs the package's tests. No file is changed: the compiler is given the changed file in place of the other one.
+// and runs the package's tests. No file is changed: the compiler is given the changed files in place of the others. It compiles
+// the tests once with nearly all mutants, each behind a switch, and runs for each mutant the tests that come to it.
 //
-//	tools/mutants/run [--turn K/N] [--seconds S] [--jobs N] PACKAGE..
+//	tools/mutants/run [--turn K/N] [--sample N] [--seconds S] [--jobs N] PACKAGE..
 //
 // Each mutant that all tests let pass is printed with file, line and change. One that stands in same.txt, with the reason why
 // nobody could see it, isn't counted. The last line is 'N passed, M failed'. A mutant that a test sees has passed.
@@ -11,8 +12,9 @@ import (
 	"bufio"
 	"flag"
 	"fmt"
-	"go/build"
+	"math/rand"
 	"os"
+	"sort"
 	"strings"
 	"sync"
 	"time"
@@ -20,6 +22,7 @@ import (
 
 type asked struct {
 	turn, turns int
+	sample      int
 	until       time.Time
 	jobs        int
 	most        float64 // how many of a hundred mutants may survive
@@ -28,12 +31,13 @@ type asked struct {
 
 func main() {
 	turn := flag.String("turn", "1/1", "only each N-th mutant, from the K-th on")
+	sample := flag.Int("sample", 0, "so many mutants of each package, chosen by chance; 0 is all")
 	seconds := flag.Int("seconds", 0, "begin no mutant after so many seconds")
 	jobs := flag.Int("jobs", 2, "how many at once")
 	most := flag.Float64("most", 5, "how many of a hundred mutants may survive")
 	same := flag.String("same", "", "the file of mutants that are the same program")
 	flag.Parse()
-	given := asked{jobs: *jobs, most: *most}
+	given := asked{sample: *sample, jobs: *jobs, most: *most}
 	if _, err := fmt.Sscanf(*turn, "%d/%d", &given.turn, &given.turns); err != nil || given.turn < 1 || given.turn > given.turns {
 		fail(fmt.Errorf("--turn is K/N, with K from 1 to N"))
 	}
@@ -57,8 +61,8 @@ func main() {
 			passed += counts.seen
 			failed += counts.survived
 		}
-		fmt.Printf("%s: %d mutants seen, %d survived, %d the same, %d not compiled, %d not begun\n", path, counts.seen, counts.survived, counts.same,
-			counts.notCompiled, counts.left)
+		fmt.Printf("%s: %d mutants seen, %d survived (%.1f %%), %d the same, %d not compiled, %d not begun\n", path, counts.seen, counts.survived,
+			counts.share(), counts.same, counts.notCompiled, counts.left)
 	}
 	fmt.Printf("%d passed, %d failed", passed, failed)
 	if skipped > 0 {
@@ -109,34 +113,52 @@ func (c counts) isEnough(most float64) bool {
 	return float64(c.survived)*100 <= most*float64(c.seen+c.survived)
 }
 
+// share is how many of a hundred survived.
+func (c counts) share() float64 {
+	if c.seen+c.survived == 0 {
+		return 0
+	}
+	return 100 * float64(c.survived) / float64(c.seen+c.survived)
+}
+
 // judge tries a package's mutants whose turn it is.
 func judge(path string, given asked) (counts, error) {
-	found, err := build.Import(path, "", build.FindOnly)
-	if err != nil {
-		return counts{}, err
-	}
-	room, err := os.MkdirTemp("", "mutants-")
+	room, err := os.MkdirTemp("", "m")
 	if err != nil {
 		return counts{}, err
 	}
 	defer os.RemoveAll(room)
-	files, err := sources(found.Dir)
+	of, err := load(path)
 	if err != nil {
 		return counts{}, err
 	}
-	var due []keyed
-	for _, file := range files {
-		mutants, err := mutantsOf(file)
-		if err != nil {
-			return counts{}, err
-		}
-		due = append(due, keysOf(path, mutants)...)
-	}
-	longest, err := timeOf(path)
+	due, err := of.mutants()
 	if err != nil {
 		return counts{}, err
 	}
-	return tryAll(&bench{packagePath: path, directory: found.Dir, room: room, longest: longest}, due, given)
+	on, err := benchOf(of, due, room)
+	if err != nil {
+		return counts{}, err
+	}
+	return tryAll(on, due, given)
+}
+
+// benchOf compiles the package's tests with all mutants, and finds which test comes to which.
+func benchOf(of *loaded, due []keyed, room string) (*bench, error) {
+	on := &bench{packagePath: of.path, directory: of.directory, room: room}
+	var err error
+	if on.together, on.isAlone, err = together(of, due, room); err != nil {
+		return nil, err
+	}
+	if on.together == "" {
+		on.longest, err = timeOf(of.path)
+		return on, err
+	}
+	if on.reach, err = on.reachOf(); err != nil {
+		return nil, err
+	}
+	on.longest = longestOf(on.reach.sum())
+	return on, nil
 }
 
 // A keyed is a mutant with the key that names it.
@@ -180,7 +202,7 @@ func tryAll(on *bench, due []keyed, given asked) (counts, error) {
 			}
 		}()
 	}
-	for place := given.turn - 1; place < len(due); place += given.turns {
+	for _, place := range given.chosen(len(due)) {
 		switch {
 		case given.same[due[place].name]:
 			total.same++
@@ -195,6 +217,21 @@ func tryAll(on *bench, due []keyed, given asked) (counts, error) {
 	return total, first
 }
 
+// chosen gives the places of the mutants that are asked for, of so many. The same ones are chosen each time.
+func (a *asked) chosen(count int) []int {
+	var places []int
+	for place := a.turn - 1; place < count; place += a.turns {
+		places = append(places, place)
+	}
+	if a.sample == 0 || a.sample >= len(places) {
+		return places
+	}
+	rand.New(rand.NewSource(int64(count))).Shuffle(len(places), func(i, j int) { places[i], places[j] = places[j], places[i] })
+	places = places[:a.sample]
+	sort.Ints(places)
+	return places
+}
+
 // count counts an outcome, and prints a mutant that survived.
 func (c *counts) count(tried keyed, became outcome) {
 	switch became {
@@ -205,5 +242,8 @@ func (c *counts) count(tried keyed, became outcome) {
 	case survived:
 		c.survived++
 		fmt.Printf("survived: %s:%d: %s\n", tried.file, tried.line, tried.name)
+	case notReached:
+		c.survived++
+		fmt.Printf("survived, and no test comes to it: %s:%d: %s\n", tried.file, tried.line, tried.name)
 	}
 }

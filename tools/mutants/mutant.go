@@ -3,9 +3,8 @@ package main
 import (
 	"fmt"
 	"go/ast"
-	"go/parser"
 	"go/token"
-	"os"
+	"go/types"
 	"path/filepath"
 	"sort"
 	"strings"
@@ -20,6 +19,7 @@ type mutant struct {
 	text     string // what stands there instead
 	operator string // what kind of change it is
 	was      string // what stood there, on one line
+	wraps    []wrap // by which it can be switched on; none if it must be compiled by itself
 }
 
 // key names the mutant without its line, so that it lasts while other lines change. The number is its place among those that
@@ -37,45 +37,22 @@ func (m mutant) mutated(source []byte) []byte {
 	return []byte(string(source[:m.from]) + m.text + string(source[m.to:]))
 }
 
-// sources gives the source files of a package's directory, without its tests.
-func sources(directory string) ([]string, error) {
-	files, err := filepath.Glob(filepath.Join(directory, "*.go"))
-	if err != nil {
-		return nil, err
-	}
-	var kept []string
-	for _, file := range files {
-		if !strings.HasSuffix(file, "_test.go") {
-			kept = append(kept, file)
-		}
-	}
-	sort.Strings(kept)
-	return kept, nil
-}
-
 // mutantsOf gives all mutants of a source file, in the order of their places.
-func mutantsOf(file string) ([]mutant, error) {
-	source, err := os.ReadFile(file)
-	if err != nil {
-		return nil, err
-	}
-	places := token.NewFileSet()
-	tree, err := parser.ParseFile(places, file, source, 0)
-	if err != nil {
-		return nil, err
-	}
+func mutantsOf(places *token.FileSet, file source, info *types.Info, pkg *types.Package) []mutant {
 	var found []mutant
-	for _, declared := range tree.Decls {
+	for _, declared := range file.tree.Decls {
 		function, is := declared.(*ast.FuncDecl)
 		if !is || function.Body == nil {
 			continue
 		}
-		reader := &reader{places: places, source: source, file: file, function: nameOf(function)}
+		reader := &reader{places: places, source: file.text, file: file.path, function: nameOf(function), tree: file.tree, info: info, pkg: pkg,
+			isInHead: map[ast.Node]bool{}, isComm: map[ast.Node]bool{},
+			isCapacity: map[ast.Node]bool{}}
 		ast.Inspect(function.Body, reader.visit)
 		found = append(found, reader.found...)
 	}
 	sort.SliceStable(found, func(i, j int) bool { return found[i].from < found[j].from })
-	return found, nil
+	return found
 }
 
 // nameOf gives a function's name, behind that of its receiver's type.
@@ -100,6 +77,13 @@ type reader struct {
 	file     string
 	function string
 	found    []mutant
+	tree     *ast.File
+	info     *types.Info // none where types aren't known
+	pkg      *types.Package
+	isInHead map[ast.Node]bool // statements in the head of another one
+	isComm   map[ast.Node]bool // statements that can't be replaced by another kind
+	// How much room is made, which no answer tells.
+	isCapacity map[ast.Node]bool
 }
 
 // text gives the source of a node.

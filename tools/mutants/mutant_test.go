@@ -1,6 +1,7 @@
 package main
 
 import (
+	"go/token"
 	"os"
 	"path/filepath"
 	"reflect"
@@ -26,6 +27,9 @@ func TestEachOperatorMakesItsMutants(t *testing.T) {
 		{"neighbours that are names", "x := f(a, b)", []string{"x := f(b, a)"}},
 		{"neighbours of which one is a call stay", "x := f(a, g())", nil},
 		{"an error that is given on", "return err", []string{"return nil"}},
+		{"neighbours of a symmetric function stay", "x := bytes.Equal(a, b)", nil},
+		{"the room of a list, and not its length", "x := make([]int, 4, 8)", []string{"x := make([]int, 5, 8)"}},
+		{"the room of a map", "x := make(map[int]int, 8)", nil},
 		{"no number in a text", `x := "41"`, nil},
 	} {
 		changes, err := changesOf(t, row.body)
@@ -46,9 +50,10 @@ func changesOf(t *testing.T, body string) ([]string, error) {
 	if err := os.WriteFile(file, source, 0o600); err != nil {
 		return nil, err
 	}
-	mutants, err := mutantsOf(file)
+	places := token.NewFileSet()
+	read, err := readSource(places, file)
 	var changes []string
-	for _, found := range mutants {
+	for _, found := range mutantsOf(places, read, nil, nil) {
 		text := found.mutated(source)
 		changes = append(changes, string(text[len(before):len(text)-len(after)]))
 	}

@@ -18,7 +18,11 @@ const (
 	notCompiled outcome = iota // it is no program
 	seen                       // a test fails, or hangs
 	survived                   // all tests pass
+	notReached                 // no test comes to it
 )
+
+// How many KiB of memory the tests may take: a mutant may make an endless list.
+const memory = 6 << 20
 
 // A bench tries mutants of one package.
 type bench struct {
@@ -26,20 +30,39 @@ type bench struct {
 	directory   string
 	room        string        // for what is made meanwhile
 	longest     time.Duration // that the package's tests may take
+	together    string        // the tests, compiled with all mutants that can be switched on
+	isAlone     map[int]bool  // the places of those that can't
+	reach       *reach
 }
 
-// try compiles the package's tests with the mutant in its file's place, and runs them. Several may run side by side, under
-// numbers of their own.
-func (b *bench) try(tried mutant, number int) (outcome, error) {
-	source, err := os.ReadFile(tried.file)
-	if err != nil {
-		return notCompiled, err
-	}
-	room := filepath.Join(b.room, strconv.Itoa(number))
+// try tries a mutant by its place.
+func (b *bench) try(tried mutant, place int) (outcome, error) {
+	room := filepath.Join(b.room, strconv.Itoa(place))
 	if err := os.MkdirAll(room, 0o700); err != nil {
 		return notCompiled, err
 	}
 	defer os.RemoveAll(room)
+	if b.isAlone[place] {
+		return b.tryAlone(tried, room)
+	}
+	groups := b.reach.groups(place + 1)
+	if len(groups) == 0 {
+		return notReached, nil
+	}
+	for _, tests := range groups {
+		if !b.runs(b.together, room, longestOf(tests.took), strconv.Itoa(place+1), "", "-test.failfast", "-test.run", tests.pattern()) {
+			return seen, nil
+		}
+	}
+	return survived, nil
+}
+
+// tryAlone compiles the package's tests with the mutant in its file's place, and runs them.
+func (b *bench) tryAlone(tried mutant, room string) (outcome, error) {
+	source, err := os.ReadFile(tried.file)
+	if err != nil {
+		return notCompiled, err
+	}
 	changed := filepath.Join(room, filepath.Base(tried.file))
 	if err := os.WriteFile(changed, tried.mutated(source), 0o600); err != nil {
 		return notCompiled, err
@@ -56,29 +79,35 @@ func (b *bench) try(tried mutant, number int) (outcome, error) {
 	if exec.Command("go", "test", "-overlay", overlay, "-vet=off", "-c", "-o", tests, b.packagePath).Run() != nil {
 		return notCompiled, nil
 	}
-	if b.run(tests, room) {
+	if b.runs(tests, room, b.longest, "0", "", "-test.failfast") {
 		return survived, nil
 	}
 	return seen, nil
 }
 
-// run runs a package's compiled tests where they find their files, and says whether all pass in time.
-func (b *bench) run(tests, room string) bool {
-	ending, cancel := context.WithTimeout(context.Background(), b.longest)
+// runs runs compiled tests where they find their files, with the mutant of this number switched on, and says whether all pass in
+// time. What they come to goes into the log if there is one.
+func (b *bench) runs(tests, room string, longest time.Duration, number, log string, words ...string) bool {
+	ending, cancel := context.WithTimeout(context.Background(), longest)
 	defer cancel()
-	running := exec.CommandContext(ending, tests)
+	limited := fmt.Sprintf(`ulimit -v %d; exec "$0" "$@"`, memory)
+	running := exec.CommandContext(ending, "sh", append([]string{"-c", limited, tests}, words...)...)
 	running.Dir = b.directory
-	running.Env = append(os.Environ(), "TMPDIR="+room)
+	running.Env = append(os.Environ(), "TMPDIR="+room, "MUTANT_NOW="+number, "MUTANT_REACHED="+log)
 	return running.Run() == nil
 }
 
-// timeOf runs a package's tests as they are, which must pass, and gives three times as long as they took, and some seconds for
-// a busy machine.
+// timeOf runs a package's tests as they are, which must pass, and gives how long they may take with a mutant.
 func timeOf(path string) (time.Duration, error) {
 	began := time.Now()
 	told, err := exec.Command("go", "test", "-vet=off", "-count=1", path).CombinedOutput()
 	if err != nil {
 		return 0, fmt.Errorf("the tests of %s fail without a mutant: %s", path, told)
 	}
-	return 3*time.Since(began) + 10*time.Second, nil
+	return longestOf(time.Since(began)), nil
+}
+
+// longestOf gives three times as long as tests took, and some seconds for a busy machine.
+func longestOf(took time.Duration) time.Duration {
+	return 3*took + 10*time.Second
 }

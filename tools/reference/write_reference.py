@@ -1,7 +1,7 @@
 #!/usr/bin/env python3
 """write_reference.py: writes docs/reference/ by the comments of the crates: a page for each crate, with its calls and the names
 of their contracts' clauses, its laws and its definitions; names.md, which says where each name stands; headline.md, which
-lists what the two headlines rest on; and clauses.md, which lists all clauses and laws.
+lists what the three headlines rest on; and clauses.md, which lists all clauses and laws.
 
 tests/reference.py says which pages aren't what this would write.
 """
@@ -91,7 +91,7 @@ def page(crate):
 OVERVIEW = """# Reference
 
 What the comments of the crates say, crate by crate, in the order of [crates.txt](../../crates.txt). [names.md](names.md)
-says where each name stands, [headline.md](headline.md) what the two headlines rest on, and [clauses.md](clauses.md) lists all
+says where each name stands, [headline.md](headline.md) what the three headlines rest on, and [clauses.md](clauses.md) lists all
 that is proved.
 
 Of a call the names of its contract's clauses are given; the clauses themselves stand above its body. A clause without a

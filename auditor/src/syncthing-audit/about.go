@@ -11,11 +11,10 @@ import (
 	"syncthing-audit/join"
 	"syncthing-audit/outside"
 	"syncthing-audit/part"
-	"syncthing-audit/shell"
 )
 
 // tellAbout writes what a device is configured to share: no index and no file is read for that. 'run' asks it of all devices
-// before any of them hashes its files, so a folder whose disk isn't mounted is refused by then, and so is an index that isn't found. A folder
+// before any of them hashes its files, so it is known by then which folder's disk isn't mounted. An index that isn't found is refused. A folder
 // that is asked for needn't be there: another device may have it.
 func tellAbout(asked options, write writing, log io.Writer) error {
 	id, about, err := device.About(asked.homes[0])
@@ -35,22 +34,17 @@ func tellAbout(asked options, write writing, log io.Writer) error {
 	if err := asked.checkOutput(about.Folders); err != nil {
 		return err
 	}
-	for _, one := range chosenOf(about, asked.folders) {
-		if err := device.CheckPath(one); err != nil {
-			return fmt.Errorf("%s: %w", asked.homes[0], shell.Labelled(err, one.ID, one.Label))
-		}
-	}
 	if asked.rescan {
 		if err := checkScannable(about, asked); err != nil {
 			return err
 		}
 	}
-	return write(func(to io.Writer) error { return outside.PrintJSON(to, aboutOf(home, asked.folders)) })
+	return write(func(to io.Writer) error { return outside.PrintJSON(to, aboutOf(home, asked.folders, asked.paths)) })
 }
 
 // aboutOf gives the head of a device's part, as far as its configuration says it.
-func aboutOf(home *device.Home, wanted []string) *part.Head {
-	made := &part.Head{Version: part.Version, Device: home.ID.String(), Name: home.Name(), Folders: []part.Folder{}, Waits: true, Others: othersOf(home, wanted)}
+func aboutOf(home *device.Home, wanted []string, withPaths bool) *part.Head {
+	made := &part.Head{Version: part.Version, Device: home.ID.String(), Name: home.Name(), Folders: []part.Folder{}, Waits: true, Others: othersOf(home, wanted, withPaths)}
 	for _, one := range chosenOf(home.Config, wanted) {
 		folder := part.Folder{ID: one.ID, Label: one.Label, Directory: home.ID.String() + one.ID, Sharing: home.Sharing(one)}
 		if one.Type == config.FolderTypeReceiveEncrypted {
@@ -62,11 +56,11 @@ func aboutOf(home *device.Home, wanted []string) *part.Head {
 }
 
 // othersOf gives the folders of a device that aren't asked for or are away, rising.
-func othersOf(home *device.Home, wanted []string) []part.Other {
+func othersOf(home *device.Home, wanted []string, withPaths bool) []part.Other {
 	made := []part.Other{}
 	for _, one := range home.Config.Folders {
 		if !isChosen(one, wanted) {
-			made = append(made, otherOf(home, one))
+			made = append(made, otherOf(home, one, withPaths))
 		}
 	}
 	sort.Slice(made, func(a, b int) bool { return made[a].ID < made[b].ID })
@@ -74,8 +68,13 @@ func othersOf(home *device.Home, wanted []string) []part.Other {
 }
 
 // otherOf gives what a part says of a folder that it hasn't.
-func otherOf(home *device.Home, one config.FolderConfiguration) part.Other {
-	made := part.Other{ID: one.ID, Label: one.Label, Devices: []string{}, Away: device.Away(one)}
+func otherOf(home *device.Home, one config.FolderConfiguration, withPaths bool) part.Other {
+	away := device.AwayWithoutPath
+	if withPaths {
+		away = device.Away
+	}
+	made := part.Other{ID: one.ID, Label: one.Label, Devices: []string{}, Away: away(one)}
+	made.IsStopped = made.Away != "" && !one.Paused
 	for _, other := range home.Sharing(one) {
 		made.Devices = append(made.Devices, other.Device)
 	}
@@ -96,6 +95,9 @@ func readAbout(text []byte, from string) (*join.Device, error) {
 	}
 	if part.Number(head.Device) == 0 {
 		return nil, fmt.Errorf("%w: its device %q is no device id", part.ErrNone, head.Device)
+	}
+	if err := head.Arrange(); err != nil {
+		return nil, fmt.Errorf("%w: %v", part.ErrNone, err)
 	}
 	return join.NewDevice(headAlone{head}, from), nil
 }

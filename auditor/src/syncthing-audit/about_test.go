@@ -63,7 +63,7 @@ func TestWhatDevicesSay(t *testing.T) {
 			t.Fatal(one.why, err)
 		}
 		told := []string{}
-		for _, refusal := range audit.Refused(plan, map[string]bool{one.leaveOut: true}).Refusals {
+		for _, refusal := range audit.Refused(plan, audit.Of(one.leaveOut)).Refusals {
 			told = append(told, refusal.Kind)
 		}
 		if strings.Join(told, " ") != one.refused {
@@ -74,15 +74,20 @@ func TestWhatDevicesSay(t *testing.T) {
 
 // saying gives a device as it says of itself what it shares of the folder docs.
 func saying(t *testing.T, number byte, about config.Configuration) *join.Device {
-	text, err := json.Marshal(aboutOf(&device.Home{ID: protocol.DeviceID{7: number}, Config: about}, []string{"docs"}))
-	if err != nil {
-		t.Fatal(err)
-	}
-	read, err := readAbout(text, fmt.Sprint("place ", number))
+	read, err := readAbout([]byte(saidBy(t, number, about)), fmt.Sprint("place ", number))
 	if err != nil || read.Called() != fmt.Sprintf("device %d (%s)", number, read.Head.Device[:7]) || len(read.Head.Folders) != 1 {
 		t.Fatal(read, err)
 	}
 	return read
+}
+
+// saidBy gives what a device says that it shares of the folder docs.
+func saidBy(t *testing.T, number byte, about config.Configuration) string {
+	text, err := json.Marshal(aboutOf(&device.Home{ID: protocol.DeviceID{7: number}, Config: about}, []string{"docs"}, true))
+	if err != nil {
+		t.Fatal(err)
+	}
+	return string(text)
 }
 
 // homeWith writes a home whose one folder, docs, is at a path. Its index is there, and empty.
@@ -244,7 +249,7 @@ func TestWhichFoldersADeviceIsAskedFor(t *testing.T) {
 		run := &running{asked: options{folders: expected.wanted}, places: []*place{{given: "one"}, {given: "two"}}}
 		devices := []*join.Device{}
 		for at, about := range []config.Configuration{one, two} {
-			text, err := json.Marshal(aboutOf(&device.Home{ID: protocol.DeviceID{7: byte(at + 1)}, Config: about}, expected.wanted))
+			text, err := json.Marshal(aboutOf(&device.Home{ID: protocol.DeviceID{7: byte(at + 1)}, Config: about}, expected.wanted, true))
 			if err != nil {
 				t.Fatal(err)
 			}
@@ -266,7 +271,7 @@ func TestWhichFoldersADeviceIsAskedFor(t *testing.T) {
 			continue
 		}
 		for at, words := range []string{expected.one, expected.two} {
-			if told := strings.Join(run.places[at].chosen(run.asked), " "); err != nil || " "+told != words+" -o -" {
+			if told := strings.Join(run.places[at].chosen(run.asked), " "); err != nil || " "+told != words+" --paths -o -" {
 				t.Errorf("%s: %q, %v", expected.wanted, told, err)
 			}
 		}

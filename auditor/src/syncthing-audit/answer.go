@@ -8,6 +8,7 @@ import (
 	"time"
 
 	"syncthing-audit/finding"
+	"syncthing-audit/history"
 	"syncthing-audit/outside"
 	"syncthing-audit/report"
 	"syncthing-audit/summary"
@@ -28,16 +29,19 @@ func (o *options) checkForm() error {
 }
 
 // tell tells an answer in the form that was asked for, and gives the exit status.
-func tell(output, log io.Writer, asked options, answer *finding.Answer) (int, error) {
+func tell(output, log io.Writer, asked options, answer *finding.Answer, since *history.Since) (int, error) {
 	var err error
+	told := summary.Of(answer)
+	told.Since = since
 	to := bufio.NewWriter(faulty{output})
 	switch {
 	case asked.lines:
-		report.Lines(to, answer)
+		report.Lines(to, answer, dangersOf(answer, told))
+		report.Since(to, since)
 	case asked.json:
-		err = summary.Of(answer).WriteJSON(to)
+		err = told.WriteJSON(to)
 	default:
-		summary.Of(answer).Print(to, time.Local, time.Now())
+		told.Print(to, time.Local, time.Now())
 	}
 	if err == nil {
 		err = answer.Err()
@@ -48,6 +52,12 @@ func tell(output, log io.Writer, asked options, answer *finding.Answer) (int, er
 	if err != nil {
 		return 0, fmt.Errorf("the answer can't be written: %w", err)
 	}
+	if asked.take != nil {
+		asked.take(told)
+	}
 	outside.Print(log, meaningOf(answer))
-	return statusOfAnswer(answer), nil
+	if status := statusOfAnswer(answer); status != statusDone || since == nil || since.Count == 0 && since.Unkept == "" {
+		return status, nil
+	}
+	return statusPartial, nil
 }

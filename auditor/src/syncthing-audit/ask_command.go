@@ -3,13 +3,13 @@ package main
 import (
 	"errors"
 	"fmt"
-	"os"
 	"os/exec"
 	"strings"
 
 	"syncthing-audit/audit"
 	"syncthing-audit/join"
 	"syncthing-audit/outside"
+	"syncthing-audit/regular"
 	"syncthing-audit/report"
 )
 
@@ -20,14 +20,18 @@ func (r *running) ask() error {
 	if err := r.all("asking what is shared", r.about); err != nil {
 		return err
 	}
+	if err := r.checkPresent(); err != nil {
+		return err
+	}
 	devices := []*join.Device{}
-	for at, one := range r.places {
+	for _, at := range r.present() {
+		one := r.places[at]
 		if one.isOlder {
 			outside.Printf(r.log, "syncthing-audit: %s: the syncthing-audit there is older, and doesn't say what is shared before it hashes: "+
 				"whether all devices are named is seen after that\n", one.called())
 			return nil
 		}
-		text, err := os.ReadFile(r.file(at, "about"))
+		text, _, err := regular.Read(r.file(at, "about"), mostOfAbout)
 		if err != nil {
 			return err
 		}
@@ -35,19 +39,32 @@ func (r *running) ask() error {
 		if err != nil {
 			return fmt.Errorf("%s: %w", one.called(), one.hint(err))
 		}
+		if err := r.meet(at, read.Head.Device); err != nil {
+			return err
+		}
 		one.choose(read)
+		if r.goesOn() {
+			r.leaveOutAway(at, read)
+		}
 		devices = append(devices, read)
 	}
 	if err := r.checkWanted(devices); err != nil {
 		return err
 	}
-	plan, err := join.NewPlan(devices, r.asked.folders)
+	plan, err := join.NewPlan(devices, r.asked.folders, r.asked.knownObservers()...)
 	if err != nil {
 		return err
 	}
-	if answer := audit.Refused(plan, r.asked.leaveOut); len(answer.Refusals) > 0 {
+	answer := audit.Refused(plan, r.asked.consent())
+	if len(answer.Refusals) > 0 {
 		report.Refusals(r.log, answer)
 		return errTold
+	}
+	if len(plan.Folders) == 0 {
+		return audit.Nothing(answer)
+	}
+	if err := r.checkPresent(); err != nil {
+		return err
 	}
 	return r.checkChosen()
 }
@@ -79,7 +96,8 @@ func (p *place) choose(said *join.Device) {
 
 // checkChosen refuses a device that has none of the wanted folders.
 func (r *running) checkChosen() error {
-	for _, one := range r.places {
+	for _, at := range r.present() {
+		one := r.places[at]
 		if len(r.asked.folders) > 0 && len(one.folders) == 0 {
 			return fmt.Errorf("refused: %s has none of the folders that are asked for: run this without it", one.called())
 		}
@@ -92,6 +110,8 @@ func (p *place) lacks(asked options, said string) string {
 	switch {
 	case p.data != "" && (p.isOlder || strings.Contains(said, "no flag --data")):
 		return "--data"
+	case asked.paths && (p.isOlder || strings.Contains(said, "no flag --paths")):
+		return "--paths"
 	case asked.names.IsOfSlice() && (p.isOlder || strings.Contains(said, "no flag --slice")):
 		return "--slice"
 	}

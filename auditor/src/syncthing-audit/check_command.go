@@ -17,14 +17,21 @@ func runCheck(words []string, output, log io.Writer) (int, error) {
 		inputFlags(flags, read)
 		answerFlags(flags, read)
 		flags.StringVar(&read.program, "syncaudit", defaultProgram(), "")
+		flags.StringVar(&read.history, "history", "", "")
+		observerFlag(flags, read)
 	})
-	if err == nil {
-		err = asked.checkInputs()
-	}
-	if err == nil {
-		err = asked.checkForm()
-	}
 	if err != nil {
+		return 0, err
+	}
+	return checkDevices(asked, output, log)
+}
+
+// checkDevices joins homes and parts, and answers.
+func checkDevices(asked options, output, log io.Writer) (int, error) {
+	if err := asked.checkInputs(); err != nil {
+		return 0, err
+	}
+	if err := asked.checkForm(); err != nil {
 		return 0, err
 	}
 	program := ask.Program{Path: asked.program}
@@ -36,6 +43,11 @@ func runCheck(words []string, output, log io.Writer) (int, error) {
 		return 0, err
 	}
 	defer opened.close()
+	kept, err := remember(asked.history, opened)
+	if err != nil {
+		return 0, err
+	}
+	defer kept.close()
 	if asked.lines {
 		tellDevices(log, opened.devices)
 	}
@@ -43,12 +55,12 @@ func runCheck(words []string, output, log io.Writer) (int, error) {
 	if err != nil {
 		return 0, err
 	}
-	return tell(output, log, asked, answer)
+	return kept.tell(output, log, asked, answer)
 }
 
 // answerOf audits what was opened.
 func answerOf(opened *inputs, asked options, program ask.Program) (*finding.Answer, error) {
-	plan, err := join.NewPlan(opened.devices, asked.folders)
+	plan, err := join.NewPlanWithout(opened.unreached, opened.devices, asked.folders, asked.knownObservers()...)
 	if err != nil {
 		return nil, err
 	}

@@ -44,7 +44,7 @@ func runExport(words []string, output, log io.Writer) (int, error) {
 // checkPlace says why documents can't be written where they are to go.
 func checkPlace(to *outlet, opened *inputs) error {
 	if to.directory != "" {
-		if err := checkUnsynced(to.directory, opened); err != nil {
+		if err := checkUnsynced(to.directory, "the documents", opened); err != nil {
 			return err
 		}
 		return to.checkNew()
@@ -53,7 +53,7 @@ func checkPlace(to *outlet, opened *inputs) error {
 	if path == "" {
 		return nil
 	}
-	if err := checkUnsynced(filepath.Dir(path), opened); err != nil {
+	if err := checkUnsynced(filepath.Dir(path), "the documents", opened); err != nil {
 		return fmt.Errorf("%w. %s is there already, since the shell made it: take it away", err, shell.Quoted(path))
 	}
 	return nil
@@ -63,6 +63,7 @@ func checkPlace(to *outlet, opened *inputs) error {
 func readExportOptions(words []string, output io.Writer) (options, error) {
 	asked, err := readOptions("export", words, func(flags *flag.FlagSet, read *options) {
 		inputFlags(flags, read)
+		observerFlag(flags, read)
 		flags.StringVar(&read.into, "into", "", "")
 	})
 	if err == nil {
@@ -76,7 +77,7 @@ func readExportOptions(words []string, output io.Writer) (options, error) {
 
 // export writes the documents of what was opened, and gives what no document says.
 func export(opened *inputs, asked options, to *outlet) (*finding.Answer, error) {
-	plan, err := join.NewPlan(opened.devices, asked.folders)
+	plan, err := join.NewPlan(opened.devices, asked.folders, asked.knownObservers()...)
 	if err != nil {
 		return nil, err
 	}

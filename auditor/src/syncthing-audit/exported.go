@@ -6,10 +6,10 @@ import (
 	"errors"
 	"fmt"
 	"io"
-	"os"
 	"path/filepath"
 
 	"syncthing-audit/finding"
+	"syncthing-audit/regular"
 )
 
 // restName is the file beside exported documents. It has what no document says, in lines of JSON. The first line is an
@@ -49,7 +49,7 @@ func (e *exported) write(file io.Writer) error {
 // readExported reads what an export left in a directory.
 func readExported(directory string) (*exported, error) {
 	path := filepath.Join(directory, restName)
-	file, err := os.Open(path)
+	file, _, err := regular.Open(path)
 	if err != nil {
 		return nil, fmt.Errorf("refused: 'export --into' fills a directory for 'sum': %w", err)
 	}

@@ -38,6 +38,7 @@ var contents = [][]byte{{}, []byte("a"), []byte("b"), []byte("longer"), bytes.Re
 // drawn is a folder at one device, drawn at random: what its index and its views say, and a directory.
 type drawn struct {
 	id    string
+	runs  string // its version of Syncthing, where that matters
 	about part.Folder
 	own   []device.Entry
 	views map[string][]device.Entry
@@ -200,7 +201,7 @@ func dataOf(content *part.Content) []byte {
 
 // auditor gives the program that answers, or what stands for it.
 func auditor() ask.Program {
-	for _, path := range []string{os.Getenv("SYNCAUDIT"), "../../../crates/syncaudit/out/syncaudit"} {
+	for _, path := range []string{chosenAuditor, "../../../crates/syncaudit/out/syncaudit"} {
 		if _, err := os.Stat(path); err == nil {
 			return ask.Program{Path: path}
 		}
@@ -232,7 +233,7 @@ func answerBy(program ask.Program, devices []*drawn, asked options) (*finding.An
 	opened := &inputs{}
 	defer opened.close()
 	for _, one := range devices {
-		stream := (&gather.Device{ID: one.id, Folders: []gather.Folder{one}, Bytes: asked.bytes, Pool: pool}).Stream()
+		stream := (&gather.Device{ID: one.id, Runs: one.runs, Folders: []gather.Folder{one}, Bytes: asked.bytes, Pool: pool}).Stream()
 		opened.closers = append(opened.closers, stream.Close)
 		opened.devices = append(opened.devices, join.NewDevice(stream, one.id))
 	}

@@ -85,3 +85,45 @@ func runningParts(device byte) []*hostile {
 	second.Folders[0].Rest = &part.Rest{State: part.RestUnasked, Why: "it refuses the key"}
 	return []*hostile{{look(func(look *part.Look) { look.ID = idOfLook(device) }), names(false)}, {second, names(true)}}
 }
+
+// halvedParts gives the halves of a device that is observed, and whose disks were walked on itself.
+func halvedParts(device byte) []*hostile {
+	wire := observedParts(device)[0]
+	walk := strings.Repeat("1", 31) + string('0'+device)
+	wire.Head.Wire, wire.Head.Version = part.NewWire(idOf(9), true), part.VersionOfDisks
+	wire.Head.Wire.Half = walk
+	for _, line := range wire.Lines {
+		if line.Name != nil {
+			line.Name.Disk = nil
+		}
+	}
+	found := hostileFile("a", 1, 7).Disk
+	found.Differ = nil
+	lines := linesOf(&part.Name{Name: "a", Disk: found}, &part.Name{Name: "b", Moved: []string{part.MovedDisk}},
+		&part.Name{Name: "e", Out: []part.LeftOut{{Kind: part.Special, Why: "it is a pipe"}}})
+	lines[len(lines)-1].End.Max, lines[len(lines)-1].End.ToIgnore = 0, 0
+	half := part.NewHalf(walk, wire.Head.Look.ID, "linux", nil)
+	ignores := &part.Ignores{Lines: []string{"*.tmp"}}
+	if device == 1 {
+		ignores = &part.Ignores{Lines: []string{"*.tmp"}, Unknown: "it has a line that isn't known"}
+	}
+	head := &part.Head{Version: part.VersionOfDisks, Device: wire.Head.Device, Made: time.Unix(3, 0), Half: half, Folders: []part.Folder{{ID: wire.Head.Folders[0].ID,
+		Path: "/docs", Directory: "directory " + wire.Head.Device, Ignores: ignores}}}
+	return []*hostile{wire, {head, lines}}
+}
+
+// observedParts gives the part of a device that was asked over the wire.
+func observedParts(device byte) []*hostile {
+	head := headOfHostile(device)
+	head.Index, head.Newer, head.Others, head.Folders[0].Paused = nil, nil, nil, false
+	head.Wire, head.Version = part.NewWire(idOf(9), false), part.VersionOfWire
+	id := strings.Repeat("0", 32)
+	head.Look = &part.Look{Home: "over the wire", ID: id, After: map[string]string{idOf(1): id, idOf(2): id}, At: time.Unix(3, 0), Ended: time.Unix(4, 0)}
+	overWire := func(name string, sequence int64, found byte) *part.Name {
+		made := hostileFile(name, sequence, found)
+		made.Views, made.Disk.Permissions = nil, 0
+		return made
+	}
+	return []*hostile{{head, linesOf(overWire("a", 1, 7), &part.Name{Name: "b", Moved: []string{part.MovedRecord}}, overWire("c", 3, 1),
+		&part.Name{Name: "d", Out: []part.LeftOut{{Kind: part.Unknown, Why: "it isn't told"}}})}}
+}

@@ -114,9 +114,6 @@ func (h *hostile) written(t *testing.T) []byte {
 func toldOf(parts []string) (told []string, isAnswer bool) {
 	var log strings.Builder
 	asked := options{parts: parts, leaveOut: map[string]bool{}, jobs: 1}
-	for _, kind := range part.Kinds {
-		asked.leaveOut[kind] = true
-	}
 	opened, err := openInputs(asked)
 	if err != nil {
 		statusOf(err, &log, &log)
@@ -133,7 +130,7 @@ func toldOf(parts []string) (told []string, isAnswer bool) {
 	}
 	for _, form := range []options{{}, {lines: true}, {json: true}} {
 		var output strings.Builder
-		if _, err := tell(&output, &log, form, answer); err != nil {
+		if _, err := tell(&output, &log, form, answer, nil); err != nil {
 			statusOf(err, &log, &log)
 		}
 		told = append(told, output.String())
@@ -168,7 +165,7 @@ func TestNoTextOfAPartIsPrintedRaw(t *testing.T) {
 	useAuditor(t)
 	room := t.TempDir()
 	seen, answered := map[string]bool{}, 0
-	for _, make := range []func(device byte) []*hostile{stoppedParts, runningParts, partsByNames} {
+	for _, make := range []func(device byte) []*hostile{stoppedParts, runningParts, partsByNames, observedParts, halvedParts} {
 		others, before := writtenParts(t, filepath.Join(room, "2"), make(2)), len(seen)
 		for at, text := range textsOf("", reflect.ValueOf(make(1))) {
 			if before > 0 && strings.HasPrefix(text.place, ".Head.") && seen[text.place] {

@@ -25,6 +25,8 @@ type inputs struct {
 	pool    *disk.Pool
 	work    work
 	closers []func()
+
+	unreached map[string]string // why devices weren't reached, by their ids
 }
 
 // skip has no bytes read from now on.
@@ -36,7 +38,7 @@ func (i *inputs) skip() {
 
 // auditOptions say how what was opened is audited.
 func (i *inputs) auditOptions(asked options) audit.Options {
-	return audit.Options{LeaveOut: asked.leaveOut, WithBytes: asked.bytes, ByNames: !asked.names.IsAll(), Refused: i.skip, Joined: &i.work.joined}
+	return audit.Options{Consent: asked.consent(), WithBytes: asked.bytes, ByNames: !asked.names.IsAll(), Refused: i.skip, Joined: &i.work.joined}
 }
 
 // startProgress begins to tell how far the work is; what it gives ends that.
@@ -93,7 +95,7 @@ func (i *inputs) open(asked options) error {
 		homes = append(homes, home)
 	}
 	i.homes = homes
-	if err := i.openParts(asked.parts); err != nil {
+	if err := i.openParts(asked.parts, asked.signers); err != nil {
 		return err
 	}
 	if err := i.checkNames(asked.names); err != nil {
@@ -106,6 +108,7 @@ func (i *inputs) open(asked options) error {
 	if err := join.CheckWanted(labels, asked.folders); err != nil {
 		return fmt.Errorf("refused: %w", err)
 	}
+	asked.paths = true // they are homes of this machine
 	for _, home := range homes {
 		read, err := i.deviceOf(home, asked)
 		if err != nil {
@@ -163,8 +166,11 @@ func (i *inputs) checkNames(wanted choice.Names) error {
 }
 
 // openParts opens parts; of a device that was looked at twice both are joined.
-func (i *inputs) openParts(paths []string) error {
-	opening := &lookInputs{inputs: i, first: map[string]opened{}, second: map[string]opened{}}
+func (i *inputs) openParts(paths []string, signers string) error {
+	opening := &lookInputs{inputs: i, first: map[string]opened{}, second: map[string]opened{}, wire: map[string]opened{}, disks: map[string]opened{}}
+	if err := opening.openSigners(signers); err != nil {
+		return err
+	}
 	for _, path := range paths {
 		if err := opening.openPart(path); isOfFile(err, path) {
 			return err
@@ -178,7 +184,7 @@ func (i *inputs) openParts(paths []string) error {
 // deviceOf opens the indexes of a home's folders: those that are wanted, or all.
 func (i *inputs) deviceOf(home *device.Home, asked options) (*gather.Device, error) {
 	made := &gather.Device{ID: home.ID.String(), Name: home.Name(), Runs: home.Syncthing, Index: home.State, Newer: home.Newer, ToRepair: home.ToRepair,
-		Names: asked.names, Bytes: asked.bytes, Pool: i.pool, Others: othersOf(home, asked.folders)}
+		Names: asked.names, Bytes: asked.bytes, Paths: asked.paths, Pool: i.pool, Others: othersOf(home, asked.folders, asked.paths)}
 	folders := chosenOf(home.Config, asked.folders)
 	sort.Slice(folders, func(a, b int) bool { return folders[a].ID < folders[b].ID })
 	for _, one := range folders {

@@ -13,8 +13,10 @@ import (
 	"time"
 
 	"github.com/syncthing/syncthing/lib/config"
+	"golang.org/x/exp/slices"
 	"syncthing-audit/device"
 	"syncthing-audit/gather"
+	"syncthing-audit/glance"
 	"syncthing-audit/leftover"
 	"syncthing-audit/looks"
 	"syncthing-audit/outside"
@@ -59,13 +61,13 @@ func beginPart(asked options, write writing, output, log io.Writer) error {
 	}
 	defer from.close()
 	from.tellDoubts(log)
-	glance, over, err := firstLook(from.home, from.read)
+	glanced, over, err := firstLook(from.home, from.read)
 	if err != nil {
 		return err
 	}
-	defer glance.Close()
+	defer glanced.Close()
 	endProgress := from.startProgress(log, asked)
-	err = writeWhole(write, func(to io.Writer) error { return writeLines(to, log, from.read, glance.Compare) })
+	err = writeWhole(write, func(to io.Writer) error { return writeLines(to, log, from.read, glanced.Compare) })
 	endProgress()
 	if err != nil {
 		return err
@@ -172,22 +174,22 @@ func heedInput(log io.Writer) {
 }
 
 // firstLook looks at a device's disk, whose index was copied before, and then gives the look its id; it says when it was over.
-func firstLook(home *device.Home, read *gather.Device) (*gather.Glance, time.Time, error) {
+func firstLook(home *device.Home, read *gather.Device) (*glance.Glance, time.Time, error) {
 	var err error
 	if read.Look, err = lookOf(home); err != nil {
 		return nil, time.Time{}, err
 	}
-	glance, err := read.Glance()
+	glanced, err := read.Glance()
 	if err != nil {
 		return nil, time.Time{}, err
 	}
 	if read.Look.ID, err = looks.NewID(); err != nil {
-		glance.Close()
+		glanced.Close()
 		return nil, time.Time{}, err
 	}
 	over := time.Now()
 	read.Look.At = over.UTC()
-	return glance, over, nil
+	return glanced, over, nil
 }
 
 // endPart writes the part of the second look at a device: its index and what stands on its disk, with no file read.
@@ -206,14 +208,14 @@ func endPart(asked options, write writing, log io.Writer) error {
 		return err
 	}
 	from.read.Look.After, from.read.Look.At = tokens, began
-	if err := checkTokens(from.read, asked); err != nil {
+	if err := checkTokens(from.read, asked, log); err != nil {
 		return err
 	}
 	return write(func(to io.Writer) error {
 		return writeLines(to, log, from.read, func(sink part.Sink) part.Sink {
 			return func(line part.Line) error {
 				if line.Name != nil {
-					line.Name = gather.WithoutChanging(line.Name)
+					line.Name = glance.WithoutChanging(line.Name)
 				}
 				return sink(line)
 			}
@@ -299,14 +301,14 @@ func readTokensOf(path string, tokens map[string]string) error {
 }
 
 // checkTokens says of which devices a second look has no token: their first looks may not be over.
-func checkTokens(read *gather.Device, asked options) error {
+func checkTokens(read *gather.Device, asked options, log io.Writer) error {
 	if read.Look.After[read.ID] == "" {
 		return fmt.Errorf("refused: the tokens have none of this device, %s: make its first look with --begin", read.ID)
 	}
-	lacking := map[string]bool{}
+	lacking, observers := map[string]bool{}, asked.knownObservers()
 	for _, folder := range read.Head().Folders {
 		for _, one := range folder.Sharing {
-			if read.Look.After[one.Device] == "" {
+			if read.Look.After[one.Device] == "" && !slices.Contains(observers, one.Device) {
 				lacking[one.Name+" ("+one.Device+")"] = true
 			}
 		}
@@ -319,6 +321,10 @@ func checkTokens(read *gather.Device, asked options) error {
 		names = append(names, name)
 	}
 	sort.Strings(names)
-	return fmt.Errorf("refused: the tokens have none of %s, with which folders are shared: add them, or leave these devices out with "+
-		"--leave-out %s", strings.Join(names, ", "), part.Absent)
+	told := fmt.Sprintf("the tokens have none of %s, with which folders are shared", strings.Join(names, ", "))
+	if asked.strict {
+		return fmt.Errorf("refused: %s: add them, or leave these devices out with --leave-out %s", told, part.Absent)
+	}
+	outside.Printf(log, "syncthing-audit: %s: an audit leaves these devices out\n", told)
+	return nil
 }

@@ -5,15 +5,17 @@ import (
 	"os"
 	"sort"
 
-	"syncthing-audit/join"
 	"syncthing-audit/looks"
 	"syncthing-audit/part"
+	"syncthing-audit/signature"
 )
 
 // lookInputs opens parts, and keeps those of two looks until both are there.
 type lookInputs struct {
 	*inputs
 	first, second map[string]opened // by their devices
+	wire, disks   map[string]opened // halves, by their devices
+	signers       *signature.Signers
 }
 
 // opened is a part that is read.
@@ -35,15 +37,18 @@ func (i *lookInputs) openPart(path string) error {
 		}
 		i.work.toRead += about.Size()
 	}
-	read, err := part.NewReader(counted{file, &i.work.read})
+	read, err := i.reader(file, path)
 	if err != nil {
 		return err
 	}
 	ahead := part.NewAhead(read)
 	i.closers = append(i.closers, ahead.Close)
+	if is, err := i.takeHalf(ahead, path); is || err != nil {
+		return err
+	}
 	look := read.Head().Look
-	if look == nil {
-		i.devices = append(i.devices, join.NewDevice(ahead, path))
+	if look == nil || read.Head().IsOverWire() {
+		i.take(ahead, path)
 		return nil
 	}
 	to := i.second
@@ -71,13 +76,16 @@ func (i *lookInputs) join() error {
 			return fmt.Errorf("refused: %s is of a second look, and the first one at that device isn't given", one.path)
 		}
 	}
+	if err := i.joinHalves(); err != nil {
+		return err
+	}
 	sort.Strings(ids)
 	for _, id := range ids {
 		joined, err := looks.Join(i.first[id].stream, i.second[id].stream)
 		if err != nil {
 			return fmt.Errorf("refused: %s, %s: %w", i.first[id].path, i.second[id].path, err)
 		}
-		i.devices = append(i.devices, join.NewDevice(joined, i.first[id].path))
+		i.take(joined, i.first[id].path)
 	}
 	return nil
 }

@@ -12,6 +12,7 @@ import (
 
 	"syncthing-audit/choice"
 	"syncthing-audit/part"
+	"syncthing-audit/summary"
 )
 
 // options are what the command line asks for.
@@ -21,11 +22,15 @@ type options struct {
 	parts      []string
 	folders    []string
 	names      choice.Names
-	leaveOut   map[string]bool
+	strict     bool            // whether what can't be audited is refused
+	leaveOut   map[string]bool // but for these kinds
 	bytes      bool
 	lines      bool
 	json       bool
 	into       string
+	key        string // with which a part is signed; nothing where it isn't
+	signers    string // the file of those who may sign parts; nothing where that isn't asked
+	paths      bool   // whether a part has this machine's absolute paths
 	output     string // of standard output the file to which a shell has it go; nothing where that is none
 	isStandard bool   // whether the output is standard output
 	about      bool
@@ -38,18 +43,30 @@ type options struct {
 	still      float64 // seconds
 	hasStill   bool    // whether they were asked for
 	remote     string  // how this program is called on other machines
+	init       bool
+	records    bool           // whether records alone are asked for over the wire
+	listen     string         // where devices connect to the observer
+	observers  []string       // devices that keep no files, by their ids
+	disks      map[int]string // of observe: where the parts of the disks of devices will be, by the devices' places
 	program    string
+	history    string                 // the directory of a history; nothing without one
+	take       func(*summary.Summary) // is given the answer, too; not needed
 	jobs       int
 	hasJobs    bool // whether they were asked for
 }
 
-var usage = fmt.Sprintf(`usage: syncthing-audit part [--home DIR [--data DIR]] [--folder ID ..] [--names PREFIX] [--slice K/N] -o FILE
-       syncthing-audit check [--home DIR [--data DIR] ..] [PART ..] [--folder ID ..]
+var usage = fmt.Sprintf(`usage: syncthing-audit part [--home DIR [--data DIR]] [--folder ID ..] [--names PREFIX] [--slice K/N] [--sign KEY] -o FILE
+       syncthing-audit check [--home DIR [--data DIR] ..] [PART ..] [--allowed-signers FILE] [--folder ID ..]
        syncthing-audit run [MACHINE:[DIR] | DIR [--data DIR] ..] [--folder ID ..]
+       syncthing-audit watch CONFIG
+       syncthing-audit observe --init [--home DIR]
+       syncthing-audit observe --folder ID [--records] [--listen tcp://:PORT] [DEVICE-ID[@tcp://HOST:PORT] [--disk FILE] ..]
+       syncthing-audit disk --after TOKEN [--block-size BYTES ..] [--names PREFIX] [--slice K/N] [--config FILE] [--sign KEY] -o FILE FOLDER-ID=DIR ..
        syncthing-audit part (--begin [--rescan] | --end --tokens FILE ..) [--home DIR [--data DIR]] [--folder ID ..] -o FILE
        syncthing-audit part --about [--rescan] [--home DIR [--data DIR]] [--folder ID ..]
        syncthing-audit export [--home DIR [--data DIR] ..] [PART ..] --into DIR
        syncthing-audit sum DIR
+       syncthing-audit find --history DIR --folder ID NAME BACKUP ..
        syncthing-audit --version
 
 Says whether Syncthing devices are in step and, if they aren't, which device is wrong.
@@ -59,13 +76,22 @@ Says whether Syncthing devices are in step and, if they aren't, which device is 
   check   joins the parts of all devices that share a folder, and has syncaudit answer
   run     looks twice at devices that run, on other machines by ssh, and has syncaudit answer for the names that were still
           meanwhile
+  observe asks devices that run over Syncthing's own protocol, with nothing installed on them: as a device of its own, which keeps no
+          files and sends no records. It doesn't see all: its best answer is 'in step as far as seen over the wire'
+  disk    walks and hashes the directories of a device that is observed, on that device, and writes one file: the half of its part that the wire
+          doesn't show. It needs no Syncthing and no index. 'observe' with --disk prints the command, and waits for the file
+  watch   makes the audit of a night, as a service does: CONFIG says of which devices and whom to tell. It tells what is new, and once a month how
+          all is
   part --begin, --end  make the two looks one by one: begin on all devices, then end on all, then check
   export  writes the check documents of such an answer, for 'syncaudit certify' and 'syncaudit check'
   sum     joins the answers to exported documents, cut-0001.reply and so on: what 'syncaudit check', then
           'syncaudit explain' and then 'syncaudit firm' write of each
+  find    looks in directories, such as backups, for files with the bytes that a history has of a name: those before they changed on
+          all devices under one time, or else those that were read last
 
   --home DIR           a device's home on this machine: config.xml, cert.pem and index-v0.14.0.db. Without it part takes Syncthing's
-                       default: ~/.config/syncthing or ~/.local/state/syncthing
+                       default: ~/.config/syncthing or ~/.local/state/syncthing. Of observe: the directory with the observer's key
+                       (~/.local/state/syncthing-audit/observer)
   --data DIR           behind a --home, or with run behind a device's DIR: where its database is, if it isn't in the home, as with
                        Syncthing's own --data
   --folder ID          only this folder; may be given more than once. Without it, all folders. part takes those that its device has,
@@ -82,17 +108,35 @@ Says whether Syncthing devices are in step and, if they aren't, which device is 
   --heed-input         of --begin: end without a part once standard input ends. 'run' sets this on other machines
   --rescan             of run, and of part --begin: have Syncthing scan before the first look, by its REST API, and wait for that. What
                        changed or is missing on a disk then goes to all devices that take changes
-  --still SECONDS      of run: how long to wait at least, after the last first look, before the second looks (10). Of run and of part
+  --still SECONDS      of run, observe and watch: how long to wait at least, after the last first look, before the second looks (10). Of run and of part
                        --end: for how long at most a second look waits until Syncthing is idle
   --remote-program P   of run: how to call this program on the other machines (syncthing-audit, on PATH or in ~/.local/bin)
+  --init               of observe: make the observer's key, and print its device id
+  --records            of observe: compare records alone, and read no file
+  --listen ADDRESS     of observe: wait there for devices that are given by their ids alone
+  --disk FILE          of observe, behind a device: its disks are walked on the device itself, by 'disk'. FILE is where that file will be
+  --after TOKEN        of disk: of which device the disks are, and after which look of the observer they are walked
+  --block-size BYTES   of disk: cut files into blocks of this size, too, as the device's records have it
+  --config FILE        of disk: Syncthing's config.xml there. The part says what is configured of the folders, and whether Syncthing is idle with them
+  --marker NAME        of disk: what Syncthing's configuration there calls the folder's marker (.stfolder)
+  --observer ID        of check, run and export, and of part --end: this device is an observer, which keeps no files: don't ask for its part.
+                       Without it, the observer of this machine and user is known, and that of parts which are made over the wire
   --dry-run            of run: write the commands that it would run, as a script for a shell, and run none of them
-  -o FILE              where the part goes. Without it, or with -, it goes to standard output
-  --leave-out KINDS    leave out what can't be audited, by kinds with commas between, and say so:
+  -o FILE              of part and disk: where the part goes. Without it, or with -, it goes to standard output
+  --sign KEY           of part and disk: sign the part with this device's own key, which is made at first use. The signature goes beside FILE, as FILE.sig
+  --paths              of part and disk, and of run for other machines: the part has that machine's absolute paths, too: where its folders are
+  --allowed-signers FILE  refuse each part without a right signature beside it, by a key that this file has for the part's device
+                       (ssh-keygen(1)). Without it, no signature is checked, and the answer says so
+  --strict             refuse what can't be audited, with status 2. Without it that is left out, and the answer says so, with status 6
+  --leave-out KINDS    with --strict, leave out these kinds all the same, with commas between:
                        %s
   --lines              in place of the summary for people: the verdict and a line for each failure, in syncaudit's words
   --json               in place of the summary for people: the summary for programs; audit.schema.json is its schema
+  --history DIR        of check, run and observe: keep in DIR what was read of each file and when, and what was found, and say what is new. So bytes
+                       that changed on all devices under one time are seen, which no comparison of devices shows
   --bytes              documents with the bytes of files, as others may want to read them; works only with homes
-  --into DIR           of export: write the documents there, as cut-0001.json and so on
+  --into DIR           of export: write the documents there, as cut-0001.json and so on. Of observe: write the parts there, in place of
+                       an answer
   --syncaudit FILE     the program that answers. Without it, $SYNCAUDIT, or syncaudit on PATH
   --jobs N             how many syncaudit run at once, and how many files are hashed at once (%d)
 
@@ -112,6 +156,20 @@ func (l *list) Set(value string) error {
 		return errors.New("empty")
 	}
 	*l = append(*l, value)
+	return nil
+}
+
+// filled is a flag whose word may not be empty: without a word nothing would be checked, say, where a variable of a script is unset.
+type filled string
+
+func (f *filled) String() string { return string(*f) }
+
+// Set takes the word.
+func (f *filled) Set(value string) error {
+	if value == "" {
+		return errors.New("empty")
+	}
+	*f = filled(value)
 	return nil
 }
 
@@ -168,7 +226,7 @@ var errHelp = errors.New("help")
 
 // readOptions reads the words behind a command, with the flags that it has.
 func readOptions(name string, words []string, flagsOf func(*flag.FlagSet, *options)) (options, error) {
-	read := options{leaveOut: map[string]bool{}, data: map[int]string{}}
+	read := options{leaveOut: map[string]bool{}, data: map[int]string{}, disks: map[int]string{}}
 	flags := flag.NewFlagSet(name, flag.ContinueOnError)
 	flags.SetOutput(io.Discard)
 	flags.Usage = func() {}
@@ -238,6 +296,8 @@ func (o *options) checkInputs() error {
 		return &wrongUsage{"no home and no part is given"}
 	case len(o.parts) > 0 && o.bytes:
 		return &wrongUsage{"--bytes reads homes; parts have no bytes"}
+	case len(o.parts) == 0 && o.signers != "":
+		return &wrongUsage{"--allowed-signers is for parts: a home has no signature"}
 	}
 	return nil
 }
@@ -245,8 +305,9 @@ func (o *options) checkInputs() error {
 // inputFlags are the flags of commands that join devices.
 func inputFlags(flags *flag.FlagSet, read *options) {
 	flags.Var(ofHome(read), "data", "")
-	flags.Var(kinds(read.leaveOut), "leave-out", "")
+	consentFlags(flags, read)
 	flags.BoolVar(&read.bytes, "bytes", false, "")
+	flags.Var((*filled)(&read.signers), "allowed-signers", "")
 }
 
 // defaultProgram gives the program that audits where none is named.

@@ -25,7 +25,7 @@ type outlet struct {
 	count     int
 	kept      []byte
 	written   []exportedDocument
-	files     []string
+	staged    *leftover.Staged // the files that get their names in the directory in the end
 }
 
 // checkNew says whether something else than a directory is there, or an earlier export stands in the directory, or answers to one: 'sum' would
@@ -63,9 +63,6 @@ func (o *outlet) take(one *document.Document) error {
 		o.kept = one.Written
 		return nil
 	}
-	if err := leftover.At(o.directory); err != nil {
-		return faultOf(err)
-	}
 	name := fmt.Sprintf("cut-%04d.json", o.count)
 	o.written = append(o.written, exportedDocument{name, one.Folder, one.Own})
 	return o.writeNew(name, func(to io.Writer) error {
@@ -86,31 +83,35 @@ func (o *outlet) end(answer *finding.Answer, log io.Writer) error {
 	if err := o.writeNew(restName, (&exported{Answer: answer, Documents: o.written}).write); err != nil {
 		return err
 	}
-	leftover.Keep(o.files)
+	if err := o.staged.Put(); errors.Is(err, os.ErrExist) {
+		return fmt.Errorf("refused: something came into %s meanwhile: %w", shell.Quoted(o.directory), err)
+	} else if err != nil {
+		return faultOf(err)
+	}
 	outside.Printf(log, "syncthing-audit: %s in %s\n", countOf(o.count, "document"), o.directory)
 	return nil
 }
 
-// drop takes away what was written, and the directories that were made for that if nothing else is there: without the rest the documents have
-// no sum.
+// drop takes away what was written, and the directories that were made for that if nothing else is there.
 func (o *outlet) drop() {
-	for _, path := range o.files {
-		leftover.Remove(path)
+	if o.staged != nil {
+		o.staged.Drop()
 	}
-	leftover.RemoveMade()
 }
 
-// writeNew writes a file that isn't there yet, and that is gone in the end unless all are written.
+// writeNew writes a file that gets its name once all are written: without the rest the documents have no sum, and some of them alone look like all.
 func (o *outlet) writeNew(name string, write func(io.Writer) error) error {
-	path := filepath.Join(o.directory, name)
-	file, err := leftover.New(path)
-	if errors.Is(err, os.ErrExist) {
-		return err
+	if o.staged == nil {
+		staged, err := leftover.NewStaged(o.directory)
+		if err != nil {
+			return faultOf(err)
+		}
+		o.staged = staged
 	}
+	file, err := o.staged.New(name)
 	if err != nil {
 		return faultOf(err)
 	}
-	o.files = append(o.files, path)
 	if err := write(faulty{file}); err != nil {
 		file.Close()
 		return err

@@ -1,14 +1,16 @@
 package main
 
 import (
+	"errors"
 	"fmt"
 	"io"
 	"os"
 	"path/filepath"
+	"syscall"
 
 	"github.com/syncthing/syncthing/lib/config"
 	"syncthing-audit/adapt"
-	"syncthing-audit/device"
+	"syncthing-audit/directory"
 	"syncthing-audit/join"
 	"syncthing-audit/part"
 	"syncthing-audit/shell"
@@ -44,14 +46,14 @@ func isFolder(directory string, one config.FolderConfiguration) bool {
 // marker is what Syncthing makes in the directory of each folder.
 const marker = ".stfolder"
 
-// checkUnsynced says whether documents would be written into a folder of Syncthing: all its devices would get them. It is a folder of
+// checkUnsynced says whether documents or a history would be written into a folder of Syncthing: all its devices would get them. It is a folder of
 // these devices, whether it is asked for or not, or another one.
-func checkUnsynced(directory string, opened *inputs) error {
+func checkUnsynced(directory, what string, opened *inputs) error {
 	real, err := realOf(directory)
 	if err != nil {
 		return faultOf(err)
 	}
-	return checkAbove(directory, real, "whose devices would all get the documents: name a directory elsewhere", func(above string) string {
+	return checkAbove(directory, real, "whose devices would all get "+what+": name a directory elsewhere", func(above string) string {
 		if one, folder := folderAt(above, opened.devices); folder != nil {
 			return shell.Folder(folder.ID, folder.Label) + " of " + one.Called()
 		}
@@ -79,8 +81,8 @@ func checkAbove(path, directory, why string, known func(directory string) string
 }
 
 // folderAt gives the folder whose directory this is, and its device, where one of these has it on this machine.
-func folderAt(directory string, devices []*join.Device) (*join.Device, *part.Folder) {
-	number, err := device.DirectoryOf(directory)
+func folderAt(path string, devices []*join.Device) (*join.Device, *part.Folder) {
+	number, err := directory.Place(path)
 	if err != nil {
 		return nil, nil
 	}
@@ -100,6 +102,9 @@ func realOf(path string) (string, error) {
 	if above := filepath.Dir(path); os.IsNotExist(err) && above != path {
 		real, err = realOf(above)
 		real = filepath.Join(real, filepath.Base(path))
+	}
+	if errors.Is(err, syscall.ENOTDIR) {
+		return "", &os.PathError{Op: "open", Path: path, Err: syscall.ENOTDIR} // EvalSymlinks doesn't say where
 	}
 	if err != nil {
 		return "", err

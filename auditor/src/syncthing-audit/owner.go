@@ -61,7 +61,7 @@ func become(owner *syscall.Stat_t) error {
 	if os.Geteuid() == 0 || os.Getuid() == 0 {
 		return syscall.EPERM
 	}
-	return nil
+	return heedParentAgain()
 }
 
 // groupsOf gives the groups of a user, as far as the system knows these.

@@ -8,6 +8,7 @@ import (
 	"strings"
 
 	"github.com/syncthing/syncthing/lib/config"
+	"golang.org/x/exp/slices"
 	"syncthing-audit/device"
 	"syncthing-audit/disk"
 	"syncthing-audit/gather"
@@ -23,7 +24,7 @@ func runPart(words []string, output, log io.Writer) (int, error) {
 	if err != nil {
 		return 0, err
 	}
-	write, err := whereTo(asked, output)
+	write, err := whereTo(asked, output, log, options.signTarget)
 	if err != nil {
 		return 0, err
 	}
@@ -53,7 +54,10 @@ func readPartOptions(words []string) (options, error) {
 		flags.BoolVar(&read.heeds, "heed-input", false, "")
 		flags.Var((*list)(&read.tokens), "tokens", "")
 		flags.Float64Var(&read.still, "still", secondsOfStillness, "")
-		flags.Var(kinds(read.leaveOut), "leave-out", "")
+		observerFlag(flags, read)
+		consentFlags(flags, read)
+		flags.Var((*filled)(&read.key), "sign", "")
+		flags.BoolVar(&read.paths, "paths", false, "")
 	})
 	if err == nil && len(asked.parts) > 0 {
 		err = &wrongUsage{fmt.Sprintf("%q stands behind no flag: a home stands behind --home, and the part behind -o", asked.parts[0])}
@@ -63,6 +67,9 @@ func readPartOptions(words []string) (options, error) {
 	}
 	if err == nil {
 		err = asked.checkLooks()
+	}
+	if err == nil {
+		err = asked.checkSigning()
 	}
 	if err == nil && len(asked.homes) == 0 {
 		err = asked.takeDefaultHome()
@@ -81,8 +88,8 @@ func onePart(asked options, write writing, log io.Writer) error {
 	}
 	defer from.close()
 	from.tellDoubts(log)
-	for _, one := range from.read.Others {
-		if len(asked.folders) == 0 {
+	for _, one := range othersOf(from.home, asked.folders, true) {
+		if one.Away != "" && (len(asked.folders) == 0 || slices.Contains(asked.folders, one.ID)) {
 			outside.Printf(log, "syncthing-audit: the part is without folder %s: %s\n", shell.Folder(one.ID, one.Label), join.WhyAway(one))
 		}
 	}
@@ -113,6 +120,9 @@ func openSource(open func(dir, data string) (*device.Home, error), asked options
 	pool := disk.NewPool(asked.jobs)
 	made := &source{inputs: inputs{pool: pool, closers: []func(){home.Close, pool.Close}}, home: home}
 	if err = checkFolders(home, asked.folders, log); err == nil {
+		err = checkThere(home, asked)
+	}
+	if err == nil {
 		made.read, err = made.deviceOf(home, asked)
 	}
 	if err == nil {
@@ -160,9 +170,12 @@ func checkFolders(home *device.Home, wanted []string, log io.Writer) error {
 
 // whereTo gives what writes a part to where it is to go. It says what is wrong with that before files are hashed. What '--about' tells is a
 // line that a person can read, too.
-func whereTo(asked options, output io.Writer) (writing, error) {
+func whereTo(asked options, output, log io.Writer, sign func(options, *target, io.Writer) error) (writing, error) {
 	if !standardOutput[asked.output] {
 		to, err := targetOf(asked.output)
+		if err == nil && asked.key != "" {
+			err = sign(asked, to, log)
+		}
 		if err != nil {
 			return nil, err
 		}

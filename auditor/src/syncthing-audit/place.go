@@ -16,6 +16,7 @@ import (
 	"syncthing-audit/ask"
 	"syncthing-audit/bounded"
 	"syncthing-audit/part"
+	"syncthing-audit/regular"
 	"syncthing-audit/shell"
 )
 
@@ -31,6 +32,7 @@ type place struct {
 
 	folders []string // of those that are asked for the ones that the device has, once it said so
 	isOlder bool     // than this program: it isn't able to say what is shared before it looks
+	device  string   // its id, once it said so
 	waits   bool     // whether the program there knows how long its second look is to wait until Syncthing is idle
 }
 
@@ -140,6 +142,9 @@ func (p *place) chosen(asked options) []string {
 	for _, one := range folders {
 		words = append(words, "--folder", one)
 	}
+	if asked.paths || p.host == "" {
+		words = append(words, "--paths")
+	}
 	return append(append(words, asked.names.Flags()...), "-o", "-")
 }
 
@@ -188,7 +193,7 @@ func (p *place) run(words []string, input io.Reader, path string, limits bounded
 	var unkept *fault
 	switch {
 	case errors.As(err, &ended):
-		return "", fmt.Errorf("%s: its command ended with %w: %s%s", p.called(), ended, onOneLine(strings.TrimSpace(shown(told))), p.whereIs(ended))
+		return "", &endedCommand{fmt.Errorf("%s: its command ended with %w: %s%s", p.called(), ended, onOneLine(strings.TrimSpace(shown(told))), p.whereIs(ended))}
 	case errors.As(err, &passed):
 		return "", fmt.Errorf("refused: %s: its command %w, and was ended", p.called(), passed)
 	case errors.As(err, &unkept):
@@ -210,8 +215,7 @@ func (p *place) whereIs(ended *exec.ExitError) string {
 	case ended.ExitCode() == ask.StatusCannotRun:
 		return ". Is syncthing-audit installed there? --remote-program says how it is called"
 	case ended.ExitCode() == statusOfSSH:
-		return ". See that the machine is on and that " + shell.Words([]string{"ssh", p.host, "true"}) + " needs no answer; or audit the other " +
-			"devices without it, with --leave-out " + part.Absent
+		return ". See that the machine is on and that " + shell.Words([]string{"ssh", p.host, "true"}) + " needs no answer"
 	}
 	return ""
 }
@@ -227,7 +231,7 @@ func (p *place) hint(err error) error {
 
 // headOf reads the head of a part.
 func headOf(path string) (*part.Head, error) {
-	file, err := os.Open(path)
+	file, _, err := regular.Open(path)
 	if err != nil {
 		return nil, err
 	}

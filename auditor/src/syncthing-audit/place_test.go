@@ -17,8 +17,8 @@ func TestPlaces(t *testing.T) {
 		{"laptop:", "laptop", "", "ssh laptop 'audit part --end --tokens - --leave-out absent --folder docs -o -'"},
 		{"ann@laptop:~/a b", "ann@laptop", "a b", "ssh ann@laptop 'audit part --end --tokens - --leave-out absent --home '\\''a b'\\'' --folder docs -o -'"},
 		{"laptop:/srv/$HOME", "laptop", "/srv/$HOME", "ssh laptop 'audit part --end --tokens - --leave-out absent --home '\\''/srv/$HOME'\\'' --folder docs -o -'"},
-		{"/srv/a:b", "", "/srv/a:b", "here part --end --tokens - --leave-out absent --home /srv/a:b --folder docs -o -"},
-		{"./home", "", "./home", "here part --end --tokens - --leave-out absent --home ./home --folder docs -o -"},
+		{"/srv/a:b", "", "/srv/a:b", "here part --end --tokens - --leave-out absent --home /srv/a:b --folder docs --paths -o -"},
+		{"./home", "", "./home", "here part --end --tokens - --leave-out absent --home ./home --folder docs --paths -o -"},
 	}
 	for _, one := range cases {
 		asked := options{parts: []string{one.word}, folders: []string{"docs"}, remote: "audit"}
@@ -47,7 +47,7 @@ func TestPlacesWithADatabaseElsewhere(t *testing.T) {
 	if err != nil {
 		t.Fatal(err)
 	}
-	for at, told := range []string{" --home home --data 'a b' -o -", " --home /srv/home -o -", " --home ./home --data data -o -"} {
+	for at, told := range []string{" --home home --data 'a b' -o -", " --home /srv/home -o -", " --home ./home --data data --paths -o -"} {
 		one := places[at]
 		for _, words := range [][]string{one.about(asked), one.begin(asked), one.end(asked)} {
 			command := shell.Words(words)

@@ -27,14 +27,14 @@ func tellCommands(output io.Writer, places []*place, asked options) error {
 		}
 		return strings.Join(words, " ")
 	}
-	outside.Print(output, "# 'run' asks first what each device shares (part --about), and refuses by that before any file is hashed. Here 'check' does, at the end.\n")
+	outside.Print(output, "# 'run' asks first what each device shares (part --about). With --strict it refuses by that before any file is hashed. Here 'check' does, at the end.\n")
 	outside.Print(output, "# The first looks, at once or one after another. Each tells its token on standard error.\n")
 	for at, one := range places {
 		outside.Printf(output, "%s < /dev/null > %s 2> %s\n", shell.Words(one.begin(asked)), shell.Quoted(labels[at]+".begin"), shell.Quoted(labels[at]+".log"))
 	}
 	outside.Printf(output, "# Once all are over: the tokens of all, one on a line.\ngrep -hE %s %s > tokens\nsleep %g\n", shell.Word(tokenLine), named(".log"), asked.still)
 	outside.Print(output, "# The second looks. A device doesn't know whose looks are asked for, so each goes on without the tokens of others (--leave-out\n"+
-		"# absent). 'check' refuses where a device, or a token of one, is missing.\n")
+		"# absent). 'check' leaves out a device that is missing, or that another one has no token of.\n")
 	for at, one := range places {
 		outside.Printf(output, "%s < tokens > %s\n", shell.Words(one.end(asked)), shell.Quoted(labels[at]+".end"))
 	}
@@ -63,6 +63,9 @@ func (p *place) check(asked options) []string {
 		words = append(words, "--folder", one)
 	}
 	words = append(words, asked.names.Flags()...)
+	if asked.strict {
+		words = append(words, "--strict")
+	}
 	for _, kind := range part.Kinds {
 		if asked.leaveOut[kind] {
 			words = append(words, "--leave-out", kind)

@@ -41,7 +41,7 @@ func checkScannable(about config.Configuration, asked options) error {
 	return nil
 }
 
-// chosenOf gives the folders that are asked for, or all but those that are away.
+// chosenOf gives the folders that are asked for, or all, but those that are away.
 func chosenOf(about config.Configuration, wanted []string) []config.FolderConfiguration {
 	made := []config.FolderConfiguration{}
 	for _, one := range about.Folders {
@@ -52,10 +52,7 @@ func chosenOf(about config.Configuration, wanted []string) []config.FolderConfig
 	return made
 }
 
-// isChosen says whether a folder is asked for. Where none is named, those are passed over that are paused and whose directories aren't there.
+// isChosen says whether a folder is asked for, by its id or with all, and is there.
 func isChosen(one config.FolderConfiguration, wanted []string) bool {
-	if len(wanted) == 0 {
-		return device.Away(one) == ""
-	}
-	return slices.Contains(wanted, one.ID)
+	return (len(wanted) == 0 || slices.Contains(wanted, one.ID)) && device.Away(one) == ""
 }

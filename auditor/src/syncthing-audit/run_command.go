@@ -1,6 +1,7 @@
 package main
 
 import (
+	"errors"
 	"flag"
 	"fmt"
 	"io"
@@ -31,18 +32,26 @@ const secondsOfPatience = 10
 func runRun(words []string, output, log io.Writer) (int, error) {
 	asked, err := readOptions("run", words, func(flags *flag.FlagSet, read *options) {
 		flags.Var(databaseOf{read, &read.parts, "device"}, "data", "")
-		flags.Var(kinds(read.leaveOut), "leave-out", "")
+		consentFlags(flags, read)
 		answerFlags(flags, read)
 		flags.StringVar(&read.program, "syncaudit", defaultProgram(), "")
 		flags.StringVar(&read.remote, "remote-program", "", "")
 		flags.Float64Var(&read.still, "still", secondsOfStillness, "")
 		flags.BoolVar(&read.rescan, "rescan", false, "")
 		flags.BoolVar(&read.dryRun, "dry-run", false, "")
+		flags.BoolVar(&read.paths, "paths", false, "")
+		flags.StringVar(&read.history, "history", "", "")
+		observerFlag(flags, read)
 	})
-	if err == nil {
-		err = asked.checkRun()
-	}
 	if err != nil {
+		return 0, err
+	}
+	return runDevices(asked, output, log)
+}
+
+// runDevices makes both looks at devices, and answers.
+func runDevices(asked options, output, log io.Writer) (int, error) {
+	if err := asked.checkRun(); err != nil {
 		return 0, err
 	}
 	places, err := placesOf(asked)
@@ -56,12 +65,16 @@ func runRun(words []string, output, log io.Writer) (int, error) {
 	if err := program.Find(); err != nil {
 		return 0, err
 	}
+	known, err := knownAt(places)
+	if err != nil {
+		return 0, err
+	}
 	room, err := leftover.Directory()
 	if err != nil {
 		return 0, err
 	}
 	defer leftover.Remove(room)
-	run := &running{asked: asked, places: places, room: room, log: log, progress: progressOf(log), patience: secondsOfPatience * time.Second}
+	run := &running{asked: asked, places: places, known: known, room: room, log: log, progress: progressOf(log), patience: secondsOfPatience * time.Second}
 	if err := run.look(); err != nil {
 		return 0, err
 	}
@@ -85,11 +98,13 @@ func (o *options) checkRun() error {
 type running struct {
 	asked  options
 	places []*place
+	known  *knownDevices
 	room   string
 	log    io.Writer
 	tokens string
-	mutex  sync.Mutex // of the log
-	began  time.Time  // before the first second look began
+	mutex  sync.Mutex     // of the log, and of what is out
+	out    map[int]string // the places that are left out, with why
+	began  time.Time      // before the first second look began
 
 	progress io.Writer     // the log, where a person reads it
 	patience time.Duration // after which it is told who is awaited, and after twice as long again, and so on
@@ -109,8 +124,11 @@ func (r *running) look() error {
 	if err := r.all("first look", r.begin); err != nil {
 		return err
 	}
+	if err := r.checkPresent(); err != nil {
+		return err
+	}
 	var tokens strings.Builder
-	for at := range r.places {
+	for _, at := range r.present() {
 		head, err := headOf(r.file(at, "begin"))
 		if err != nil {
 			return fmt.Errorf("%s: %w", r.places[at].called(), r.places[at].hint(err))
@@ -118,7 +136,14 @@ func (r *running) look() error {
 		if head.Look == nil {
 			return fmt.Errorf("%s: its part isn't of a first look: is the program of this version there?", r.places[at].called())
 		}
+		if err := r.meet(at, head.Device); err != nil {
+			return err
+		}
 		fmt.Fprintln(&tokens, looks.Token(head.Device, head.Look.ID))
+	}
+	r.keepKnown()
+	for _, one := range r.asked.knownObservers() { // second looks ask for a token of each device that shares a folder
+		fmt.Fprintln(&tokens, looks.Token(one, strings.Repeat("0", 32)))
 	}
 	r.tokens = tokens.String()
 	if left := time.Until(r.lastLook().Add(time.Duration(r.asked.still * float64(time.Second)))); left > 0 {
@@ -126,31 +151,43 @@ func (r *running) look() error {
 		time.Sleep(left)
 	}
 	r.began = time.Now()
-	return r.all("second look", r.end)
+	if err := r.all("second look", r.end); err != nil {
+		return err
+	}
+	return r.checkPresent()
 }
 
-// all does something at all places at once, tells which ones are awaited, and gives the error that isn't told yet; one that says that it was
-// told where it was.
+// all does something at all places at once that aren't left out, tells which ones are awaited, and gives the error that isn't told yet; one that
+// says that it was told where it was. A place whose command gives nothing is left out from then on, where the others go on without it.
 func (r *running) all(what string, do func(at int) error) error {
 	errs := make([]error, len(r.places))
 	ended := make(chan int)
-	for at := range r.places {
+	present := r.present()
+	for _, at := range present {
 		go func(at int) {
 			errs[at] = do(at)
+			var gone *endedCommand
+			if errors.As(errs[at], &gone) && r.goesOn() {
+				r.leaveOut(at, what, errs[at])
+				errs[at] = nil
+			}
 			ended <- at
 		}(at)
 	}
-	return r.await(what, ended, errs)
+	return r.await(what, ended, errs, len(present))
 }
 
-// await waits until all places have ended. A place that failed is told at once: there will be no answer. The last one is the error.
-func (r *running) await(what string, ended <-chan int, errs []error) error {
+// await waits until so many places have ended. A place that failed is told at once: there will be no answer. The last one is the error.
+func (r *running) await(what string, ended <-chan int, errs []error, left int) error {
 	var failed error
 	began, next := time.Now(), r.patience
 	isOver := make([]bool, len(r.places))
+	for at := range r.places {
+		isOver[at] = r.isOut(at)
+	}
 	told := time.NewTimer(next)
 	defer told.Stop()
-	for left := len(r.places); left > 0; {
+	for left > 0 {
 		select {
 		case at := <-ended:
 			isOver[at] = true
@@ -259,9 +296,10 @@ func ageOf(told string) time.Duration {
 
 // answer joins what was seen at all devices, and tells the answer.
 func (r *running) answer(program ask.Program, output io.Writer) (int, error) {
-	read := options{folders: r.asked.folders, names: r.asked.names, leaveOut: r.asked.leaveOut, lines: r.asked.lines, json: r.asked.json, jobs: r.asked.jobs}
+	read := options{folders: r.asked.folders, names: r.asked.names, strict: r.asked.strict, leaveOut: r.asked.leaveOut, observers: r.asked.observers, lines: r.asked.lines, json: r.asked.json, jobs: r.asked.jobs, take: r.asked.take}
 	names := map[string]string{}
-	for at, one := range r.places {
+	for _, at := range r.present() {
+		one := r.places[at]
 		for _, look := range []string{"begin", "end"} {
 			path := r.file(at, look)
 			read.parts = append(read.parts, path)
@@ -273,8 +311,13 @@ func (r *running) answer(program ask.Program, output io.Writer) (int, error) {
 		return 0, renamed(err, names)
 	}
 	defer opened.close()
+	kept, err := remember(r.asked.history, opened)
+	if err != nil {
+		return 0, err
+	}
+	defer kept.close()
 	for _, one := range opened.devices {
-		one.From = names[one.From]
+		one.From, one.IsUnsigned = names[one.From], false // ssh brought them from the machines themselves
 		if len(r.asked.folders) == 0 && one.Head.Others == nil {
 			one.Head.Others = []part.Other{} // an older program made it, of all folders
 		}
@@ -282,12 +325,14 @@ func (r *running) answer(program ask.Program, output io.Writer) (int, error) {
 	if read.lines {
 		tellDevices(r.log, opened.devices)
 	}
+	opened.unreached = r.unreached()
 	answer, err := opened.audited(read, r.log, func() (*finding.Answer, error) { return answerOf(opened, read, program) })
 	if err != nil {
 		return 0, renamed(err, names)
 	}
+	r.addUnreached(answer)
 	r.time(answer)
-	return tell(output, r.log, read, answer)
+	return kept.tell(output, r.log, read, answer)
 }
 
 // renamed gives an error with places in place of this run's own files.

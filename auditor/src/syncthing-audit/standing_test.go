@@ -143,16 +143,12 @@ func collected(t *testing.T, why string, one, other []*hostile) (err error) {
 	if err != nil {
 		return err
 	}
-	asked := audit.Options{LeaveOut: map[string]bool{}}
-	for _, kind := range part.Kinds {
-		asked.LeaveOut[kind] = true
-	}
-	answer, err := audit.Collect(plan, asked, func(*document.Document) error { return nil })
+	answer, err := audit.Collect(plan, audit.Options{}, func(*document.Document) error { return nil })
 	if err != nil {
 		return err
 	}
 	report.Refusals(io.Discard, answer)
-	_, err = tell(io.Discard, io.Discard, options{}, answer)
+	_, err = tell(io.Discard, io.Discard, options{}, answer, nil)
 	return err
 }
 

@@ -136,7 +136,7 @@ func TestWhatCannotBeWritten(t *testing.T) {
 		}
 	}
 	for _, path := range []string{"/dev/full", "-"} {
-		write, err := whereTo(options{output: path}, full{})
+		write, err := whereTo(options{output: path}, full{}, io.Discard, nil)
 		if err == nil {
 			err = write(func(to io.Writer) error {
 				_, err := io.WriteString(to, "new")

@@ -4,7 +4,6 @@ import (
 	"flag"
 	"fmt"
 	"io"
-	"os"
 	"path/filepath"
 	"strings"
 
@@ -12,6 +11,7 @@ import (
 	"syncthing-audit/audit"
 	"syncthing-audit/document"
 	"syncthing-audit/finding"
+	"syncthing-audit/regular"
 )
 
 // runSum joins the answers to exported documents.
@@ -35,7 +35,7 @@ func runSum(words []string, output, log io.Writer) (int, error) {
 	if err != nil {
 		return 0, err
 	}
-	return tell(output, log, asked, answer)
+	return tell(output, log, asked, answer, nil)
 }
 
 // sumOf reads the answers that stand beside exported documents.
@@ -56,10 +56,13 @@ func sumOf(directory string) (*finding.Answer, error) {
 	return read.Answer, replies.AddTo(read.Answer)
 }
 
+// mostOfReply is how many bytes the answer to a document has at most.
+const mostOfReply = 1 << 30
+
 // replyTo reads the answer to an exported document.
 func replyTo(directory string, one exportedDocument) (*ask.Reply, error) {
 	path := filepath.Join(directory, strings.TrimSuffix(filepath.Base(one.File), ".json")+".reply")
-	text, err := os.ReadFile(path)
+	text, _, err := regular.Read(path, mostOfReply)
 	if err != nil {
 		return nil, fmt.Errorf("refused: a document has no answer yet: %w", err)
 	}

@@ -21,6 +21,7 @@ var standardOutput = map[string]bool{"": true, "-": true, "/dev/stdout": true}
 type target struct {
 	path     string // not a symlink, unless it is direct
 	isDirect bool   // a device or a pipe, into which the part is written as it is made
+	signing  *signing
 }
 
 // targetOf finds what a path names. A symlink stays, and what it points to is written.
@@ -39,14 +40,14 @@ func targetOf(path string) (*target, error) {
 	}
 	switch kind := about.Mode().Type(); {
 	case kind == os.ModeDevice|os.ModeCharDevice || kind == os.ModeNamedPipe:
-		return &target{path, true}, nil
+		return &target{path: path, isDirect: true}, nil
 	case kind.IsDir():
 		return nil, refusedTarget(path, "is a directory: name a file")
 	case !kind.IsRegular():
 		return nil, refusedTarget(path, "is no file, pipe or character device: name another one")
 	}
 	real, err := filepath.EvalSymlinks(path)
-	return &target{real, false}, err
+	return &target{path: real}, err
 }
 
 // linkOfOthers gives the first symlink on a path that isn't root's; nothing where there is none.
@@ -76,7 +77,7 @@ func targetOfNothing(path string) (*target, error) {
 	if about, err := os.Stat(filepath.Dir(path)); err != nil || !about.IsDir() {
 		return nil, refusedTarget(filepath.Dir(path), "is no directory: make it first")
 	}
-	return &target{path, false}, nil
+	return &target{path: path}, nil
 }
 
 func refusedTarget(path, why string) error {
@@ -104,9 +105,16 @@ func (t *target) write(write func(io.Writer) error) error {
 	if err := fill(file.File, t.path, write); err != nil {
 		return err
 	}
+	putSignature, err := t.signing.sign(file.File)
+	if err != nil {
+		return err
+	}
 	// Something else may stand there by now, and to rename the file would replace it.
 	if about, err := os.Lstat(t.path); err == nil && !about.Mode().IsRegular() {
 		return refusedTarget(t.path, "is no file any more")
+	}
+	if err := putSignature(); err != nil {
+		return err
 	}
 	return faultOf(namedAs(t.path, file.Put(t.path)))
 }

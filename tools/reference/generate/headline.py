@@ -1,10 +1,10 @@
-"""The page of what the two headlines rest on, by the imports of the definitions."""
+"""The page of what the three headlines rest on, by the imports of the definitions."""
 
 from reading import Specs, clause
 
 INTRODUCTION = """# What the headlines rest on
 
-[trust.md](../trust.md#the-headlines) says what the two headlines mean. This page has each definition on which their words
+[trust.md](../trust.md#the-headlines) says what the three headlines mean. This page has each definition on which their words
 rest, from the clause downwards, as the imports of the files have it. Who believes these, and the plain types of `src/` named
 below each table, needs to believe nothing else of this repository: the gate checks the proofs. The definitions also use words
 of the kit, its standard library and its `sha2`; these and all else that is trusted stand in
@@ -12,12 +12,16 @@ of the kit, its standard library and its `sha2`; these and all else that is trus
 """
 
 CHECKERS, FIRM, ANSWERS = "bep_audit/src/checkers.rt", "bep_audit/src/firm.rt", "bep_answer/src/answers.rt"
+CONVERGING, PREVAILING, ARRIVAL = "bep_converge_check/src/checker.rt", "bep_converge/src/laws.rt", "bep_converge/src/arrival.rt"
 FULL = [
     ("What is settled stays put", CHECKERS, ["check", "check_plain"], ["stays_put", "stays_settled"]),
     ("What is firm stays firm", FIRM, ["firm_verdict"], ["stays_firm"]),
+    ("What converges goes on", CONVERGING, ["converge_verdict"], ["goes_on"]),
 ]
 BEYOND = [
     ("What is firm stays put, beyond both", FIRM, ["firm_verdict"], ["stays_put"]),
+    ("What converges goes on with all orderly peers, beyond all of these", PREVAILING, ["runs_keep_prevailing"], [""]),
+    ("What converges can come to all, beyond all of these", ARRIVAL, ["all_come"], [""]),
     ("From a document's bytes to its cut, beyond all of these", ANSWERS, ["check_text"], ["settled"]),
 ]
 
@@ -41,6 +45,10 @@ class Page:
         names = quoted(name for block in found for name in block.names)
         return f"| {crate} | {self.linked(file)} | {names} | {sum(len(block.lines) for block in found)} |"
 
+    def of(self, clauses):
+        """The clauses in words; of a law there is one without a name."""
+        return "Law " if clauses == [""] else f"Clauses {quoted(clauses, ' and ')} of "
+
     def section(self, title, file, functions, clauses, told=()):
         """A headline with its table, of what wasn't told yet."""
         source = self.crates / file
@@ -53,7 +61,7 @@ class Page:
         count = sum(len(block.lines) for blocks in new.values() for block in blocks)
         files = ", ".join(self.linked(self.crates / crate / "src" / f"{name}.rt") for crate, name in sorted(types))
         return "\n".join([f"## {title}", "",
-                          f"Clauses {quoted(clauses, ' and ')} of {quoted(functions, ' and ')} in {self.linked(source)}. "
+                          f"{self.of(clauses)}{quoted(functions, ' and ')} in {self.linked(source)}. "
                           f"Lines: {count}. Files: {len(new)}.", "",
                           "| Crate | File | Definitions | Lines |", "|---|---|---|---|",
                           *(self.row(*place, blocks) for place, blocks in new.items()), "", f"Plain types: {files}.", ""])

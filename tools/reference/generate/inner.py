@@ -1,5 +1,5 @@
-"""What stands in the wrong place of specs/: `inner/` has what private contracts alone name. No public contract, no other
-definition and no other crate names anything of it; and what none of these names stands there."""
+"""What stands in the wrong place of specs/: `inner/` has what private contracts alone name, in whichever crate. No public contract
+and no definition outside of inner/ names anything of it; and what neither these nor other crates name stands there."""
 
 import re
 
@@ -53,7 +53,7 @@ def clause_words(text, names):
 
 
 def named(crate):
-    """The modules of specs/ that a crate's public contracts name, and the types that its callers see."""
+    """The modules of specs/, its own and others', that a crate's public contracts name, and the types that its callers see."""
     folder = crate / "src"
     names = public_names(folder) or program_names(folder)
     texts = [file.read_text() for file in folder.rglob("*.rt")]
@@ -61,28 +61,32 @@ def named(crate):
     for text in texts:
         words = clause_words(text, names)
         for of, module, imported, owner in uses(text):
-            if of == crate.name and (owner in shown or any(is_used(name, words) for name in imported)):
+            if owner in shown or any(is_used(name, words) for name in imported):
                 yield of, module
 
 
-def public_modules(crates):
-    """The modules of all crates' specs/ that a public contract, another crate, or a definition outside inner/ names."""
-    public = set()
+def modules_of(crates):
+    """The modules of all crates' specs/ that a public contract or a definition outside inner/ names, and those that another crate names."""
+    public, lent = set(), set()
     for crate in crates:
         public.update(named(crate))
         for file in [*crate.rglob("*.rt"), *crate.rglob("*.antt")]:
             is_open = file.is_relative_to(crate / "specs") and file.parent.name != "inner"
-            public.update((of, module) for of, module, *_ in uses(file.read_text()) if of != crate.name or is_open)
-    return public
+            for of, module, *_ in uses(file.read_text()):
+                if is_open:
+                    public.add((of, module))
+                if of != crate.name:
+                    lent.add((of, module))
+    return public, lent
 
 
 def misplaced(crates):
     """The files of specs/ that stand in the wrong place, each with its crate and why."""
-    public = public_modules(crates)
+    public, lent = modules_of(crates)
     for crate in crates:
         for file in sorted((crate / "specs").rglob("*.antt")):
             module = file.relative_to(crate / "specs").with_suffix("").as_posix().replace("/", ".")
             if module.startswith(INNER) and (crate.name, module) in public:
                 yield crate.name, module, "it is inner, and more than private contracts name it"
-            if not module.startswith(INNER) and (crate.name, module) not in public and DEFINES.search(file.read_text()):
+            if not module.startswith(INNER) and (crate.name, module) not in public | lent and DEFINES.search(file.read_text()):
                 yield crate.name, module, "private contracts alone name it, and it isn't inner"

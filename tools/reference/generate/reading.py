@@ -80,8 +80,8 @@ class Specs:
 
 
 def clause(text, function, name):
-    """What a clause of a function names of the files that its own imports, and the lines of the clause."""
+    """What a clause of a function, or the one without a name, names of the files that its own imports."""
     head = text[re.search(rf"fn {function}\b", text).start():]
-    line = next(line for line in head.splitlines() if line.strip().startswith(f"ensures {name} "))
+    line = next(line for line in head.splitlines() if line.strip().startswith(f"ensures {name} {{".replace("  ", " ")))
     words = set(WORD.findall(line))
     return [(*place, one) for one, place in imports(text).items() if is_used(one, words)]

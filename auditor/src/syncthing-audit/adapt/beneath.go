@@ -123,7 +123,7 @@ func (b *Beneath) openRoot() error {
 	if b.root != nil {
 		return nil
 	}
-	root, err := os.Open(b.URI())
+	root, err := os.OpenFile(b.URI(), os.O_RDONLY|unix.O_DIRECTORY, 0)
 	if err != nil {
 		return err
 	}

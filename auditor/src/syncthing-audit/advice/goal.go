@@ -31,6 +31,16 @@ func (g Goal) isReached(end *forecast.End) bool {
 	return true
 }
 
+// isReachedAtAll says whether each of these ends is the goal.
+func (g Goal) isReachedAtAll(ends []forecast.End) bool {
+	for place := range ends {
+		if !g.isReached(&ends[place]) {
+			return false
+		}
+	}
+	return true
+}
+
 func isSame(a, b *forecast.Node) bool {
 	if a == nil || b == nil {
 		return a == b

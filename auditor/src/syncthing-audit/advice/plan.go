@@ -11,7 +11,7 @@ type Act uint8
 
 const (
 	Touch  Act = iota + 1 // gives the present time to what is there
-	Copy                  // copies from another device, with the time and the mode
+	Copy                  // copies from another device, with the time and the mode: a directory with all below it
 	Delete                // with all below it
 )
 
@@ -28,6 +28,7 @@ type Plan struct {
 	Steps  []Step
 	Answer forecast.Answer    // each end is the goal
 	Lost   []forecast.Content // bytes that are on some disk now, and on none at some end
+	Costs  []forecast.Content // those of them that aren't lost without it; only of several goals together
 }
 
 // MostSteps is how many steps a plan has at most.
@@ -76,7 +77,9 @@ func (t *task) steps() []Step {
 	from := -1
 	for i := range t.world.Devices {
 		if there := t.world.At(i, t.goal.Name); t.goal.Node != nil && isSame(there, t.goal.Node) {
-			made = append(made, Step{Touch, i, 0, t.goal.Name})
+			if there != nil && there.Type == forecast.File { // no scan sees the time of anything else
+				made = append(made, Step{Touch, i, 0, t.goal.Name})
+			}
 			if from < 0 {
 				from = i
 			}
@@ -84,7 +87,7 @@ func (t *task) steps() []Step {
 	}
 	for i := range t.world.Devices {
 		there := t.world.At(i, t.goal.Name)
-		if from >= 0 && !isSame(there, t.goal.Node) && t.goal.Node.Type != forecast.Directory {
+		if from >= 0 && !isSame(there, t.goal.Node) && t.world.HasRoom(i, t.goal.Name) {
 			made = append(made, Step{Copy, i, from, t.goal.Name})
 		}
 		if there != nil && !isSame(there, t.goal.Node) {
@@ -129,14 +132,18 @@ func (t *task) plan(steps []Step) *Plan {
 
 // leads gives the plan of steps in this order if each of its ends is the goal.
 func (t *task) leads(steps []Step) *Plan {
+	made := t.comesOf(steps)
+	if made == nil || !t.goal.isReachedAtAll(made.Answer.Ends) {
+		return nil
+	}
+	return made
+}
+
+// comesOf gives what comes of steps in this order; nothing where that isn't known.
+func (t *task) comesOf(steps []Step) *Plan {
 	made := &Plan{Steps: append([]Step{}, steps...), Answer: t.answer(t.after(steps))}
 	if len(made.Answer.Ends) == 0 || made.Answer.Endless > 0 {
 		return nil
-	}
-	for place := range made.Answer.Ends {
-		if !t.goal.isReached(&made.Answer.Ends[place]) {
-			return nil
-		}
 	}
 	lost := contents{}
 	t.before.lostIn(made.Answer.Ends, lost)
@@ -147,13 +154,17 @@ func (t *task) leads(steps []Step) *Plan {
 	return made
 }
 
+// mostStops is after how many of its steps a plan is tried to be left: of a longer plan, which does the same to many names, after some of them.
+const mostStops = 8
+
 // isSafe says whether one may stop after each step: nothing is lost then but what the plan loses, or what is lost without it.
 func (t *task) isSafe(steps []Step, lost []forecast.Content) bool {
 	allowed := contents{}
 	for _, content := range lost {
 		allowed[content] = true
 	}
-	for count := 1; count < len(steps); count++ {
+	apart := 1 + (len(steps)-1)/(mostStops+1)
+	for count := 1; count < len(steps); count += apart {
 		onTheWay := contents{}
 		t.before.lostIn(t.answer(t.after(steps[:count])).Ends, onTheWay)
 		if !onTheWay.isWithin(allowed, t.unavoidable) {
@@ -201,6 +212,9 @@ func (s Step) On(world *forecast.World, present int64) {
 		what := *world.At(s.From, s.Name)
 		world.Remove(s.Device, s.Name)
 		world.Put(s.Device, s.Name, what)
+		if what.Type == forecast.Directory {
+			world.PutBelow(s.Device, s.Name, s.From)
+		}
 	case Delete:
 		world.Remove(s.Device, s.Name)
 	}

@@ -41,6 +41,7 @@ type Reply struct {
 	Names, Deleted int64
 	Failures       []finding.Failure // in the order in which they are told; none where it is settled
 	Firmness       finding.Firmness
+	Convergence    finding.Convergence // of what isn't firm
 }
 
 // Program is the syncaudit that is asked.
@@ -50,7 +51,7 @@ type Program struct {
 }
 
 // lacks is what a program was asked for and doesn't know, as it is too old.
-type lacks struct{ certify, firm atomic.Bool }
+type lacks struct{ certify, firm, converge atomic.Bool }
 
 // certifying is the flag by which a document is audited under the certificate that is made of it.
 const certifying = "--certify"
@@ -87,7 +88,8 @@ func (p Program) Ask(folder string, document []byte) (*Reply, error) {
 }
 
 // audit asks whether a document is firm. What is firm is settled, too. What isn't firm for a reason of 'check' isn't settled.
-// Otherwise the program is asked whether it is settled. If it isn't, all that fails is explained.
+// Otherwise the program is asked whether it is settled. If it isn't, all that fails is explained. Of what isn't firm it is asked
+// whether it comes right by itself.
 func (p Program) audit(folder string, document []byte, flags ...string) (*Reply, error) {
 	var err error
 	said := answers{}
@@ -109,6 +111,9 @@ func (p Program) audit(folder string, document []byte, flags ...string) (*Reply,
 		if said.explanation, err = p.text(document, "explain", flags); err != nil {
 			return nil, err
 		}
+	}
+	if said.convergence, err = p.converge(document); err != nil {
+		return nil, err
 	}
 	return said.reply(folder)
 }

@@ -142,20 +142,20 @@ func TestWhatAProgramIsAsked(t *testing.T) {
 	const unsettled, explained = "echo 'not settled: NotWinner docs a'; " + counts + "; exit 1", "echo NotWinner docs a; exit 1"
 	cases := []struct{ flag, firm, check, explain, asked string }{
 		{"", firm, "exit 9", "exit 9", "firm --certify,"},
-		{"", loose, settled, "exit 9", "firm --certify,check --certify,"},
-		{"", unwon, "exit 9", explained, "firm --certify,explain --certify,"},
+		{"", loose, settled, "exit 9", "firm --certify,check --certify,converge,"},
+		{"", unwon, "exit 9", explained, "firm --certify,explain --certify,converge,"},
 		// A program that is too old for the flag.
 		{"exit 3", firm, "exit 9", "exit 9", "firm --certify,certify,firm,"},
-		{"exit 3", loose, settled, "exit 9", "firm --certify,certify,firm,check,"},
-		{"exit 3", unwon, "exit 9", explained, "firm --certify,certify,firm,explain,"},
+		{"exit 3", loose, settled, "exit 9", "firm --certify,certify,firm,check,converge,"},
+		{"exit 3", unwon, "exit 9", explained, "firm --certify,certify,firm,explain,converge,"},
 		// One that is too old for firm.
-		{"exit 3", "exit 3", settled, "exit 9", "firm --certify,certify,firm,check,"},
-		{"exit 3", "exit 3", unsettled, explained, "firm --certify,certify,firm,check,explain,"},
+		{"exit 3", "exit 3", settled, "exit 9", "firm --certify,certify,firm,check,converge,"},
+		{"exit 3", "exit 3", unsettled, explained, "firm --certify,certify,firm,check,explain,converge,"},
 	}
 	for _, one := range cases {
 		log := filepath.Join(t.TempDir(), "log")
 		program := aProgram(t, "printf '%s,' \"$*\" >> '"+log+"'\ncase \"$2\" in --certify) "+one.flag+";; esac\n"+
-			"case $1 in certify) cat;; firm) "+one.firm+";; check) "+one.check+";; explain) "+one.explain+";; esac")
+			"case $1 in certify) cat;; firm) "+one.firm+";; check) "+one.check+";; explain) "+one.explain+";; converge) exit 3;; esac")
 		_, err := program.Ask("docs", []byte("{}"))
 		asked, _ := os.ReadFile(log)
 		if err != nil || string(asked) != one.asked {
@@ -181,10 +181,10 @@ func TestAProgramThatFailsInFirm(t *testing.T) {
 func TestAnOldProgram(t *testing.T) {
 	log := filepath.Join(t.TempDir(), "log")
 	program := aProgram(t, "echo $* >> '"+log+`'
-case $1 in certify) cat;; firm) exit 3;; *) echo settled; echo "folder docs: 1 names, 0 deleted, 2 devices";; esac`)
+case $1 in certify) cat;; firm | converge) exit 3;; *) echo settled; echo "folder docs: 1 names, 0 deleted, 2 devices";; esac`)
 	unasked := 0
 	pool := NewPool(program, 1, func(_ *document.Document, reply *Reply) {
-		if !reply.Firmness.Asked {
+		if !reply.Firmness.Asked && !reply.Convergence.Asked {
 			unasked++
 		}
 	})
@@ -195,7 +195,8 @@ case $1 in certify) cat;; firm) exit 3;; *) echo settled; echo "folder docs: 1 n
 	}
 	err := pool.Close()
 	asked, _ := os.ReadFile(log)
-	if err != nil || unasked != 3 || strings.Count(string(asked), "firm\n") != 1 || strings.Count(string(asked), "firm --certify\n") != 1 {
+	if err != nil || unasked != 3 || strings.Count(string(asked), "firm\n") != 1 || strings.Count(string(asked), "firm --certify\n") != 1 ||
+		strings.Count(string(asked), "converge\n") != 1 {
 		t.Errorf("%d weren't asked, by %q: %v", unasked, asked, err)
 	}
 }

@@ -1,6 +1,10 @@
 package ask
 
-import "testing"
+import (
+	"testing"
+
+	"syncthing-audit/hang"
+)
 
 // Whatever a program writes is an answer or is refused with a reason; an answer that isn't settled has a failure, and the
 // first one is that of its verdict.
@@ -12,6 +16,7 @@ func FuzzReplies(f *testing.F) {
 	f.Add("settled\n" + counts + "not firm: ViewNotBelow docs a on 2\n" + counts)
 	f.Add("not settled: NotWinner docs a\n" + counts + "NotWinner docs a\nnot firm: NotWinner docs a\n" + counts)
 	f.Fuzz(func(t *testing.T, text string) {
+		defer hang.Watch()()
 		reply, err := ReadReply("docs", text)
 		switch {
 		case err != nil && err.Error() == "":

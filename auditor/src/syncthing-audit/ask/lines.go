@@ -76,8 +76,17 @@ func readFailures(folder, report string) ([]finding.Failure, error) {
 
 // readFailure reads one of its lines.
 func readFailure(folder, line string) (finding.Failure, bool) {
+	made, is := readLine(folder, line)
+	if !is || finding.Place(made.Reason) < 0 && !finding.IsFirmReason(made.Reason) {
+		return finding.Failure{}, false
+	}
+	return made, true
+}
+
+// readLine reads a line of a reason, whichever that is.
+func readLine(folder, line string) (finding.Failure, bool) {
 	words := strings.Split(line, " ")
-	if len(words) != 3 && len(words) != 5 || finding.Place(words[0]) < 0 && !finding.IsFirmReason(words[0]) || words[1] != folder {
+	if len(words) != 3 && len(words) != 5 || words[1] != folder {
 		return finding.Failure{}, false
 	}
 	name, is := unprinted(words[2])

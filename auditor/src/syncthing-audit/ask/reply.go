@@ -8,22 +8,29 @@ import (
 )
 
 // answers are what the program wrote of one document for each of its commands; nothing for what it wasn't asked.
-type answers struct{ check, explanation, firm string }
+type answers struct{ check, explanation, firm, convergence string }
 
 // ReadReply reads what 'check' writes of a document of one folder. Behind it stands what 'explain' writes; of a settled
-// document it may be missing. Behind that stands what 'firm' writes; it is missing where 'firm' wasn't asked.
+// document it may be missing. Behind that stand what 'firm' writes and what 'converge' writes, each missing where it wasn't asked.
 func ReadReply(folder, text string) (*Reply, error) {
 	lines := strings.SplitAfter(text, "\n")
 	if len(lines) < 3 {
 		return nil, &Failed{statusRefused, fmt.Sprintf("syncaudit's report is %q", text)}
 	}
 	said := answers{check: lines[0] + lines[1]}
-	end := 2
-	for end < len(lines) && !isOfFirm(lines[end]) {
+	said.explanation, lines = until(lines[2:], func(line string) bool { return isOfFirm(line) || isOfConverge(line) })
+	said.firm, lines = until(lines, isOfConverge)
+	said.convergence = strings.Join(lines, "")
+	return said.reply(folder)
+}
+
+// until gives the lines before the first such one as a text, and the others.
+func until(lines []string, isSuch func(string) bool) (string, []string) {
+	end := 0
+	for end < len(lines) && !isSuch(lines[end]) {
 		end++
 	}
-	said.explanation, said.firm = strings.Join(lines[2:end], ""), strings.Join(lines[end:], "")
-	return said.reply(folder)
+	return strings.Join(lines[:end], ""), lines[end:]
 }
 
 // isOfFirm says whether what 'firm' writes begins with this line.
@@ -46,7 +53,27 @@ func (a *answers) reply(folder string) (*Reply, error) {
 			return nil, differ(a.firm, a.check)
 		}
 	}
+	if err := a.addConvergence(folder, reply); err != nil {
+		return nil, err
+	}
 	return reply, a.addFailures(folder, line, reply)
+}
+
+// addConvergence adds whether the document comes right by itself, if that was asked. Nobody asks it of what is firm.
+func (a *answers) addConvergence(folder string, reply *Reply) error {
+	if a.convergence == "" {
+		reply.Convergence.Asked = firstLine([]byte(a.firm)) == firm
+		return nil
+	}
+	said, err := readConverge(folder, a.convergence)
+	if err != nil {
+		return err
+	}
+	if reply.Names != said.Names || reply.Deleted != said.Deleted {
+		return differ(a.convergence, a.check+a.firm)
+	}
+	reply.Convergence = said.Convergence
+	return nil
 }
 
 // readFirst reads what 'firm' wrote or, where that wasn't asked, 'check'; and gives the line that 'check' writes.

@@ -4,11 +4,16 @@ package audit
 import (
 	"fmt"
 	"sync/atomic"
+	"time"
 
+	"golang.org/x/exp/slices"
 	"syncthing-audit/document"
 	"syncthing-audit/finding"
+	"syncthing-audit/forecast"
+	"syncthing-audit/forecast/read"
 	"syncthing-audit/join"
 	"syncthing-audit/limits"
+	"syncthing-audit/outlook"
 	"syncthing-audit/shell"
 )
 
@@ -17,20 +22,25 @@ const bytesOfDocument = 4 << 20
 
 // Options say how an audit goes.
 type Options struct {
-	LeaveOut  map[string]bool // the kinds of what may be left out
-	WithBytes bool            // documents with bytes in place of stand-ins
-	ByNames   bool            // whether the names were asked for by how they begin
-	Refused   func()          // called once there is something without which no answer is given
-	Joined    *atomic.Int64   // counts the names; not needed
+	Consent   Consent       // what may be left out
+	WithBytes bool          // documents with bytes in place of stand-ins
+	ByNames   bool          // whether the names were asked for by how they begin
+	Refused   func()        // called once there is something without which no answer is given
+	Joined    *atomic.Int64 // counts the names; not needed
 }
 
 // Collect goes through the folders of a plan. Each document is given to take, as long as nothing was refused.
 func Collect(plan *join.Plan, options Options, take func(*document.Document) error) (*finding.Answer, error) {
-	made := &collector{plan: plan, options: options, take: take, answer: &finding.Answer{IsByName: plan.IsByName, ByNames: options.ByNames, HasRest: true}}
+	made := &collector{plan: plan, options: options, take: take, foretells: outlook.NewForeteller(budget, time.Now().UnixNano()), answer: &finding.Answer{IsByName: plan.IsByName, ByNames: options.ByNames, HasRest: true}}
 	made.refusePlan()
+	for _, one := range plan.Observers {
+		if slices.IndexFunc(plan.Folders, func(folder *join.Folder) bool { return folder.ID == one.Folder }) >= 0 {
+			made.answer.Observers = append(made.answer.Observers, one)
+		}
+	}
 	for _, one := range plan.Devices {
 		made.answer.Devices = append(made.answer.Devices, finding.Device{ID: one.Head.Device, Number: one.Number, Name: one.Head.Name,
-			Runs: one.Head.Runs, Made: one.Head.Made, From: one.From, Index: one.Head.Index, Newer: one.Head.Newer, ToRepair: one.Head.ToRepair, Unasked: unaskedOf(plan, one), IsSilent: one.Head.Others == nil})
+			Runs: one.Head.Runs, Made: one.Head.Made, From: one.From, Index: one.Head.Index, Newer: one.Head.Newer, ToRepair: one.Head.ToRepair, IsUnsigned: one.IsUnsigned, Unasked: unaskedOf(plan, one), IsSilent: one.Head.Others == nil})
 	}
 	for _, one := range plan.Folders {
 		if err := made.folder(one); err != nil {
@@ -45,9 +55,9 @@ func Collect(plan *join.Plan, options Options, take func(*document.Document) err
 	return made.answer, made.checkSomething()
 }
 
-// Refused gives what of a plan isn't audited, before any of its names is read. These kinds are left out on request.
-func Refused(plan *join.Plan, leaveOut map[string]bool) *finding.Answer {
-	made := &collector{plan: plan, options: Options{LeaveOut: leaveOut}, answer: &finding.Answer{}}
+// Refused gives what of a plan isn't audited, before any of its names is read.
+func Refused(plan *join.Plan, consent Consent) *finding.Answer {
+	made := &collector{plan: plan, options: Options{Consent: consent}, answer: &finding.Answer{}}
 	made.refusePlan()
 	return made.answer
 }
@@ -59,6 +69,13 @@ func (c *collector) refusePlan() {
 	}
 	for _, one := range c.plan.LeftOut {
 		c.answer.LeftOut = append(c.answer.LeftOut, refusalOf(one))
+	}
+	for _, one := range c.plan.Earlier {
+		if c.options.Consent.Has(one.Kind) {
+			c.answer.Earlier = append(c.answer.Earlier, refusalOf(one))
+		} else {
+			c.refuse(refusalOf(one))
+		}
 	}
 }
 
@@ -85,11 +102,12 @@ type collector struct {
 	names     int64
 	audited   int64 // names that documents have, or that are told to have no winner
 	room      finding.Room
+	foretells *outlook.Foreteller
 }
 
 // refuse notes what isn't audited.
 func (c *collector) refuse(one finding.Refusal) {
-	if one.Kind != "" && c.options.LeaveOut[one.Kind] {
+	if one.Kind != "" && c.options.Consent.Has(one.Kind) {
 		c.answer.LeftOut = append(c.answer.LeftOut, one)
 		return
 	}
@@ -118,14 +136,14 @@ func (c *collector) checkSomething() error {
 		}
 	}
 	if moving > 0 {
-		return nothingIsStill(moving)
+		return nothingIsStill(moving, c.answer.Folders)
 	}
 	for _, one := range c.plan.Devices {
 		if !one.Head.Names.IsAll() && c.names == 0 {
 			return fmt.Errorf("refused: %s", one.Head.Names.None(""))
 		}
 	}
-	return c.nothing()
+	return Nothing(c.answer)
 }
 
 // folder goes through the names of a folder.
@@ -136,13 +154,25 @@ func (c *collector) folder(folder *join.Folder) error {
 	}
 	next := &names{collector: c, folder: folder, found: &finding.Folder{ID: folder.ID, Label: folder.Label, Own: folder.Own, Members: folder.Members,
 		Live: liveOf(folder), Rows: map[string]*join.Row{}}, builder: document.NewBuilder(folder, c.options.WithBytes, most)}
+	rows := read.NewRows(folder)
 	c.answer.Folders = append(c.answer.Folders, next.found)
 	var err error
-	if next.found.Bytes, err = folder.Rows(next.row); err != nil {
+	if next.found.Bytes, err = folder.Rows(func(row *join.Row) error {
+		rows.Take(row)
+		return next.row(row)
+	}); err != nil {
 		return err
 	}
 	if next.builder.Rows() > 0 || next.found.Documents == 0 {
-		return next.give(next.builder.Take())
+		if err := next.give(next.builder.Take()); err != nil {
+			return err
+		}
+	}
+	if len(c.answer.Refusals) == 0 {
+		next.found.Outlook = c.foretells.Of(rows)
 	}
 	return nil
 }
+
+// budget is that of what is foretold of all folders together: some 10 s of one core.
+var budget = forecast.Budget{States: forecast.Usual.States, Walks: forecast.Usual.Walks, Total: forecast.Usual.Total, Most: 1000000}

@@ -5,6 +5,7 @@ import (
 	"fmt"
 	"testing"
 
+	"syncthing-audit/hang"
 	"syncthing-audit/join"
 	"syncthing-audit/looks"
 	"syncthing-audit/part"
@@ -104,6 +105,7 @@ func FuzzLooks(f *testing.F) {
 	f.Add(first, changed(f, second, `"moved":["disk"]`, `"moved":["record","views"]`))
 	f.Add(changed(f, first, `"moved":["disk"]`, `"moved":["unscanned","receiving"]`), second)
 	f.Fuzz(func(t *testing.T, first, second []byte) {
+		defer hang.Watch()()
 		if err := auditedLooks(t, first, second, others[0], others[1]); err != nil && err.Error() == "" {
 			t.Error("refused without a reason")
 		}

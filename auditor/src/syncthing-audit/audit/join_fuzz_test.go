@@ -3,6 +3,8 @@ package audit
 import (
 	"bytes"
 	"testing"
+
+	"syncthing-audit/hang"
 )
 
 // Whatever two parts say, joining them ends with an answer or a reason, and nothing panics. What is audited of both in one
@@ -16,6 +18,7 @@ func FuzzJoins(f *testing.F) {
 	f.Add(other, bytes.ReplaceAll(one, []byte(`"max":9`), []byte(`"max":8`)))
 	f.Add(bytes.ReplaceAll(one, []byte(`"name":"b"`), []byte(`"name":"bb"`)), bytes.ReplaceAll(other, []byte(`"sequence":3`), []byte(`"sequence":4`)))
 	f.Fuzz(func(t *testing.T, one, other []byte) {
+		defer hang.Watch()()
 		answer, err := answerOf(t, one, other)
 		if err != nil {
 			if err.Error() == "" {

@@ -11,12 +11,9 @@ import (
 
 const overListed = 3
 
-// namesOf gives what goes through a folder of two devices, with this left out on request.
+// namesOf gives what goes through a folder of two devices, strictly, with these kinds left out.
 func namesOf(leaveOut ...string) *names {
-	options := Options{LeaveOut: map[string]bool{}}
-	for _, kind := range leaveOut {
-		options.LeaveOut[kind] = true
-	}
+	options := Options{Consent: Of(leaveOut...)}
 	members := []join.Member{{Device: &join.Device{Head: &part.Head{}}, About: &part.Folder{}}, {Device: &join.Device{Head: &part.Head{}}, About: &part.Folder{}}}
 	return &names{collector: &collector{options: options, answer: &finding.Answer{}}, found: &finding.Folder{Members: members, Rows: map[string]*join.Row{}}}
 }

@@ -1,17 +1,24 @@
 package audit
 
 import (
+	"errors"
 	"fmt"
+	"strings"
 
+	"golang.org/x/exp/slices"
 	"syncthing-audit/finding"
 	"syncthing-audit/join"
 	"syncthing-audit/part"
+	"syncthing-audit/shell"
 )
 
-// liveOf begins what is told of a folder whose devices were looked at twice; nothing of others.
+// liveOf begins what is told of a folder whose devices were looked at twice, or whose parts are of different moments; nothing of others.
 func liveOf(folder *join.Folder) *finding.Live {
-	if !folder.IsLive() {
+	if !folder.IsLive() && folder.IsOfOneMoment() {
 		return nil
+	}
+	if !folder.IsLive() {
+		return &finding.Live{OfParts: true}
 	}
 	made := &finding.Live{}
 	if spent, err := folder.Still(); err == nil {
@@ -20,12 +27,14 @@ func liveOf(folder *join.Folder) *finding.Live {
 	return made
 }
 
-// addMoving adds a name that changed at a device between its two looks.
+// addMoving adds a name that changed at a device between its two looks, or after its part was made.
 func (n *names) addMoving(row *join.Row) {
 	made := finding.Moving{Name: part.Bytes(row.Name)}
 	for member, one := range row.At {
 		if one != nil && len(one.Moved) > 0 {
 			made.At = append(made.At, movedOf(row, member))
+		} else if slices.Contains(row.Later, member) {
+			made.At = append(made.At, finding.Moved{Member: member, Why: []string{part.MovedLater}})
 		}
 	}
 	n.found.Live.AddMoving(made)
@@ -33,7 +42,7 @@ func (n *names) addMoving(row *join.Row) {
 
 // addUnheard counts a still name whose record a device hadn't heard of from another one.
 func (n *names) addUnheard(row *join.Row) {
-	if n.found.Live == nil {
+	if n.found.Live == nil || n.found.Live.OfParts {
 		return
 	}
 	for knower := range row.At {
@@ -45,7 +54,42 @@ func (n *names) addUnheard(row *join.Row) {
 	}
 }
 
-// nothingIsStill says that all names of running devices are in motion.
-func nothingIsStill(moving int64) error {
-	return fmt.Errorf("refused: there is nothing to audit: all of %d names are in motion: look again", moving)
+// nothingIsStill says that all names of running devices are in motion, and what of these no scan has seen: who has one made then is to know.
+func nothingIsStill(moving int64, folders []*finding.Folder) error {
+	told := fmt.Sprintf("refused: there is nothing to audit: all of %d names are in motion: look again", moving)
+	for _, folder := range folders {
+		for place, member := range folder.Members {
+			if waits := folder.SendsAfterScan(place); waits != nil {
+				told += fmt.Sprintf(". Before that, on %s: no scan of folder %s has seen %s there. A scan deletes on all devices what is missing, and sends what "+
+					"stands there to all, so first copy back what is to stay as it is recorded (%s)", member.Called(), shell.Folder(folder.ID, folder.Label),
+					kindsOf(waits), sourcesOf(waits, folder))
+			}
+		}
+	}
+	return errors.New(told)
+}
+
+// kindsOf says how many names wait how.
+func kindsOf(waits *finding.Waiting) string {
+	words := []string{}
+	for _, kind := range finding.KindsOfWaiting {
+		if count := waits.Names[kind]; count > 0 && kind != finding.WaitsNew {
+			words = append(words, fmt.Sprintf("%d %s", count, kind))
+		}
+	}
+	return strings.Join(words, ", ")
+}
+
+// sourcesOf says which other devices have what is recorded.
+func sourcesOf(waits *finding.Waiting, folder *finding.Folder) string {
+	words := []string{}
+	for place, member := range folder.Members {
+		if count := waits.From[place]; count > 0 {
+			words = append(words, fmt.Sprintf("%d on %s", count, member.Called()))
+		}
+	}
+	if waits.Nowhere > 0 {
+		words = append(words, fmt.Sprintf("%d on no audited device", waits.Nowhere))
+	}
+	return strings.Join(words, ", ")
 }

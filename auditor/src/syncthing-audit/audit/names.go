@@ -104,7 +104,7 @@ func (n *names) isBelow(row *join.Row) bool {
 	return true
 }
 
-// leaveOut leaves a name out for all these reasons, or refuses it for those that weren't asked to be left out.
+// leaveOut leaves a name out for all these reasons, or refuses it for those to which there is no consent.
 func (n *names) leaveOut(row *join.Row, reasons []finding.Reason) {
 	one := &finding.LeftOut{Name: row.Name, Names: 1, Bytes: row.Size(), Why: reasons}
 	for _, at := range row.At {
@@ -118,7 +118,7 @@ func (n *names) leaveOut(row *join.Row, reasons []finding.Reason) {
 	}
 	refused := false
 	for _, why := range reasons {
-		if why.Kind != part.Damaged && !n.options.LeaveOut[why.Kind] {
+		if why.Kind != part.Damaged && !n.options.Consent.Has(why.Kind) {
 			refused = true
 			n.refuse(finding.Refusal{Kind: why.Kind, Folder: n.found.ID, Label: n.found.Label, Device: n.labelOf(why.Member), Name: row.Name, Why: why.Why})
 		}

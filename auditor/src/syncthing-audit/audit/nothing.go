@@ -15,9 +15,9 @@ var ErrNothing = errors.New("refused: there is nothing to audit: no name of any 
 // mostLeft is how many of what was left out are told where nothing is left.
 const mostLeft = 5
 
-// nothing says that nothing is left to audit, and what was left out: who followed a refusal's word on --leave-out learns what to mend instead.
-func (c *collector) nothing() error {
-	all := c.answer.LeftOut
+// Nothing says that nothing is left to audit, and what was left out: that is what to mend.
+func Nothing(answer *finding.Answer) error {
+	all := answer.LeftOut
 	if len(all) == 0 {
 		return ErrNothing
 	}

@@ -35,11 +35,5 @@ func isRotten(one *part.Name, in *part.Folder) bool {
 		!one.IsAsRecorded(in.Window()) {
 		return false
 	}
-	for _, found := range disk.Contents {
-		isOneBlock := part.CountOfBlocks(own.Content.Size, own.Content.BlockSize) == 1 && part.CountOfBlocks(found.Size, found.BlockSize) == 1
-		if found.BlockSize == own.Content.BlockSize || isOneBlock {
-			return found.Size != own.Content.Size || found.Hash != own.Content.Hash
-		}
-	}
-	return false
+	return one.HasOtherBytes()
 }

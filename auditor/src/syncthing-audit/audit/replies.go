@@ -20,6 +20,7 @@ type folderKey struct{ id, own string }
 type replied struct {
 	names, deleted int64
 	firmness       finding.Firmness
+	convergence    finding.Convergence
 	failures       finding.Failures
 	rows           []*join.Row // of names that fail, as far as there is room
 }
@@ -32,12 +33,13 @@ func (r *Replies) Take(one *document.Document, reply *ask.Reply) {
 	key := folderKey{one.Folder, one.Own}
 	to := r.folders[key]
 	if to == nil {
-		to = &replied{firmness: finding.Firmness{Asked: true}}
+		to = &replied{firmness: finding.Firmness{Asked: true}, convergence: finding.Convergence{Asked: true}}
 		r.folders[key] = to
 	}
 	to.names += reply.Names
 	to.deleted += reply.Deleted
 	to.firmness.Take(reply.Firmness)
+	to.convergence.Take(reply.Convergence)
 	failed := map[string]bool{}
 	for _, failure := range reply.Failures {
 		to.failures.Add(failure)
@@ -61,6 +63,7 @@ func (r *Replies) AddTo(answer *finding.Answer) error {
 			one.Deleted += from.deleted
 			one.Failures = from.failures
 			one.Firmness = from.firmness
+			one.Convergence = from.convergence
 			for _, row := range from.rows {
 				one.Rows[row.Name] = row
 			}

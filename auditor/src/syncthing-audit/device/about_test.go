@@ -4,28 +4,43 @@ import (
 	"os"
 	"path/filepath"
 	"strings"
-	"syscall"
 	"testing"
 )
 
-// The configuration is read once, so all that is said of a home is of one configuration: here each reader of a pipe is given another one.
+// The configuration is read once, so all that is said of a home is of one configuration, also while another one takes its place again and again.
 func TestAHomeIsOfOneConfiguration(t *testing.T) {
 	dir := t.TempDir()
 	if err := os.WriteFile(filepath.Join(dir, "cert.pem"), []byte("-----BEGIN CERTIFICATE-----\nAAAA\n-----END CERTIFICATE-----\n"), 0o600); err != nil {
 		t.Fatal(err)
 	}
 	path := filepath.Join(dir, "config.xml")
-	if err := syscall.Mkfifo(path, 0o600); err != nil {
-		t.Fatal(err)
+	texts := []string{}
+	for _, one := range []string{"true", "false"} {
+		texts = append(texts, `<configuration version="36"><folder id="docs" path="/srv/`+one+`"><syncXattrs>`+one+`</syncXattrs></folder></configuration>`)
 	}
-	first := `<configuration version="36"><folder id="docs" path="/srv"><syncXattrs>true</syncXattrs></folder></configuration>`
+	put := func(turn int) {
+		os.WriteFile(path+".new", []byte(texts[turn%2]), 0o600)
+		os.Rename(path+".new", path)
+	}
+	put(0)
+	done, ended := make(chan struct{}), make(chan struct{})
 	go func() {
-		for _, text := range []string{first, strings.Replace(first, "true", "false", 1)} {
-			os.WriteFile(path, []byte(text), 0o600)
+		defer close(ended)
+		for turn := 1; ; turn++ {
+			select {
+			case <-done:
+				return
+			default:
+				put(turn)
+			}
 		}
 	}()
-	read, err := readAbout(dir)
-	if err != nil || len(read.Config.Folders) != 1 || !read.attributes["docs"] {
-		t.Errorf("%+v, %v", read, err)
+	for turn := 0; turn < 500; turn++ {
+		read, err := readAbout(dir)
+		if err != nil || len(read.Config.Folders) != 1 || read.attributes["docs"] != strings.Contains(read.Config.Folders[0].Path, "true") {
+			t.Fatalf("%+v, %v", read, err)
+		}
 	}
+	close(done)
+	<-ended
 }

@@ -8,7 +8,6 @@ import (
 	"time"
 
 	"syncthing-audit/part"
-	"syncthing-audit/shell"
 )
 
 // mostCoarse is how coarse the times of files may be.
@@ -64,7 +63,7 @@ func (h *Home) Doubts() []string {
 			"elsewhere: name that as --data DIR. If config.xml was only edited, all is well", h.database(), local(h.State.Written), local(h.State.Configured)))
 	}
 	if h.Newer != nil {
-		made = append(made, fmt.Sprintf("%s was written last %s, and %s after that, %s. %s", h.database(), local(h.Newer.Read), shell.Quoted(h.Newer.Path),
+		made = append(made, fmt.Sprintf("%s was written last %s, and %s after that, %s. %s", h.database(), local(h.Newer.Read), h.Newer.Called(),
 			local(h.Newer.Written), h.Newer.WhatToDo()))
 	}
 	if h.ToRepair {

@@ -9,7 +9,7 @@ import (
 	"github.com/syncthing/syncthing/lib/config"
 )
 
-// Only a folder that is paused may be away. What isn't there of another one is a fault.
+// A folder may be away, paused or not. To want it all the same is a fault.
 func TestFoldersThatAreAway(t *testing.T) {
 	room := t.TempDir()
 	for _, name := range []string{"there/.stfolder", "empty"} {
@@ -26,12 +26,13 @@ func TestFoldersThatAreAway(t *testing.T) {
 	} {
 		folder := config.FolderConfiguration{ID: "docs", Path: filepath.Join(room, one.name), MarkerName: ".stfolder"}
 		err := CheckPath(folder)
-		if away := Away(folder); away != "" || (err == nil) != (one.fault == "") || err != nil && !strings.Contains(err.Error(), one.fault) {
-			t.Errorf("%s, which isn't paused: %q, %v", one.name, away, err)
+		if (err == nil) != (one.fault == "") || err != nil && !strings.Contains(err.Error(), one.fault) {
+			t.Errorf("%s: %v", one.name, err)
 		}
-		folder.Paused = true
-		if away := Away(folder); !strings.HasSuffix(away, one.away) || (away == "") != (one.away == "") {
-			t.Errorf("%s, which is paused: %q", one.name, away)
+		for _, folder.Paused = range []bool{false, true} {
+			if away := Away(folder); !strings.HasSuffix(away, one.away) || (away == "") != (one.away == "") {
+				t.Errorf("%s: %q", one.name, away)
+			}
 		}
 	}
 }

@@ -22,6 +22,7 @@ import (
 	"syncthing-audit/leftover"
 	"syncthing-audit/limits"
 	"syncthing-audit/part"
+	"syncthing-audit/regular"
 )
 
 // databaseName is the folder of the index in a home of Syncthing 1.
@@ -36,6 +37,14 @@ const (
 	leastConfig = 23
 	// mostConfig is that of Syncthing 1.29. The reader of 1.19, whose own version is 36, takes of it all that is read here.
 	mostConfig = 37
+)
+
+// How many bytes the files of a home have at most.
+const (
+	mostBytesOfConfig      = 256 << 20
+	mostBytesOfCertificate = 1 << 20
+	mostBytesOfCurrent     = 1 << 10
+	mostBytesOfRecords     = 4 << 30 // of a log or a manifest of the index
 )
 
 // Home is a stopped device's home, its index opened from a copy.
@@ -133,7 +142,7 @@ func readAbout(dir string) (*Home, error) {
 		return nil, err
 	}
 	path := filepath.Join(dir, "config.xml")
-	text, err := os.ReadFile(path)
+	text, _, err := regular.Read(path, mostBytesOfConfig)
 	if err != nil {
 		return nil, err
 	}
@@ -226,7 +235,7 @@ func (h *Home) nameOf(id protocol.DeviceID) string {
 
 // readDeviceID gives the device id of a certificate.
 func readDeviceID(path string) (protocol.DeviceID, error) {
-	text, err := os.ReadFile(path)
+	text, _, err := regular.Read(path, mostBytesOfCertificate)
 	if err != nil {
 		return protocol.DeviceID{}, err
 	}

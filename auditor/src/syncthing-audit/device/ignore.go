@@ -1,15 +1,18 @@
 package device
 
 import (
+	"bytes"
 	"errors"
 	"fmt"
-	"io"
 	"os"
+	"path/filepath"
+	"time"
 
 	"github.com/syncthing/syncthing/lib/fs"
 	"github.com/syncthing/syncthing/lib/ignore"
 	"golang.org/x/text/unicode/norm"
 	"syncthing-audit/adapt"
+	"syncthing-audit/regular"
 )
 
 // nameOfPatterns is the file with a folder's patterns.
@@ -43,28 +46,45 @@ func patternsIn(disk fs.Filesystem) (*ignore.Matcher, error) {
 	return patterns, nil
 }
 
+// mostOfPatterns is how many bytes a file of patterns has at most.
+const mostOfPatterns = 16 << 20
+
 // files are those of a directory, and tell of one that was opened and isn't in Unicode's form NFC.
 type files struct {
 	fs.Filesystem
 	odd string
 }
 
-// Open opens a file to be read from its beginning.
+// Type says that these aren't plain files: else Syncthing's package opens by itself what is included from outside the folder.
+func (f *files) Type() fs.FilesystemType { return fs.FilesystemTypeFake }
+
+// patternFile is a file that was read.
+type patternFile struct {
+	fs.File
+	text  *bytes.Reader
+	about os.FileInfo
+}
+
+func (p *patternFile) Read(into []byte) (int, error) { return p.text.Read(into) }
+func (p *patternFile) Close() error                  { return nil }
+func (p *patternFile) Stat() (fs.FileInfo, error)    { return &when{about: p.about}, nil }
+
+// when has the time of a file.
+type when struct {
+	fs.FileInfo
+	about os.FileInfo
+}
+
+func (w *when) ModTime() time.Time { return w.about.ModTime() }
+
+// Open reads a file.
 func (f *files) Open(name string) (fs.File, error) {
-	file, err := f.Filesystem.Open(name)
+	text, about, err := regular.Read(filepath.Join(f.URI(), name), mostOfPatterns)
 	if err != nil {
-		return nil, err
-	}
-	text, err := io.ReadAll(file)
-	if err == nil {
-		_, err = file.Seek(0, io.SeekStart)
-	}
-	if err != nil {
-		file.Close()
 		return nil, err
 	}
 	if !norm.NFC.IsNormal(text) {
 		f.odd = name
 	}
-	return file, nil
+	return &patternFile{text: bytes.NewReader(text), about: about}, nil
 }

@@ -12,6 +12,7 @@ import (
 	"github.com/syncthing/syncthing/lib/protocol"
 	"syncthing-audit/adapt"
 	"syncthing-audit/choice"
+	"syncthing-audit/directory"
 	"syncthing-audit/limits"
 	"syncthing-audit/part"
 )
@@ -32,7 +33,7 @@ func (h *Home) Index(folder config.FolderConfiguration) (made *Index, err error)
 	if err := CheckPath(folder); err != nil {
 		return nil, err
 	}
-	directory, err := DirectoryOf(adapt.Filesystem(folder.Filesystem, nil).URI())
+	place, err := directory.Place(adapt.Filesystem(folder.Filesystem, nil).URI())
 	if err != nil {
 		return nil, fmt.Errorf("folder %s: %w", folder.ID, err)
 	}
@@ -44,7 +45,7 @@ func (h *Home) Index(folder config.FolderConfiguration) (made *Index, err error)
 	if err != nil {
 		return nil, err
 	}
-	return &Index{folder, h, directory, files, snapshot}, nil
+	return &Index{folder, h, place, files, snapshot}, nil
 }
 
 // CheckPath says what is wrong with a folder's directory: its disk isn't mounted, say.
@@ -55,13 +56,14 @@ func CheckPath(folder config.FolderConfiguration) error {
 	return nil
 }
 
-// Away says of a paused folder that its directory isn't there, since its disk was taken away, say; nothing where it is, or where the folder
-// isn't paused: Syncthing stops it then, and tells so.
+// Away says of a folder that its directory isn't there, since its disk was taken away, say; nothing where it is.
 func Away(folder config.FolderConfiguration) string {
-	if !folder.Paused {
-		return ""
-	}
 	return lacking(folder, folder.CheckPath())
+}
+
+// AwayWithoutPath says the same without the directory's path.
+func AwayWithoutPath(folder config.FolderConfiguration) string {
+	return lackingAt("", folder, folder.CheckPath())
 }
 
 // lacking says what isn't there of a folder's directory by what Syncthing says of it; nothing where that says something else.
@@ -70,7 +72,16 @@ func lacking(folder config.FolderConfiguration, err error) string {
 	if strings.HasPrefix(folder.Path, "~") {
 		path += " (" + folder.Path + " in config.xml, and ~ is that of the user who runs this)"
 	}
+	return lackingAt(path, folder, err)
+}
+
+// lackingAt says so of a directory at this path, which is told where there is one.
+func lackingAt(path string, folder config.FolderConfiguration, err error) string {
 	switch {
+	case errors.Is(err, config.ErrMarkerMissing) && path == "":
+		return "its directory has no " + folder.MarkerName + ", by which Syncthing knows the folder"
+	case errors.Is(err, config.ErrPathMissing) && path == "":
+		return "its directory isn't there"
 	case errors.Is(err, config.ErrMarkerMissing):
 		return fmt.Sprintf("%s has no %s, by which Syncthing knows the folder", path, folder.MarkerName)
 	case errors.Is(err, config.ErrPathMissing):
@@ -132,7 +143,7 @@ func (i *Index) Folder() part.Folder {
 		Directory: i.directory, IndexID: uint64(i.files.IndexID(protocol.LocalDeviceID)), Max: i.Max(),
 		IgnoresPermissions: i.Config.IgnorePerms, TimeWindow: timeWindowOf(i.Config), ScansAttributes: i.home.attributes[i.Config.ID], Sharing: i.home.Sharing(i.Config), Views: []part.View{},
 		Paused: i.Config.Paused, PausedDevices: i.home.pausedOf(i.Config), Writers: i.home.writersOf(i.Config.ID),
-		Indexed: i.names()}
+		Indexed: i.names(), Options: &part.Options{MaxConflicts: i.Config.MaxConflicts, IgnoresDeletions: i.Config.IgnoreDelete}}
 	for _, other := range i.Config.Devices {
 		if other.DeviceID == i.home.ID {
 			continue

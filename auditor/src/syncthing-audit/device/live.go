@@ -10,6 +10,7 @@ import (
 	"github.com/syncthing/syncthing/lib/db"
 	"github.com/syndtr/goleveldb/leveldb"
 	"github.com/syndtr/goleveldb/leveldb/util"
+	"syncthing-audit/directory"
 )
 
 // OpenLive reads a home whose Syncthing may run, and opens a copy of its index as it was at one moment after the call. No
@@ -19,7 +20,7 @@ func OpenLive(dir, data string) (*Home, error) {
 }
 
 // Identity gives a text that is the same for one home's index on one machine alone.
-func (h *Home) Identity() (string, error) { return DirectoryOf(h.database()) }
+func (h *Home) Identity() (string, error) { return directory.Place(h.database()) }
 
 // bytesOfFolder is how long the number of a folder is in keys; the key that has its id has room for more.
 const bytesOfFolder = 4

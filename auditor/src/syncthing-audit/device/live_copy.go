@@ -10,6 +10,7 @@ import (
 	"time"
 
 	"golang.org/x/exp/slices"
+	"syncthing-audit/regular"
 )
 
 // Copied says what a copy of an index took.
@@ -106,7 +107,7 @@ func (c *liveCopy) round() error {
 // readRecords reads a log or a manifest. One that ends within a record is read again. Either the record was being written,
 // or a length in it is damaged. In the latter case what stands behind it must not be lost in silence.
 func readRecords(path string) ([]byte, error) {
-	text, err := os.ReadFile(path)
+	text, _, err := regular.Read(path, mostBytesOfRecords)
 	if err != nil {
 		return nil, again(err)
 	}
@@ -139,6 +140,9 @@ func (c *liveCopy) logNumbers(first int64) ([]int64, error) {
 	return numbers, nil
 }
 
+// hasRead is told each log that was read: a test writes into it then.
+var hasRead = func(path string) {}
+
 // logs reads the logs that count, by their numbers. LevelDB begins a log once the one before has its last record, and takes
 // the older one away first. So where the same ones are there before and after, no record is missing between two of them.
 func (c *liveCopy) logs(first int64) (map[int64][]byte, error) {
@@ -152,6 +156,7 @@ func (c *liveCopy) logs(first int64) (map[int64][]byte, error) {
 		if made[number], err = readRecords(path); err != nil {
 			return nil, err
 		}
+		hasRead(path)
 		if place == len(numbers)-1 {
 			break
 		}

@@ -9,6 +9,8 @@ import (
 	"strconv"
 	"strings"
 	"syscall"
+
+	"syncthing-audit/regular"
 )
 
 // nameOfLock is the file of an index on which a running Syncthing has a lock alone.
@@ -20,7 +22,7 @@ var errHeld = errors.New("its index is locked")
 // lockShared takes a shared lock on the file that a running Syncthing holds alone. While it is held, no Syncthing can
 // start on that home; closing the file gives it back.
 func lockShared(home, database string) (*os.File, error) {
-	file, err := os.Open(filepath.Join(database, nameOfLock))
+	file, _, err := regular.Open(filepath.Join(database, nameOfLock))
 	if err != nil {
 		return nil, err
 	}
@@ -105,7 +107,7 @@ func copyFiles(from, to string) error {
 
 // copyFile copies a file's bytes to a new file.
 func copyFile(from, to string) error {
-	source, err := os.Open(from)
+	source, _, err := regular.Open(from)
 	if err != nil {
 		return err
 	}

@@ -6,9 +6,9 @@ import (
 	"fmt"
 	"io"
 	"math"
-	"os"
 
 	"github.com/syndtr/goleveldb/leveldb/journal"
+	"syncthing-audit/regular"
 )
 
 // manifest is what an index's manifest says.
@@ -24,7 +24,7 @@ func readManifest(database string) (*manifest, error) {
 	if err != nil {
 		return nil, err
 	}
-	file, err := os.Open(path)
+	file, _, err := regular.Open(path)
 	if err != nil {
 		return nil, err
 	}

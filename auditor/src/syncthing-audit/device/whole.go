@@ -10,6 +10,7 @@ import (
 
 	"github.com/syndtr/goleveldb/leveldb"
 	"github.com/syndtr/goleveldb/leveldb/opt"
+	"syncthing-audit/regular"
 )
 
 // checkWhole says why an index's files don't belong together, as those of a home that was copied while Syncthing ran
@@ -96,7 +97,7 @@ func openStrictly(database string) (*leveldb.DB, error) {
 
 // currentManifest gives the path of the manifest that counts.
 func currentManifest(database string) (string, error) {
-	text, err := os.ReadFile(filepath.Join(database, "CURRENT"))
+	text, _, err := regular.Read(filepath.Join(database, "CURRENT"), mostBytesOfCurrent)
 	if err != nil {
 		return "", err
 	}

@@ -70,7 +70,7 @@ func TestADirectoryThatIsSwappedForASymlink(t *testing.T) {
 	files := filesOf(t, room)
 	seen := 0
 	for end := time.Now().Add(2 * time.Second); time.Now().Before(end); {
-		walker := &Walker{Disk: files, Folder: "docs", Stamps: true, Take: func(one Found) error {
+		walker := &Walker{Disk: adapt.Directory(files), Folder: "docs", Stamps: true, Take: func(one Found) error {
 			if strings.HasSuffix(one.Name, "below/inside") && one.Node != nil {
 				seen++
 			}

@@ -38,8 +38,8 @@ func (c *cutter) take() {
 	c.filled = 0
 }
 
-// compare says which blocks differ; nothing if none does.
-func compare(recorded, found [][32]byte) *part.Differ {
+// Compare says which blocks differ; nothing if none does.
+func Compare(recorded, found [][32]byte) *part.Differ {
 	most := len(recorded)
 	if len(found) > most {
 		most = len(found)

@@ -2,7 +2,6 @@ package disk
 
 import (
 	"errors"
-	"syscall"
 
 	"syncthing-audit/part"
 )
@@ -10,7 +9,12 @@ import (
 // IsDamage says whether the disk itself, or the file system on it, fails to give what it has: a bad sector, say. That is more
 // than a want of permission, since the bytes may be lost.
 func IsDamage(err error) bool {
-	return errors.Is(err, syscall.EIO) || errors.Is(err, syscall.EUCLEAN) || errors.Is(err, syscall.EBADMSG)
+	for _, one := range damages {
+		if errors.Is(err, one) {
+			return true
+		}
+	}
+	return false
 }
 
 // outOf says why something isn't read: by what it is called, and the error.

@@ -7,20 +7,21 @@ import (
 	"io"
 	"os"
 	"path/filepath"
+	"strings"
 	"sync"
 	"sync/atomic"
 	"syscall"
 
-	"github.com/syncthing/syncthing/lib/fs"
-	"github.com/syncthing/syncthing/lib/protocol"
+	"syncthing-audit/bep"
+	"syncthing-audit/directory"
 	"syncthing-audit/part"
 )
 
 const (
 	// pieceBytes is how much of a file one worker hashes: a multiple of each block size.
-	pieceBytes = protocol.MaxBlockSize
+	pieceBytes = bep.MaxBlockSize
 	// readBytes is how much is read at once: it divides each block size.
-	readBytes = protocol.MinBlockSize
+	readBytes = bep.MinBlockSize
 )
 
 // ErrChanged says that a file isn't what it was when it was found.
@@ -28,7 +29,7 @@ var ErrChanged = errors.New("it changed while it was read")
 
 // File is a file to be hashed: how it was found, and how it is to be cut into blocks.
 type File struct {
-	Disk       fs.Filesystem // gives times as Syncthing sees them
+	Disk       directory.Directory // gives times as Syncthing sees them
 	Name       string
 	Stamp      string // as it was when it was found
 	Node       *part.Node
@@ -80,7 +81,7 @@ func (p *Pool) Skip() { p.skips.Store(true) }
 type Job struct {
 	file   File
 	pieces sync.WaitGroup
-	hashes [][][32]byte // for each block size the hashes of all blocks
+	hashes [][][][32]byte // for each block size those of each piece's blocks
 	data   []byte
 	mutex  sync.Mutex
 	err    error
@@ -88,24 +89,53 @@ type Job struct {
 
 // Begin has the workers hash a file.
 func (p *Pool) Begin(file File) *Job {
-	job := &Job{file: file, hashes: make([][][32]byte, len(file.BlockSizes))}
-	for place, size := range file.BlockSizes {
-		job.hashes[place] = make([][32]byte, part.CountOfBlocks(file.Length(), size))
-	}
+	job := &Job{file: file, hashes: make([][][][32]byte, len(file.BlockSizes))}
 	if file.Keep {
 		job.data = make([]byte, file.Node.Size)
 	}
-	for offset := int64(0); (offset == 0 || offset < file.Length()) && !job.hasFailed(); offset += pieceBytes {
-		offset := offset
+	for offset := int64(0); (offset == 0 || offset < file.Length()) && !job.hasFailed() && !p.skips.Load(); offset += pieceBytes {
+		piece := job.pieceAt(offset)
 		job.pieces.Add(1)
 		p.tasks <- func() {
 			defer job.pieces.Done()
-			if err := p.hash(job, offset); err != nil {
+			if err := p.hash(job, piece); err != nil {
 				job.fail(err)
 			}
 		}
 	}
 	return job
+}
+
+// piece is what one worker hashes of a file.
+type piece struct {
+	offset, length int64
+	hashes         [][][32]byte // for each block size those of its blocks
+}
+
+// pieceAt gives a piece room for its hashes once it is begun. So a file that is said to be very long takes room for what is read of it alone.
+func (j *Job) pieceAt(offset int64) piece {
+	made := piece{offset: offset, length: j.file.Length() - offset}
+	if made.length > pieceBytes {
+		made.length = pieceBytes
+	}
+	for place, size := range j.file.BlockSizes {
+		room := make([][32]byte, part.CountOfBlocks(made.length, size))
+		made.hashes = append(made.hashes, room)
+		j.hashes[place] = append(j.hashes[place], room)
+	}
+	return made
+}
+
+// hashesOf gives the hashes of all blocks of a size.
+func (j *Job) hashesOf(place int) [][32]byte {
+	if len(j.hashes[place]) == 1 {
+		return j.hashes[place][0]
+	}
+	made := [][32]byte{}
+	for _, one := range j.hashes[place] {
+		made = append(made, one...)
+	}
+	return made
 }
 
 func (j *Job) fail(err error) {
@@ -123,25 +153,21 @@ func (j *Job) hasFailed() bool {
 }
 
 // hash hashes one piece of a file.
-func (p *Pool) hash(job *Job, offset int64) error {
+func (p *Pool) hash(job *Job, one piece) error {
 	if p.skips.Load() {
 		return nil
-	}
-	length := job.file.Length() - offset
-	if length > pieceBytes {
-		length = pieceBytes
 	}
 	file, err := job.file.open()
 	if err != nil {
 		return err
 	}
 	defer file.Close()
-	letGo(file, offset, length)
+	letGo(file, one.offset, one.length)
 	cuts := make([]*cutter, len(job.file.BlockSizes))
 	for place, size := range job.file.BlockSizes {
-		cuts[place] = &cutter{sum: p.sums.new(length), size: size, hashes: job.hashes[place][offset/size:]}
+		cuts[place] = &cutter{sum: p.sums.new(one.length), size: size, hashes: one.hashes[place]}
 	}
-	if err := p.read(file, job, offset, length, cuts); err != nil {
+	if err := p.read(file, job, one.offset, one.length, cuts); err != nil {
 		return err
 	}
 	if err := job.file.checkOpened(file); err != nil {
@@ -154,15 +180,17 @@ func (p *Pool) hash(job *Job, offset int64) error {
 }
 
 // path gives where the file is.
-func (f *File) path() string { return filepath.Join(f.Disk.URI(), f.Name) }
+func (f *File) path() string { return pathOf(f.Disk, f.Name) }
+
+// pathOf gives the path of a name. A path that Windows takes by the letter has backslashes.
+func pathOf(in directory.Directory, name string) string {
+	return strings.TrimSuffix(in.URI(), string(filepath.Separator)) + string(filepath.Separator) + filepath.FromSlash(name)
+}
 
 // open opens the very file that was found. Where a directory above it was renamed, its path leads to another one, which may
 // have the same size and time.
 func (f *File) open() (*os.File, error) {
-	file, err := os.OpenFile(f.path(), os.O_RDONLY|syscall.O_NOFOLLOW|syscall.O_NONBLOCK, 0) // a pipe in its place would block
-	if errors.Is(err, syscall.EWOULDBLOCK) {                                                 // a file's lease, as Samba may have one, is given back meanwhile
-		file, err = os.OpenFile(f.path(), os.O_RDONLY|syscall.O_NOFOLLOW, 0)
-	}
+	file, err := openFile(f.path())
 	switch {
 	case errors.Is(err, os.ErrNotExist) || errors.Is(err, syscall.ENOTDIR) || errors.Is(err, syscall.ELOOP):
 		return nil, ErrChanged
@@ -234,17 +262,17 @@ func (j *Job) Wait() ([]part.Content, *part.Differ, []byte, error) {
 		j.file.Node.Unread = j.file.Node.Size - j.file.Length()
 		var differ *part.Differ
 		if j.file.Recorded != nil {
-			differ = j.file.compareBegin(j.hashes[0])
+			differ = CompareBegin(j.file.Recorded, j.hashesOf(0), part.CountOfBlocks(j.file.Node.Size, j.file.BlockSizes[0]))
 		}
 		return j.file.cutContents(), differ, nil, nil
 	}
 	contents := make([]part.Content, len(j.hashes))
-	for place, hashes := range j.hashes {
-		contents[place] = part.Content{Size: j.file.Node.Size, BlockSize: j.file.BlockSizes[place], Hash: HashOf(hashes)}
+	for place, size := range j.file.BlockSizes {
+		contents[place] = part.Content{Size: j.file.Node.Size, BlockSize: size, Hash: HashOf(j.hashesOf(place))}
 	}
 	var differ *part.Differ
 	if j.file.Recorded != nil {
-		differ = compare(j.file.Recorded, j.hashes[0])
+		differ = Compare(j.file.Recorded, j.hashesOf(0))
 	}
 	return contents, differ, j.data, nil
 }

@@ -13,6 +13,7 @@ import (
 	"github.com/syncthing/syncthing/lib/fs"
 	"github.com/syncthing/syncthing/lib/protocol"
 	"github.com/syncthing/syncthing/lib/scanner"
+	"syncthing-audit/adapt"
 	"syncthing-audit/part"
 )
 
@@ -62,7 +63,7 @@ func TestContents(t *testing.T) {
 		if err := os.WriteFile(path, data, 0o600); err != nil {
 			t.Fatal(err)
 		}
-		file := File{Disk: fs.NewFilesystem(fs.FilesystemTypeBasic, room), Name: "file", Stamp: Stamp(path), Node: nodeAt(t, path),
+		file := File{Disk: adapt.Directory(fs.NewFilesystem(fs.FilesystemTypeBasic, room)), Name: "file", Stamp: Stamp(path), Node: nodeAt(t, path),
 			BlockSizes: one.sizes, Keep: true}
 		found, _, kept, err := pool.Begin(file).Wait()
 		if err != nil || !bytes.Equal(kept, data) {
@@ -97,7 +98,7 @@ func TestFilesThatChange(t *testing.T) {
 	for _, one := range cases {
 		node := nodeAt(t, path)
 		one.change(node)
-		file := File{Disk: fs.NewFilesystem(fs.FilesystemTypeBasic, room), Name: "file", Stamp: Stamp(path), Node: node,
+		file := File{Disk: adapt.Directory(fs.NewFilesystem(fs.FilesystemTypeBasic, room)), Name: "file", Stamp: Stamp(path), Node: node,
 			BlockSizes: []int64{protocol.MinBlockSize}}
 		if _, _, _, err := pool.Begin(file).Wait(); !errors.Is(err, ErrChanged) {
 			t.Errorf("%s: %v", one.why, err)
@@ -119,14 +120,14 @@ func TestBytesBehindFourGiga(t *testing.T) {
 		t.Skip("no file is as long here: ", err)
 	}
 	node := nodeAt(t, path)
-	job := &Job{file: File{Disk: fs.NewFilesystem(fs.FilesystemTypeBasic, filepath.Dir(path)), Name: "file", Stamp: Stamp(path), Node: node,
-		BlockSizes: []int64{pieceBytes}, Longest: node.Size}, hashes: [][][32]byte{make([][32]byte, part.CountOfBlocks(node.Size, pieceBytes))}}
+	job := &Job{file: File{Disk: adapt.Directory(fs.NewFilesystem(fs.FilesystemTypeBasic, filepath.Dir(path))), Name: "file", Stamp: Stamp(path), Node: node,
+		BlockSizes: []int64{pieceBytes}, Longest: node.Size}, hashes: make([][][][32]byte, 1)}
 	pool := NewPool(1)
 	defer pool.Close()
-	if err := pool.hash(job, last); err != nil {
+	if err := pool.hash(job, job.pieceAt(last)); err != nil {
 		t.Fatal(err)
 	}
-	hashes := job.hashes[0]
+	hashes := job.hashesOf(0)
 	if node.Size != last+int64(len(text)) || hashes[len(hashes)-1] != sha256.Sum256([]byte(text)) || pool.Hashed() != int64(len(text)) {
 		t.Errorf("%d bytes, %x", node.Size, hashes[len(hashes)-1])
 	}
@@ -149,7 +150,7 @@ func TestBlocksThatDiffer(t *testing.T) {
 		{"ab", "abc", 1, [][2]int64{{2, 2}}}, {"abc", "a", 2, [][2]int64{{1, 2}}},
 	}
 	for _, one := range cases {
-		made := compare(hashes(one.recorded), hashes(one.found))
+		made := Compare(hashes(one.recorded), hashes(one.found))
 		if made == nil {
 			made = &part.Differ{}
 		}
@@ -166,7 +167,7 @@ func TestManyBlocksThatDiffer(t *testing.T) {
 	for place := 0; place < len(found); place += 2 {
 		found[place][0] = 1
 	}
-	made := compare(recorded, found)
+	made := Compare(recorded, found)
 	if made.Count != 150 || len(made.Ranges) != part.MostRanges || made.Unlisted() != 150-part.MostRanges {
 		t.Errorf("%d blocks, %d ranges, %d unlisted", made.Count, len(made.Ranges), made.Unlisted())
 	}

@@ -30,12 +30,13 @@ func (f *File) cutContents() []part.Content {
 	return made
 }
 
-// compareBegin compares the begin of a file that isn't hashed to its end: all blocks behind that differ, since the record has none there.
-func (f *File) compareBegin(found [][32]byte) *part.Differ {
-	made := compare(f.Recorded, found)
+// CompareBegin compares the begin of a file that isn't hashed to its end, and that has so many blocks: all behind the begin differ, since the record
+// has none there.
+func CompareBegin(recorded, found [][32]byte, blocks int64) *part.Differ {
+	made := Compare(recorded, found)
 	if made == nil {
-		made = &part.Differ{First: pairAt(f.Recorded, found, len(found))}
+		made = &part.Differ{First: pairAt(recorded, found, len(found))}
 	}
-	addRange(made, int64(len(found)), part.CountOfBlocks(f.Node.Size, f.BlockSizes[0])-1)
+	addRange(made, int64(len(found)), blocks-1)
 	return made
 }

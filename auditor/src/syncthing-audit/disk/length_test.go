@@ -5,9 +5,11 @@ import (
 	"path/filepath"
 	"reflect"
 	"testing"
+	"time"
 
 	"github.com/syncthing/syncthing/lib/fs"
 	"github.com/syncthing/syncthing/lib/protocol"
+	"syncthing-audit/adapt"
 	"syncthing-audit/part"
 )
 
@@ -36,7 +38,7 @@ func TestAFileFarLongerThanItsRecord(t *testing.T) {
 	for _, size := range []int64{15 << 40, 1 << 62, 1<<63 - 1} {
 		room, node := sparseFile(t, size)
 		zeros := scanned(t, make([]byte, block), int(block))
-		file := File{Disk: fs.NewFilesystem(fs.FilesystemTypeBasic, room), Name: "file", Stamp: Stamp(filepath.Join(room, "file")), Node: node,
+		file := File{Disk: adapt.Directory(fs.NewFilesystem(fs.FilesystemTypeBasic, room)), Name: "file", Stamp: Stamp(filepath.Join(room, "file")), Node: node,
 			BlockSizes: []int64{block}, Longest: block, Recorded: zeros}
 		before := pool.Hashed()
 		contents, differ, _, err := pool.Begin(file).Wait()
@@ -53,6 +55,24 @@ func TestAFileFarLongerThanItsRecord(t *testing.T) {
 		if len(contents) != 1 || contents[0].Size != size || contents[0].Hash == HashOf(zeros) {
 			t.Errorf("%d bytes: %+v", size, contents)
 		}
+	}
+}
+
+// A file that is as long as a record says, however long that is, takes room for the hashes of what is read of it alone.
+func TestAFileAsLongAsAnyNumber(t *testing.T) {
+	pool := NewPool(2)
+	defer pool.Close()
+	const size = int64(1 << 62)
+	room, node := sparseFile(t, size)
+	file := File{Disk: adapt.Directory(fs.NewFilesystem(fs.FilesystemTypeBasic, room)), Name: "file", Stamp: Stamp(filepath.Join(room, "file")), Node: node,
+		BlockSizes: []int64{protocol.MinBlockSize, protocol.MaxBlockSize}, Longest: size}
+	time.AfterFunc(100*time.Millisecond, pool.Skip)
+	job := pool.Begin(file)
+	if _, _, _, err := job.Wait(); err != nil {
+		t.Error(err)
+	}
+	if pieces := len(job.hashes[0]); pieces < 1 || int64(pieces) > pool.Hashed()/pieceBytes+100 {
+		t.Errorf("there is room for %d pieces, and %d bytes are hashed", pieces, pool.Hashed())
 	}
 }
 

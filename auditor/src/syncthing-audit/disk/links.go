@@ -2,7 +2,6 @@ package disk
 
 import (
 	"os"
-	"syscall"
 
 	"syncthing-audit/part"
 )
@@ -21,15 +20,14 @@ type linked struct {
 
 // add adds the name of a file.
 func (l links) add(about os.FileInfo) {
-	said, is := about.Sys().(*syscall.Stat_t)
-	if !is || said.Nlink < 2 || !about.Mode().IsRegular() {
+	file, count := linksOf(about)
+	if count < 2 || !about.Mode().IsRegular() {
 		return
 	}
-	file := inode{uint64(said.Dev), said.Ino}
 	if l[file] == nil {
 		l[file] = &linked{}
 	}
-	l[file].links, l[file].bytes = int64(said.Nlink), about.Size()
+	l[file].links, l[file].bytes = count, about.Size()
 	l[file].met++
 }
 

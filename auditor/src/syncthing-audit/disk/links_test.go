@@ -6,6 +6,7 @@ import (
 	"testing"
 
 	"github.com/syncthing/syncthing/lib/fs"
+	"syncthing-audit/adapt"
 	"syncthing-audit/part"
 )
 
@@ -23,7 +24,7 @@ func TestLinksThatLeadOutOfAFolder(t *testing.T) {
 		}
 	}
 	counted := func() part.Count {
-		walker := &Walker{Disk: fs.NewFilesystem(fs.FilesystemTypeBasic, folder), Take: func(Found) error { return nil }}
+		walker := &Walker{Disk: adapt.Directory(fs.NewFilesystem(fs.FilesystemTypeBasic, folder)), Take: func(Found) error { return nil }}
 		if err := walker.Walk(); err != nil {
 			t.Fatal(err)
 		}

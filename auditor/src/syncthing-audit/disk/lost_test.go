@@ -11,6 +11,7 @@ import (
 
 	"github.com/syncthing/syncthing/lib/fs"
 	"github.com/syncthing/syncthing/lib/protocol"
+	"syncthing-audit/adapt"
 	"syncthing-audit/part"
 )
 
@@ -84,7 +85,7 @@ func TestADiskThatFailsAfterTheBytesAreRead(t *testing.T) {
 	}
 	pool := NewPool(1)
 	defer pool.Close()
-	_, _, _, err := pool.Begin(File{Disk: gone{fs.NewFilesystem(fs.FilesystemTypeBasic, room)}, Name: "file", Stamp: Stamp(path), Node: nodeAt(t, path),
+	_, _, _, err := pool.Begin(File{Disk: adapt.Directory(gone{fs.NewFilesystem(fs.FilesystemTypeBasic, room)}), Name: "file", Stamp: Stamp(path), Node: nodeAt(t, path),
 		BlockSizes: []int64{protocol.MinBlockSize}}).Wait()
 	if !IsDamage(err) {
 		t.Error(err)
@@ -97,7 +98,7 @@ func TestADirectoryThatTheDiskFailsToGive(t *testing.T) {
 		t.Fatal(err)
 	}
 	var found []string
-	walker := &Walker{Disk: failing{fs.NewFilesystem(fs.FilesystemTypeBasic, room), "a"}, Take: func(one Found) error {
+	walker := &Walker{Disk: adapt.Directory(failing{fs.NewFilesystem(fs.FilesystemTypeBasic, room), "a"}), Take: func(one Found) error {
 		told := one.Name
 		if one.Out != nil {
 			told += " " + one.Out.Kind + " " + one.Out.Why

@@ -11,6 +11,7 @@ import (
 
 	"github.com/syncthing/syncthing/lib/fs"
 	"github.com/syncthing/syncthing/lib/protocol"
+	"syncthing-audit/adapt"
 )
 
 // bytesFromDisk gives how many bytes this process has had read from a disk up to now.
@@ -59,7 +60,7 @@ func TestBytesComeFromTheDisk(t *testing.T) {
 	pool := NewPool(2)
 	defer pool.Close()
 	before = bytesFromDisk(t)
-	asked := File{Disk: fs.NewFilesystem(fs.FilesystemTypeBasic, room), Name: "file", Stamp: Stamp(path), Node: nodeAt(t, path),
+	asked := File{Disk: adapt.Directory(fs.NewFilesystem(fs.FilesystemTypeBasic, room)), Name: "file", Stamp: Stamp(path), Node: nodeAt(t, path),
 		BlockSizes: []int64{protocol.MinBlockSize}}
 	if _, _, _, err := pool.Begin(asked).Wait(); err != nil {
 		t.Fatal(err)

@@ -11,6 +11,7 @@ import (
 
 	"github.com/syncthing/syncthing/lib/fs"
 	"github.com/syncthing/syncthing/lib/protocol"
+	"syncthing-audit/adapt"
 )
 
 // twoRooms makes a folder with a directory, and a copy of it with other bytes at the end of its file. Sizes and times are the
@@ -39,7 +40,7 @@ func twoRooms(t *testing.T, size int64) (room string, file File) {
 	if err != nil {
 		t.Fatal(err)
 	}
-	return room, File{Disk: fs.NewFilesystem(fs.FilesystemTypeBasic, room), Name: "above/file", Stamp: Stamp(path), Node: node,
+	return room, File{Disk: adapt.Directory(fs.NewFilesystem(fs.FilesystemTypeBasic, room)), Name: "above/file", Stamp: Stamp(path), Node: node,
 		BlockSizes: []int64{protocol.MaxBlockSize}}
 }
 

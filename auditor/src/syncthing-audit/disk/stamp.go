@@ -3,7 +3,7 @@ package disk
 import (
 	"fmt"
 	"os"
-	"syscall"
+	"time"
 )
 
 // Stamp gives a text that is another one for each file that comes to a path, and after each write to it, also if the file's
@@ -17,14 +17,16 @@ func Stamp(path string) string {
 	return stampOf(about)
 }
 
+func stampOfTime(at time.Time) string { return fmt.Sprintf("%d.%09d", at.Unix(), at.Nanosecond()) }
+
 // stampOf gives the stamp of what was found, by its path or by a descriptor.
 func stampOf(about os.FileInfo) string {
-	said, is := about.Sys().(*syscall.Stat_t)
+	file, changed, is := fileOf(about)
 	if !is {
 		return ""
 	}
 	if about.IsDir() {
-		return fmt.Sprintf("%d %d", said.Dev, said.Ino)
+		return fmt.Sprintf("%d %d", file.device, file.number)
 	}
-	return fmt.Sprintf("%d %d %d.%09d %d.%09d %d", said.Dev, said.Ino, said.Ctim.Sec, said.Ctim.Nsec, said.Mtim.Sec, said.Mtim.Nsec, said.Size)
+	return fmt.Sprintf("%d %d %s %s %d", file.device, file.number, stampOfTime(changed), stampOfTime(about.ModTime()), about.Size())
 }

@@ -6,6 +6,7 @@ import (
 	"testing"
 
 	"github.com/syncthing/syncthing/lib/fs"
+	"syncthing-audit/adapt"
 	"syncthing-audit/choice"
 	"syncthing-audit/part"
 )
@@ -27,7 +28,7 @@ func TestTemporaryNamesAreCounted(t *testing.T) {
 		temporary part.Count
 	}{"": {5, part.Count{Names: 3, Bytes: 10}}, "b/": {1, part.Count{Names: 2, Bytes: 5}}, "a": {1, part.Count{}}} {
 		taken := 0
-		walker := &Walker{Disk: fs.NewFilesystem(fs.FilesystemTypeBasic, room), Names: choice.Names{Prefix: prefix}, Take: func(one Found) error {
+		walker := &Walker{Disk: adapt.Directory(fs.NewFilesystem(fs.FilesystemTypeBasic, room)), Names: choice.Names{Prefix: prefix}, Take: func(one Found) error {
 			if fs.IsTemporary(one.Name) {
 				t.Errorf("%s is taken", one.Name)
 			}

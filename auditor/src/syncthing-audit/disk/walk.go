@@ -3,14 +3,12 @@ package disk
 
 import (
 	"fmt"
-	"os"
 	"path"
-	"path/filepath"
 	"sort"
 
-	"github.com/syncthing/syncthing/lib/fs"
-	"github.com/syncthing/syncthing/lib/protocol"
+	"syncthing-audit/bep"
 	"syncthing-audit/choice"
+	"syncthing-audit/directory"
 	"syncthing-audit/limits"
 	"syncthing-audit/part"
 )
@@ -25,10 +23,10 @@ type Found struct {
 
 // Walker reads the nodes of a folder, without the bytes of files.
 type Walker struct {
-	Disk   fs.Filesystem // gives times as Syncthing sees them
-	Folder string        // its id
-	Names  choice.Names  // those that are read
-	Stamps bool          // stand in the nodes, too
+	Disk   directory.Directory // gives times as Syncthing sees them
+	Folder string              // its id
+	Names  choice.Names        // those that are read
+	Stamps bool                // stand in the nodes, too
 	Take   func(Found) error
 
 	links     links
@@ -87,7 +85,7 @@ func insert(names []string, name string) []string {
 // visit reads what stands under a name, and says whether names below it are to be read. What Syncthing keeps for itself
 // is passed over, as its scanner does. So are its temporary files. A user's file may have such a name, too, so they are counted.
 func (w *Walker) visit(name string) (bool, error) {
-	if fs.IsInternal(name) {
+	if bep.IsInternal(name) {
 		return false, nil
 	}
 	info, err := w.Disk.Lstat(name)
@@ -96,7 +94,7 @@ func (w *Walker) visit(name string) (bool, error) {
 	}
 	switch {
 	case !w.Names.Has(w.Folder, name):
-	case fs.IsTemporary(name):
+	case bep.IsTemporary(name):
 		w.Temporary.Add(1, bytesOf(info))
 	default:
 		if err := w.Take(w.found(name, info)); err != nil {
@@ -107,7 +105,7 @@ func (w *Walker) visit(name string) (bool, error) {
 }
 
 // bytesOf gives the bytes of a file; a directory has none.
-func bytesOf(info fs.FileInfo) int64 {
+func bytesOf(info directory.Info) int64 {
 	if !info.IsRegular() {
 		return 0
 	}
@@ -115,7 +113,7 @@ func bytesOf(info fs.FileInfo) int64 {
 }
 
 // found reads a node, and says why a document has none such.
-func (w *Walker) found(name string, info fs.FileInfo) Found {
+func (w *Walker) found(name string, info directory.Info) Found {
 	made := Found{Name: name}
 	out := func(kind, why string) Found {
 		made.Out = &part.LeftOut{Kind: kind, Why: why, Bytes: info.Size()}
@@ -125,8 +123,10 @@ func (w *Walker) found(name string, info fs.FileInfo) Found {
 		return out(part.OddName, err.Error())
 	}
 	modified := info.ModTime()
-	node := &part.Node{ModifiedS: modified.Unix(), ModifiedNs: modified.Nanosecond(), Permissions: uint32(info.Mode() & fs.ModePerm)}
+	node := &part.Node{ModifiedS: modified.Unix(), ModifiedNs: modified.Nanosecond(), Permissions: info.Permissions()}
 	switch {
+	case info.IsSymlink() && !directory.HasSymlinks:
+		return out(part.Special, "it is a symlink or a junction, which Syncthing passes over on this system")
 	case info.IsSymlink():
 		target, err := w.Disk.ReadSymlink(name)
 		if err != nil {
@@ -135,13 +135,13 @@ func (w *Walker) found(name string, info fs.FileInfo) Found {
 		if err := limits.CheckTarget(target); err != nil {
 			return out(part.OddTarget, err.Error())
 		}
-		node.Type, node.Target = int(protocol.FileInfoTypeSymlink), target
+		node.Type, node.Target = bep.Symlink, target
 	case info.IsDir():
-		node.Type = int(protocol.FileInfoTypeDirectory)
+		node.Type = bep.Directory
 	case info.IsRegular() && isTimeCut(w.PathOf(name)):
 		return out(part.Unreadable, "a 32-bit program can't read its time, which isn't between December 1901 and January 2038")
 	case info.IsRegular():
-		node.Type, node.Size = int(protocol.FileInfoTypeFile), info.Size()
+		node.Type, node.Size = bep.File, info.Size()
 	default:
 		return out(part.Special, "it is no file, directory or symlink")
 	}
@@ -155,20 +155,9 @@ func (w *Walker) found(name string, info fs.FileInfo) Found {
 	return made
 }
 
-// about gives what stands under a name. No directory that was swapped for a symlink leads to that of something else.
-func (w *Walker) about(name string) (os.FileInfo, error) {
-	beneath, is := w.Disk.(interface {
-		Info(name string) (os.FileInfo, error)
-	})
-	if !is {
-		return os.Lstat(w.PathOf(name))
-	}
-	return beneath.Info(name)
-}
-
 // StampOf gives the stamp of what stands under a name.
 func (w *Walker) StampOf(name string) string {
-	about, err := w.about(name)
+	about, err := w.Disk.About(name)
 	if err != nil {
 		return ""
 	}
@@ -177,7 +166,7 @@ func (w *Walker) StampOf(name string) string {
 
 // stamp gives the stamp of a name, and counts the links that its file has.
 func (w *Walker) stamp(name string) string {
-	about, err := w.about(name)
+	about, err := w.Disk.About(name)
 	if err != nil {
 		return ""
 	}
@@ -192,4 +181,4 @@ func (w *Walker) stamp(name string) string {
 func (w *Walker) Linked() part.Count { return w.links.elsewhere() }
 
 // PathOf gives the path of a name.
-func (w *Walker) PathOf(name string) string { return filepath.Join(w.Disk.URI(), name) }
+func (w *Walker) PathOf(name string) string { return pathOf(w.Disk, name) }

@@ -8,6 +8,7 @@ import (
 	"testing"
 
 	"github.com/syncthing/syncthing/lib/fs"
+	"syncthing-audit/adapt"
 	"syncthing-audit/choice"
 )
 
@@ -30,7 +31,7 @@ func TestOrderOfNames(t *testing.T) {
 	sort.Strings(names)
 	for _, prefix := range []string{"", "a/", "a/b", "b"} {
 		var found, expected []string
-		walker := &Walker{Disk: fs.NewFilesystem(fs.FilesystemTypeBasic, room), Names: choice.Names{Prefix: prefix}, Take: func(one Found) error {
+		walker := &Walker{Disk: adapt.Directory(fs.NewFilesystem(fs.FilesystemTypeBasic, room)), Names: choice.Names{Prefix: prefix}, Take: func(one Found) error {
 			found = append(found, one.Name)
 			return nil
 		}}
@@ -56,7 +57,7 @@ func checkSlices(t *testing.T, room string, names []string) {
 	var all []string
 	for slice := 1; slice <= slices; slice++ {
 		asked := choice.Names{Slice: slice, Slices: slices}
-		walker := &Walker{Disk: fs.NewFilesystem(fs.FilesystemTypeBasic, room), Folder: "docs", Names: asked, Take: func(one Found) error {
+		walker := &Walker{Disk: adapt.Directory(fs.NewFilesystem(fs.FilesystemTypeBasic, room)), Folder: "docs", Names: asked, Take: func(one Found) error {
 			if !asked.Has("docs", one.Name) || one.Node == nil {
 				t.Errorf("slice %d has %q: %+v", slice, one.Name, one.Node)
 			}
@@ -81,7 +82,7 @@ func TestADirectoryThatCannotBeReadIsInEachSlice(t *testing.T) {
 	}
 	for slice := 1; slice <= 3; slice++ {
 		var found []string
-		walker := &Walker{Disk: unlisted{fs.NewFilesystem(fs.FilesystemTypeBasic, room)}, Folder: "docs", Names: choice.Names{Slice: slice, Slices: 3},
+		walker := &Walker{Disk: adapt.Directory(unlisted{fs.NewFilesystem(fs.FilesystemTypeBasic, room)}), Folder: "docs", Names: choice.Names{Slice: slice, Slices: 3},
 			Take: func(one Found) error {
 				if one.Out != nil && one.Out.Below {
 					found = append(found, one.Name)

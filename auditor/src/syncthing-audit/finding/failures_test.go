@@ -65,6 +65,8 @@ func TestWhatCannotBeKept(t *testing.T) {
 		"failures":    func(f *Folder) { f.Failures.Add(Failure{Reason: "StoreDiffers"}) },
 		"no winner":   func(f *Folder) { f.Unwon.Add(Unwon{}) },
 		"permissions": func(f *Folder) { f.Permissions.Add(Permissions{}) },
+		"loose":       func(f *Folder) { f.Loose.Add(Loose{}) },
+		"damaged":     func(f *Folder) { f.Damaged.Add(Damaged{}) },
 	} {
 		folder := &Folder{}
 		for next := 0; next <= spill.MostInMemory; next++ {

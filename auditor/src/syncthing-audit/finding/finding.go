@@ -7,21 +7,24 @@ import (
 	"golang.org/x/exp/slices"
 	"syncthing-audit/choice"
 	"syncthing-audit/join"
+	"syncthing-audit/outlook"
 	"syncthing-audit/part"
 	"syncthing-audit/spill"
 )
 
 // Answer is what was found in all folders.
 type Answer struct {
-	Devices  []Device
-	Folders  []*Folder
-	Refusals []Refusal        // what isn't audited and wasn't asked to be left out: with any of these there is no verdict; the first MostListed
-	Unlisted map[string]int64 // how many more refusals there are of each kind than are listed
-	LeftOut  []Refusal        // devices and folders that were left out, on request or since there was nothing to compare
-	IsByName bool             // whether the folders were asked for by their ids
-	ByNames  bool             // whether the names were asked for by how they begin
-	HasRest  bool             // whether the devices' other folders are told: an export of 0.8.0 or before doesn't
-	IsSum    bool             `json:"-"` // whether 'sum' joined it, which has no parts to tell details of what documents tell
+	Devices   []Device
+	Folders   []*Folder
+	Refusals  []Refusal        // what isn't audited, of a strict audit: with any of these there is no verdict; the first MostListed
+	Unlisted  map[string]int64 // how many more refusals there are of each kind than are listed
+	LeftOut   []Refusal        // devices and folders that were left out
+	Earlier   []Refusal        `json:",omitempty"` // devices whose parts are of an earlier moment than others: names that changed since are in motion
+	Observers []join.Observer  `json:",omitempty"` // devices that share a folder of these, keep no files of it, and aren't asked
+	IsByName  bool             // whether the folders were asked for by their ids
+	ByNames   bool             // whether the names were asked for by how they begin
+	HasRest   bool             // whether the devices' other folders are told: an export of 0.8.0 or before doesn't
+	IsSum     bool             `json:"-"` // whether 'sum' joined it, which has no parts to tell details of what documents tell
 }
 
 // Device is a device that was audited.
@@ -35,7 +38,8 @@ type Device struct {
 	Index  *part.Index
 	Newer  *part.Newer
 
-	ToRepair bool // whether Syncthing is to repair its index at its next start
+	ToRepair   bool // whether Syncthing is to repair its index at its next start
+	IsUnsigned bool // whether it was read from a part whose signature nobody checked
 
 	Unasked  []Unasked // folders of it that weren't asked for
 	IsSilent bool      // whether its part doesn't say which folders it hasn't
@@ -62,12 +66,14 @@ type Folder struct {
 	Permissions spill.List[Permissions] `json:"-"` // rising
 	Damaged     spill.List[Damaged]     `json:"-"` // rising: what a disk itself fails to give; each is a failure, too
 	Firmness    Firmness                `json:"-"` // what documents tell, where none tells a failure
+	Convergence Convergence             `json:"-"` // what documents tell
 	Loose       spill.List[Loose]       `json:"-"` // rising: what keeps a settled folder from being firm
 	Conflicts   []Conflict              // copies that a device still has, whether they are in step or not: the first MostListed
-	LeftOut     []*LeftOut              // names that were left out on request: the first MostListed
+	LeftOut     []*LeftOut              // names that were left out: the first MostListed
 	Unlisted    Unlisted
 	Outside     Count                // names that each device which has them ignores: Syncthing doesn't take them for the folder's
 	Live        *Live                // of devices that were looked at while they ran
+	Outlook     *outlook.Outlook     `json:",omitempty"` // what happens if nobody does anything; nothing where an older program made the export
 	Rows        map[string]*join.Row // of names that something is told of, as far as a room allowed
 }
 
@@ -197,12 +203,8 @@ func (a *Answer) lacksSome(folder *Folder) bool {
 	if len(folder.LeftOut) > 0 || (len(folder.Members) < 2 && folder.Own == "") || folder.Live.isMoving() {
 		return true
 	}
-	for _, one := range a.LeftOut {
-		if one.Folder == folder.ID {
-			return true
-		}
-	}
-	return false
+	isOf := func(one Refusal) bool { return one.Folder == folder.ID }
+	return slices.IndexFunc(a.LeftOut, isOf) >= 0 || slices.IndexFunc(a.Earlier, isOf) >= 0
 }
 
 // Asked says which names were read of the folder; parts of a folder that were made with others aren't joined.
@@ -223,7 +225,7 @@ func (a *Answer) IsPartial() bool {
 			return true
 		}
 	}
-	return len(a.LeftOut) > 0 || a.lacksFolders()
+	return len(a.LeftOut)+len(a.Earlier) > 0 || a.lacksFolders()
 }
 
 // lacksFolders says whether the devices have folders that weren't audited, or may have some, and nobody chose the others by

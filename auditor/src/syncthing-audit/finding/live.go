@@ -2,8 +2,9 @@ package finding
 
 import "syncthing-audit/part"
 
-// Live is what two looks at running devices say of a folder beside what is still.
+// Live is what two looks at running devices say of a folder beside what is still. Of parts of different moments it says which names changed between.
 type Live struct {
+	OfParts bool    `json:",omitempty"` // whether the devices were stopped, and no look was made
 	Seconds float64 // between the last first look and the first second one
 	Timed   bool    // whether the seconds are known: devices' clocks may differ by more
 	Moving  int64   // names that changed between the looks at a device, and aren't audited

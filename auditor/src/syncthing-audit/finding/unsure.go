@@ -7,24 +7,31 @@ import "fmt"
 type Unsure struct {
 	Member int
 	Kind   string
-	Why    string // in words, of Busy
-	Names  int64  // of the others: at how many names
+	Why    string   // in words, of Busy
+	Names  int64    // of the others: at how many names
+	Unread int64    // of OverWire: how many files' bytes weren't asked for
+	Waits  *Waiting // of what waits for a scan: how
 }
 
 // What makes a folder unsure.
 const (
-	Busy     = "busy"      // what a scan has found may wait in Syncthing's memory
-	ToIgnore = "to-ignore" // .stignore has come to ignore directories that the index has
-	Linked   = "linked"    // files have links elsewhere: another folder may change their times and modes
+	Waits    = "not-scanned"   // a scan sends something else than what is recorded
+	Busy     = "busy"          // what a scan has found may wait in Syncthing's memory
+	ToIgnore = "to-ignore"     // .stignore has come to ignore directories that the index has
+	Linked   = "linked"        // files have links elsewhere: another folder may change their times and modes
+	OverWire = "over-the-wire" // the device was asked over the wire, where not all is seen
 )
 
 // KindsOfUnsure are all of these, in the order in which they are told.
-var KindsOfUnsure = []string{Busy, ToIgnore, Linked}
+var KindsOfUnsure = []string{Waits, Busy, ToIgnore, Linked, OverWire}
 
 // Words says in words what it is.
 func (u *Unsure) Words() string {
 	if u.Kind == Busy {
 		return u.Kind + ": " + u.Why
+	}
+	if u.Kind == OverWire {
+		return fmt.Sprintf("%s: %d directories and symlinks not seen, %d files not read", u.Kind, u.Names, u.Unread)
 	}
 	return fmt.Sprintf("%s: %d names", u.Kind, u.Names)
 }
@@ -44,6 +51,9 @@ func (f *Folder) Unsure() []Unsure {
 		if one.Device == nil || one.About == nil {
 			continue
 		}
+		if waits := f.SendsAfterScan(member); waits != nil && waits.Losing() > 0 {
+			made = append(made, Unsure{Member: member, Kind: Waits, Names: waits.Losing(), Waits: waits})
+		}
 		if why := one.Head.WhyBusy(one.About); why != "" {
 			made = append(made, Unsure{Member: member, Kind: Busy, Why: why})
 		}
@@ -52,6 +62,9 @@ func (f *Folder) Unsure() []Unsure {
 		}
 		if one.Linked != nil && one.Linked.Names > 0 {
 			made = append(made, Unsure{Member: member, Kind: Linked, Names: one.Linked.Names})
+		}
+		if one.Head.IsOverWireAlone() {
+			made = append(made, Unsure{Member: member, Kind: OverWire, Names: one.Unseen.Standing, Unread: one.Unseen.Unread})
 		}
 	}
 	return made

@@ -1,21 +1,29 @@
 package finding
 
-import "syncthing-audit/part"
+import (
+	"syncthing-audit/damage"
+	"syncthing-audit/part"
+)
 
-// How a disk isn't as its record says, of a name that waits for a scan. What looks most like damage comes first.
+// How a disk isn't as its record says, of a name that waits for a scan: these, and the kinds of damage.
 const (
 	WaitsMissing = "missing"
-	WaitsEmptied = "emptied"
-	WaitsCut     = "cut short" // under the recorded time
-	WaitsLonger  = "longer"    // under the recorded time
-	WaitsUnknown = "unknown"   // no details were kept
+	WaitsUnknown = "unknown" // no details were kept
 	WaitsChanged = "changed"
 	WaitsBack    = "back" // it is deleted by the record
 	WaitsNew     = "new"
 )
 
-// KindsOfWaiting are these, in this order.
-var KindsOfWaiting = []string{WaitsMissing, WaitsEmptied, WaitsCut, WaitsLonger, WaitsUnknown, WaitsChanged, WaitsBack, WaitsNew}
+// KindsOfWaiting are all of them. What looks most like damage comes first.
+var KindsOfWaiting = kindsOfWaiting()
+
+func kindsOfWaiting() []string {
+	kinds := []string{WaitsMissing}
+	for _, kind := range damage.Kinds {
+		kinds = append(kinds, string(kind))
+	}
+	return append(kinds, WaitsUnknown, WaitsChanged, WaitsBack, WaitsNew)
+}
 
 // Waiting counts the names that wait for a scan on a device.
 type Waiting struct {
@@ -35,17 +43,9 @@ func KindOfWaiting(at *part.Name) string {
 		return WaitsBack
 	case at.Disk == nil:
 		return WaitsMissing
-	case at.Own.Content == nil || at.Own.Type != at.Disk.Type:
-		return WaitsChanged
 	}
-	isOfTime := at.Own.ModifiedS == at.Disk.ModifiedS && at.Own.ModifiedNs == at.Disk.ModifiedNs
-	switch recorded := at.Own.Content.Size; {
-	case at.Disk.Size == 0 && recorded > 0:
-		return WaitsEmptied
-	case at.Disk.Size < recorded && isOfTime:
-		return WaitsCut
-	case at.Disk.Size > recorded && isOfTime:
-		return WaitsLonger
+	if why := damage.Of(at.Own, at.Disk); why != damage.None {
+		return string(why)
 	}
 	return WaitsChanged
 }
@@ -75,12 +75,33 @@ func (l *Live) addWaiting(one Moved) {
 	}
 }
 
-// IsToMakeSafe says whether something is to be looked at before a scan: what is new alone is sent, and takes nothing away.
-func (w *Waiting) IsToMakeSafe() bool {
+// Losing counts the names of which a scan takes something else than what is recorded: what is new, or back, takes nothing away.
+func (w *Waiting) Losing() int64 { return w.count(LosesRecorded) }
+
+// Sent counts the names that are to be looked at before a scan: all but what is new.
+func (w *Waiting) Sent() int64 { return w.count(func(kind string) bool { return kind != WaitsNew }) }
+
+// count counts the names that wait so.
+func (w *Waiting) count(isSo func(kind string) bool) int64 {
+	made := int64(0)
 	for kind, count := range w.Names {
-		if count > 0 && kind != WaitsNew {
-			return true
+		if isSo(kind) {
+			made += count
 		}
 	}
-	return false
+	return made
 }
+
+// SendsAfterScan gives what waits at a member for a scan that sends what stands there, where that is more than what is new; nothing where none does.
+func (f *Folder) SendsAfterScan(member int) *Waiting {
+	if f.Live == nil {
+		return nil
+	}
+	waits, about := f.Live.Waiting[member], f.Members[member].About
+	if waits == nil || about != nil && about.Kind == receiveOnly || waits.Sent() == 0 {
+		return nil
+	}
+	return waits
+}
+
+const receiveOnly = "receive-only"

@@ -3,6 +3,7 @@ package finding
 import (
 	"testing"
 
+	"syncthing-audit/damage"
 	"syncthing-audit/part"
 )
 
@@ -16,9 +17,9 @@ func TestKindOfWaiting(t *testing.T) {
 		at   *part.Name
 		kind string
 	}{
-		{nil, WaitsUnknown}, {&part.Name{Own: recorded()}, WaitsMissing}, {&part.Name{Own: recorded(), Disk: node(0, 7)}, WaitsEmptied},
-		{&part.Name{Own: recorded(), Disk: node(0, 9)}, WaitsEmptied}, {&part.Name{Own: recorded(), Disk: node(9, 7)}, WaitsCut},
-		{&part.Name{Own: recorded(), Disk: node(9, 9)}, WaitsChanged}, {&part.Name{Own: recorded(), Disk: node(300001, 7)}, WaitsLonger},
+		{nil, WaitsUnknown}, {&part.Name{Own: recorded()}, WaitsMissing}, {&part.Name{Own: recorded(), Disk: node(0, 7)}, string(damage.Emptied)},
+		{&part.Name{Own: recorded(), Disk: node(0, 9)}, string(damage.Emptied)}, {&part.Name{Own: recorded(), Disk: node(9, 7)}, string(damage.Cut)},
+		{&part.Name{Own: recorded(), Disk: node(9, 9)}, WaitsChanged}, {&part.Name{Own: recorded(), Disk: node(300001, 7)}, string(damage.Longer)},
 		{&part.Name{Own: recorded(), Disk: node(300000, 9)}, WaitsChanged}, {&part.Name{Disk: node(1, 1)}, WaitsNew},
 		{&part.Name{Own: &part.Record{Deleted: true}, Disk: node(1, 1)}, WaitsBack},
 		{&part.Name{Own: recorded(), Disk: &part.Node{Type: 1, ModifiedS: 7}}, WaitsChanged},

@@ -50,6 +50,26 @@ func (w *World) Put(device int, name string, what Node) {
 	found.Disk[device] = &what
 }
 
+// PutBelow has stand below a directory on a device's disk what stands below it on another one's.
+func (w *World) PutBelow(device int, name string, from int) {
+	for place := range w.Names {
+		if one := &w.Names[place]; strings.HasPrefix(one.Name, name+"/") && one.Disk[from] != nil {
+			what := *one.Disk[from]
+			one.Disk[device] = &what
+		}
+	}
+}
+
+// HasRoom says whether a device's disk has nothing but directories above a name.
+func (w *World) HasRoom(device int, name string) bool {
+	for above := path.Dir(name); above != "."; above = path.Dir(above) {
+		if what := w.At(device, above); what != nil && what.Type != Directory {
+			return false
+		}
+	}
+	return true
+}
+
 // Remove takes away what stands at a name on a device's disk, and all below it.
 func (w *World) Remove(device int, name string) {
 	for place := range w.Names {

@@ -13,6 +13,7 @@ const Now = math.MaxInt64
 type End struct {
 	Disks [][]Place // of each device: what stands on its disk, by name, copies behind their name; of copies with the same bytes there is one
 	Stuck []Stuck
+	Apart []Stuck // names that a device needs nothing of, and keeps otherwise than others may have them
 }
 
 // Place is what stands at a name, or in a conflict copy of it that Syncthing made.
@@ -34,6 +35,7 @@ type numbered struct {
 	disks [][]placed
 	stuck []Stuck // with the places of names in place of devices' names
 	names []int
+	apart []noted
 }
 
 type placed struct {
@@ -44,7 +46,7 @@ type placed struct {
 
 // numberedEnd gives the end that a state is.
 func (s *state) numberedEnd(count int) numbered {
-	made := numbered{disks: make([][]placed, len(s.devices))}
+	made := numbered{disks: make([][]placed, len(s.devices)), apart: s.apart(count)}
 	for i := range s.devices {
 		for n := 0; n < s.count(); n++ {
 			if what := s.at(i, n); what.isThere() {
@@ -136,6 +138,9 @@ func (l *loader) end(from *numbered, names []Name) End {
 	for at, stuck := range from.stuck {
 		stuck.Name = names[from.names[at]].Name
 		made.Stuck = append(made.Stuck, stuck)
+	}
+	for _, one := range from.apart {
+		made.Apart = append(made.Apart, Stuck{Device: one.device, Name: names[one.n].Name, Why: one.why})
 	}
 	return made
 }

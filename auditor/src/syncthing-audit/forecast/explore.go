@@ -26,7 +26,7 @@ func (s *state) exchanges() []action {
 		}
 		i := i
 		for j := range s.devices {
-			if j := j; j != i && s.isOn(j) && s.isBehind(i, j) {
+			if j := j; j != i && s.isOn(j) && !s.devices[i].Apart.Has(j) && s.isBehind(i, j) {
 				made = append(made, func(s *state) { s.send(i, j) })
 			}
 		}

@@ -1,6 +1,7 @@
 package forecast
 
 import (
+	"fmt"
 	"math/rand"
 	"sort"
 )
@@ -10,22 +11,42 @@ type Budget struct {
 	States int // up to so many states of a group all orders are tried
 	Walks  int // beyond that so many in random order
 	Total  int // once so many states of all groups were tried, only small groups have all orders tried
+	Most   int // once so much was done, nothing more is: states count their names, and so do walks; 0 for no end
 }
 
 // statesOfSmall is how many states a small group has at most.
 const statesOfSmall = 200
 
-// of gives the budget for so many names that hang together: each state of many takes longer.
-func (b Budget) of(names int) Budget {
+// mostEndless is after how many walks without an end none is expected any more.
+const mostEndless = 5
+
+// statesOfWalk is as how many states a walk counts.
+const statesOfWalk = 30
+
+// of gives the budget for so many names that hang together, on so many devices: each state of many takes longer.
+func (b Budget) of(names, devices int) Budget {
 	const most, fewest = 16, 5
-	if names <= most {
+	share := weight(devices)
+	if names > most {
+		share *= float64(names) / most
+	}
+	if share <= 1 {
 		return b
 	}
-	walks := b.Walks * most / names
+	walks := int(float64(b.Walks) / share)
 	if walks < fewest {
 		walks = fewest
 	}
-	return Budget{b.States * most / names, walks, b.Total}
+	return Budget{int(float64(b.States) / share), walks, b.Total, b.Most}
+}
+
+// weight says how much longer a state of so many devices takes than one of a few.
+func weight(devices int) float64 {
+	const few = 6
+	if devices <= few {
+		return 1
+	}
+	return float64(devices*devices) / (few * few)
 }
 
 // Usual is the budget of an answer to a person.
@@ -40,6 +61,7 @@ type Answer struct {
 	Endless int   // how many of those came to no end
 	States  int   // how many states were seen
 	Untried []int // devices of which nobody knows whether their release does what the model does: there is no end then
+	IsOver  bool  // the budget was spent before: there is no end then
 }
 
 // Forecaster makes forecasts. It keeps what it found, so names that are alike cost one.
@@ -47,6 +69,7 @@ type Forecaster struct {
 	budget Budget
 	known  map[string]*result
 	tried  int // states
+	done   int // of the budget's most
 }
 
 // result is an answer by the numbers of a machine.
@@ -79,18 +102,22 @@ func (w World) Groups() []World {
 	return made
 }
 
-// OfGroup gives an answer for names that are taken to hang together.
-func (f *Forecaster) OfGroup(devices []Device, names []Name) Answer {
+// OfGroup gives an answer for names that are taken to hang together. With commands, these are given one after another at each end, and what is told is
+// what comes of that: of Revert and Override.
+func (f *Forecaster) OfGroup(devices []Device, names []Name, commands ...Command) Answer {
 	sortNames(names)
 	if untried := untriedOf(devices); untried != nil {
 		return Answer{Names: textsOf(names), Untried: untried}
 	}
 	l := newLoader(devices, names)
 	first := l.start(names)
-	shape := l.shape(first)
+	shape := l.shape(first) + fmt.Sprint(commands)
 	found, is := f.known[shape]
 	if !is {
-		found = f.find(first, len(names))
+		if f.budget.Most > 0 && f.done >= f.budget.Most {
+			return Answer{Names: textsOf(names), IsOver: true}
+		}
+		found = f.find(first, len(names), commands)
 		f.known[shape] = found
 	}
 	made := Answer{Names: textsOf(names), IsAll: found.isAll, Orders: found.orders, Endless: found.endless, States: found.states}
@@ -98,6 +125,13 @@ func (f *Forecaster) OfGroup(devices []Device, names []Name) Answer {
 		made.Ends = append(made.Ends, l.end(&found.ends[place], names))
 	}
 	return made
+}
+
+// Shape gives a text that two groups of names share if they are alike: what becomes of one becomes of the other, by the places of their names.
+func Shape(devices []Device, names []Name) string {
+	sortNames(names)
+	l := newLoader(devices, names)
+	return l.shape(l.start(names))
 }
 
 func textsOf(names []Name) []string {
@@ -122,26 +156,17 @@ func sortNames(names []Name) {
 	sort.Slice(names, func(a, b int) bool { return names[a].Name < names[b].Name })
 }
 
-// find tries all orders, or walks where there are too many.
-func (f *Forecaster) find(first *state, count int) *result {
+// find tries all orders, or walks where there are too many; then again behind each command.
+func (f *Forecaster) find(first *state, count int, commands []Command) *result {
 	starts, all := first.withLists()
-	budget := f.budget.of(count)
-	if f.tried > f.budget.Total && budget.States > statesOfSmall {
-		budget.States = statesOfSmall
-	}
-	ends, states, done := explore(starts, budget.States)
-	f.tried += states
-	made := &result{isAll: all && done, states: states}
-	if !done {
-		random := rand.New(rand.NewSource(int64(count)))
-		for made.orders < budget.Walks {
-			made.orders++
-			if end := walk(starts[random.Intn(len(starts))], random); end != nil {
-				ends = append(ends, end)
-			} else {
-				made.endless++
-			}
+	made := &result{isAll: all}
+	ends := f.search(starts, count, made)
+	for _, command := range commands {
+		var after []*state
+		for _, end := range ends {
+			after = append(after, end.outcomes(command.on)...)
 		}
+		ends = f.search(after, count, made)
 	}
 	seen := map[string]bool{}
 	for _, end := range ends {
@@ -152,4 +177,36 @@ func (f *Forecaster) find(first *state, count int) *result {
 		}
 	}
 	return made
+}
+
+// search gives the ends to which these states come, and counts what it tried.
+func (f *Forecaster) search(starts []*state, count int, made *result) []*state {
+	if len(starts) == 0 {
+		return nil
+	}
+	devices := len(starts[0].devices)
+	heavy := weight(devices)
+	budget, cost := f.budget.of(count, devices), int(float64(count)*heavy*heavy)
+	if f.tried > f.budget.Total && budget.States > statesOfSmall {
+		budget.States = statesOfSmall
+	}
+	ends, states, done := explore(starts, budget.States)
+	f.tried += states
+	f.done += states * cost
+	made.states += states
+	if done {
+		return ends
+	}
+	made.isAll = false
+	random := rand.New(rand.NewSource(int64(count)))
+	for walks := 0; walks < budget.Walks && (made.orders < mostEndless || made.endless < made.orders); walks++ {
+		made.orders++
+		f.done += statesOfWalk * cost
+		if end := walk(starts[random.Intn(len(starts))], random); end != nil {
+			ends = append(ends, end)
+		} else {
+			made.endless++
+		}
+	}
+	return ends
 }

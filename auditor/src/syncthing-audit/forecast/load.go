@@ -42,6 +42,14 @@ func rootOf(name string) string {
 	return name[:at]
 }
 
+// RootOfCopy gives what a conflict copy is a copy of, by its name; nothing of other names.
+func RootOfCopy(name string) string {
+	if !isConflictCopy(name) {
+		return ""
+	}
+	return rootOf(name)
+}
+
 // newLoader makes the machine of a world, whose names rise.
 func newLoader(devices []Device, names []Name) *loader {
 	l := &loader{machine: newMachine(devices), contents: map[Content]int32{}, targets: map[string]int32{},

@@ -14,6 +14,11 @@ const (
 	BelowNoDirectory     // what is above isn't a directory
 	IsDirectory          // a file is to be deleted, and it is a directory
 	NotThere             // another time or mode is to be set, and nothing is there
+
+	// Why a device keeps a name, though it needs nothing of it.
+	KeepsLocalChange // the folder only receives, and was changed there
+	NotSeen          // the disk has other bytes than recorded, which no scan sees
+	IgnoresDeletions // the folder takes no deletions
 )
 
 // pull is one pull of one device. It works on the state, and reads what the device knew when the pull began: its index is written at the

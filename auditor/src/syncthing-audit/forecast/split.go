@@ -5,8 +5,8 @@ import (
 	"sort"
 )
 
-// split gives groups of names that hang together: a directory with all below it, unless it is in step, and files that share bytes which
-// aren't empty.
+// split gives groups of names that hang together: a directory with all below it, unless it is in step, files that share bytes which
+// aren't empty, and conflict copies with what they are copies of.
 func split(names []Name) [][]Name {
 	groups := newGroups(len(names))
 	places := make(map[string]int, len(names))
@@ -20,7 +20,12 @@ func split(names []Name) [][]Name {
 				groups.join(place, found)
 			}
 		}
-		eachContent(&names[place], func(content Content) {
+		if isConflictCopy(names[place].Name) {
+			if found, is := places[rootOf(names[place].Name)]; is {
+				groups.join(place, found)
+			}
+		}
+		names[place].EachContent(func(content Content) {
 			if found, is := first[content]; is {
 				groups.join(place, found)
 			} else {
@@ -51,23 +56,23 @@ func (n *Name) isDirectoryInStep() bool {
 	return true
 }
 
-// eachContent calls for all bytes that a name has somewhere.
-func eachContent(name *Name, call func(Content)) {
+// EachContent calls for all bytes that a name has somewhere.
+func (n *Name) EachContent(call func(Content)) {
 	take := func(content Content) {
 		if content.Hash != "" && content.Size > 0 {
 			call(content)
 		}
 	}
-	for i, own := range name.Own {
+	for i, own := range n.Own {
 		if own != nil {
 			take(own.Content)
 		}
-		for _, view := range name.Views[i] {
+		for _, view := range n.Views[i] {
 			if view != nil {
 				take(view.Content)
 			}
 		}
-		if what := name.Disk[i]; what != nil {
+		if what := n.Disk[i]; what != nil {
 			take(what.Content)
 		}
 	}

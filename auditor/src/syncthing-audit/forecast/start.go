@@ -11,7 +11,7 @@ func (l *loader) start(names []Name) *state {
 				s.set(s.ownCell(i, n), l.recordOf(own))
 			}
 			for j, view := range names[n].Views[i] {
-				if view != nil && j != i {
+				if view != nil && j != i && !l.devices[i].Apart.Has(j) {
 					s.set(s.viewCell(i, j, n), l.recordOf(view))
 				}
 			}
@@ -62,7 +62,7 @@ func (l *loader) shape(s *state) string {
 	put(int64(len(l.devices)), int64(len(l.names)), int64(len(l.sizes)), int64(len(l.vectors)), int64(len(l.records)), int64(len(l.nodes)))
 	for _, device := range l.devices {
 		put(int64(device.Kind), int64(device.Release), int64(device.Number), truth(device.IgnorePermissions), truth(device.IgnoreDelete))
-		put(int64(device.MaxConflicts), device.TimeWindow)
+		put(int64(device.MaxConflicts), device.TimeWindow, int64(device.Apart))
 	}
 	for _, one := range l.names {
 		put(int64(one.parent), truth(one.isCopy), int64(one.root))

@@ -57,7 +57,14 @@ type Device struct {
 	IgnoreDelete      bool   // Syncthing's 'ignoreDelete'
 	MaxConflicts      int    // Syncthing's 'maxConflicts': below 0 all copies are kept
 	TimeWindow        int64  // in nanoseconds: times that differ by less are one
+	Apart             Places // devices with which it exchanges nothing
 }
+
+// Places is a set of devices by their places in a world.
+type Places uint32
+
+// Has says whether a device is one of these.
+func (p Places) Has(place int) bool { return p&(1<<place) != 0 }
 
 // Name is a name and what the devices have of it. Each list has a place for each device.
 type Name struct {

@@ -35,6 +35,7 @@ type Device struct {
 	Folders  []Folder // rising by id
 	Names    choice.Names
 	Bytes    bool // the bytes of files, too, in memory alone
+	Paths    bool // the absolute paths of this machine, too
 	Pool     *disk.Pool
 	Look     *part.Look // of a device that may run
 	Others   []part.Other
@@ -50,6 +51,9 @@ func (d *Device) Head() *part.Head {
 		folder := one.Folder()
 		folder.Rest = d.Rest[folder.ID]
 		made.Folders = append(made.Folders, folder)
+	}
+	if !d.Paths {
+		hidePaths(made)
 	}
 	return made
 }
@@ -83,17 +87,22 @@ func (d *Device) names(folder Folder, about *part.Folder, end *part.End, sink pa
 	if err != nil {
 		return err
 	}
-	found := newQueue()
+	path := ""
+	if !d.Paths {
+		path = folder.Folder().Path
+	}
+	found := disk.NewQueue()
 	merging := newMerge(d, folder, about, patterns, found)
-	go func() { found.end(merging.run()) }()
-	defer found.stop()
+	go func() { found.End(merging.run()) }()
+	defer found.Stop()
 	for {
-		next, err := found.next()
+		next, err := found.Next()
 		if next == nil {
 			merging.tellEnd(end)
 			return err
 		}
-		line := next.finish()
+		line := next.Finish()
+		line.HidePaths(path)
 		end.Names++
 		if line.Disk != nil && line.Disk.Contents != nil && line.Disk.Lost == "" {
 			end.Bytes += line.Disk.Size - line.Disk.Unread

@@ -5,6 +5,7 @@ import (
 	"fmt"
 	"sort"
 
+	"syncthing-audit/disk"
 	"syncthing-audit/part"
 )
 
@@ -14,11 +15,6 @@ type hidden struct {
 	name   part.Hidden
 	size   int64
 	length int // of a name that is too long; 0 for one that is ignored
-}
-
-// isHidden says whether all that is known of a name is that .stignore ignores what stands there.
-func isHidden(line *part.Name) bool {
-	return line.Own == nil && len(line.Views) == 0 && line.Disk != nil && len(line.Out) == 1 && line.Out[0].Kind == part.Ignored
 }
 
 // hide keeps a name back until all others are told.
@@ -57,15 +53,15 @@ func (h hidden) line() *part.Name {
 func (m *merge) sendHidden() bool {
 	sort.Slice(m.hidden, func(a, b int) bool { return bytes.Compare(m.hidden[a].name[:], m.hidden[b].name[:]) < 0 })
 	for _, one := range m.hidden {
-		if !m.to.reserve(weightOfName) {
+		if !m.to.Reserve(disk.WeightOfName) {
 			return false
 		}
-		m.to.put(&pending{line: one.line(), weight: weightOfName})
+		m.to.Put(&disk.Pending{Line: one.line(), Weight: disk.WeightOfName})
 	}
 	return true
 }
 
 // ignored says that .stignore ignores a name.
 func ignored(line *part.Name) part.LeftOut {
-	return part.LeftOut{Kind: part.Ignored, Why: "it is ignored there by .stignore", Bytes: sizeOf(line)}
+	return part.LeftOut{Kind: part.Ignored, Why: part.WhyIgnored, Bytes: sizeOf(line)}
 }

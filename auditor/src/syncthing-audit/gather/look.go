@@ -1,17 +1,14 @@
 package gather
 
 import (
-	"bufio"
-	"errors"
 	"io"
 	"os"
-	"strconv"
-	"strings"
 
-	"github.com/syncthing/syncthing/lib/protocol"
+	"syncthing-audit/adapt"
+	"syncthing-audit/bep"
 	"syncthing-audit/disk"
+	"syncthing-audit/glance"
 	"syncthing-audit/leftover"
-	"syncthing-audit/part"
 	"syncthing-audit/shell"
 )
 
@@ -20,31 +17,19 @@ func (d *Device) isSecondLook() bool { return d.Look != nil && d.Look.IsSecond()
 
 // walker gives what walks a folder's directory.
 func (d *Device) walker(folder Folder) *disk.Walker {
-	return &disk.Walker{Disk: folder.Disk(), Folder: folder.Folder().ID, Names: d.Names, Stamps: d.Look != nil}
+	return &disk.Walker{Disk: adapt.Directory(folder.Disk()), Folder: folder.Folder().ID, Names: d.Names, Stamps: d.Look != nil}
 }
-
-// Glance is what stood on a device's disk at one look, before its files are hashed. It has each name with its mark, in a
-// file of its own for each folder.
-type Glance struct {
-	folders []*os.File // by their places
-}
-
-// markOfUnread is that of a name of which nothing can be told.
-const markOfUnread = "unread"
-
-// beforeIgnored stands before the mark of a directory that .stignore ignores. The index says whether the folder has it all the same.
-const beforeIgnored = "ignored "
 
 // Glance walks all folders.
-func (d *Device) Glance() (*Glance, error) {
-	made := &Glance{}
+func (d *Device) Glance() (*glance.Glance, error) {
+	made := &glance.Glance{}
 	for _, one := range d.Folders {
 		file, err := leftover.Unnamed()
 		if err != nil {
 			made.Close()
 			return nil, err
 		}
-		made.folders = append(made.folders, file)
+		made.Folders = append(made.Folders, file)
 		if err := d.walkInto(file, one); err != nil {
 			made.Close()
 			about := one.Folder()
@@ -60,21 +45,14 @@ func (d *Device) walkInto(file *os.File, folder Folder) error {
 	if err != nil {
 		return err
 	}
-	to := bufio.NewWriter(file)
+	to := glance.NewWriter(file)
 	walker := d.walker(folder)
 	walker.Take = func(one disk.Found) error {
-		mark := one.Node.Mark()
-		if one.Node == nil {
-			mark = markOfUnread
+		isIgnored := patterns.Match(one.Name).IsIgnored()
+		if isIgnored && (patterns.SkipIgnoredDirs() || one.Node == nil || one.Node.Type != bep.Directory) {
+			return nil
 		}
-		if patterns.Match(one.Name).IsIgnored() {
-			if patterns.SkipIgnoredDirs() || one.Node == nil || one.Node.Type != int(protocol.FileInfoTypeDirectory) {
-				return nil
-			}
-			mark = beforeIgnored + mark
-		}
-		_, err := to.WriteString(strconv.Quote(one.Name) + "\n" + strconv.Quote(mark) + "\n")
-		return err
+		return to.Take(one, isIgnored)
 	}
 	if err = walker.Walk(); err == nil {
 		err = to.Flush()
@@ -83,125 +61,4 @@ func (d *Device) walkInto(file *os.File, folder Folder) error {
 		_, err = file.Seek(0, io.SeekStart)
 	}
 	return err
-}
-
-// Close takes the files away.
-func (g *Glance) Close() {
-	for _, one := range g.folders {
-		one.Close()
-	}
-}
-
-// glanced is a name that is read back.
-type glanced struct{ name, mark string }
-
-// comparing compares the lines of a device with a glance at its disk.
-type comparing struct {
-	glance *Glance
-	folder int // the place of the next folder
-	from   *bufio.Reader
-	next   *glanced // not taken yet
-	added  int64    // names that were gone when their turn came
-	sink   part.Sink
-}
-
-// Compare gives a sink for the lines of the device. It gives a name on as one that moved, if its disk isn't what it was at
-// the glance.
-func (g *Glance) Compare(sink part.Sink) part.Sink {
-	return (&comparing{glance: g, sink: sink}).take
-}
-
-func (c *comparing) take(line part.Line) error {
-	switch {
-	case line.Begin != nil:
-		c.from = bufio.NewReader(c.glance.folders[c.folder])
-		c.folder++
-		c.added = 0
-		if err := c.read(); err != nil {
-			return err
-		}
-	case line.Name != nil:
-		if err := c.gone(string(line.Name.Name)); err != nil {
-			return err
-		}
-		line.Name = WithoutChanging(line.Name)
-		return c.name(line)
-	case line.End != nil:
-		if err := c.gone(""); err != nil {
-			return err
-		}
-		line.End.Names += c.added
-	}
-	return c.sink(line)
-}
-
-// read reads the next name of the glance.
-func (c *comparing) read() error {
-	c.next = nil
-	read := &glanced{}
-	for _, into := range []*string{&read.name, &read.mark} {
-		text, err := c.from.ReadString('\n')
-		if errors.Is(err, io.EOF) && text == "" && into == &read.name {
-			return nil
-		}
-		if err != nil {
-			return err
-		}
-		if *into, err = strconv.Unquote(text[:len(text)-1]); err != nil {
-			return err
-		}
-	}
-	c.next = read
-	return nil
-}
-
-// gone gives on names of the glance that stand before this one, or all where it is empty. A directory that is ignored and gone, and that no index
-// has, isn't the folder's.
-func (c *comparing) gone(before string) error {
-	for c.next != nil && (before == "" || c.next.name < before) {
-		if !strings.HasPrefix(c.next.mark, beforeIgnored) {
-			c.added++
-			if err := c.sink(part.Line{Name: &part.Name{Name: part.Bytes(c.next.name), Moved: []string{part.MovedDisk}}}); err != nil {
-				return err
-			}
-		}
-		if err := c.read(); err != nil {
-			return err
-		}
-	}
-	return nil
-}
-
-// name gives on a name.
-func (c *comparing) name(line part.Line) error {
-	mark := ""
-	if c.next != nil && c.next.name == string(line.Name.Name) {
-		mark = strings.TrimPrefix(c.next.mark, beforeIgnored)
-		if err := c.read(); err != nil {
-			return err
-		}
-	}
-	isUnread := mark == markOfUnread && line.Name.Disk == nil && len(line.Name.Out) > 0
-	if line.Name.Disk.Mark() != mark && !isUnread && !line.Name.IsIgnored() && len(line.Name.Moved) == 0 {
-		line.Name = &part.Name{Name: line.Name.Name, Moved: []string{part.MovedDisk}}
-	}
-	return c.sink(line)
-}
-
-// WithoutChanging gives a name that was changing while it was read, or that waits for a scan, as one that moved.
-func WithoutChanging(one *part.Name) *part.Name {
-	if one.IsIgnored() {
-		return one
-	}
-	for _, out := range one.Out {
-		switch {
-		case out.Kind == part.Changing && out.Why == disk.ErrChanged.Error():
-			return &part.Name{Name: one.Name, Moved: []string{part.MovedDisk}}
-		case out.Kind == part.Changing:
-			return &part.Name{Name: one.Name, Moved: []string{part.MovedViews}}
-		case out.Kind == part.Rescan:
-			return &part.Name{Name: one.Name, Moved: []string{part.MovedUnscanned}}
-		}
-	}
-	return one
 }

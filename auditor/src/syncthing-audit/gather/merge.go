@@ -12,10 +12,8 @@ import (
 	"syncthing-audit/disk"
 	"syncthing-audit/limits"
 	"syncthing-audit/part"
+	"syncthing-audit/stignore"
 )
-
-// weightOfName is what a name without hashes takes of the queue's room.
-const weightOfName = 32
 
 // merge joins a folder's index, views and disk by name.
 type merge struct {
@@ -25,17 +23,17 @@ type merge struct {
 	own      *puller[device.Entry]
 	views    []*puller[device.Entry]
 	nodes    *puller[disk.Found]
-	to       *queue
+	to       *disk.Queue
 	folder   string
 	hidden   []hidden
-	toIgnore toIgnore
+	toIgnore stignore.ToIgnore
 }
 
 // errStopped says that nobody wants the names any more.
 var errStopped = errors.New("stopped")
 
 // newMerge begins to read a folder.
-func newMerge(of *Device, folder Folder, about *part.Folder, patterns *ignore.Matcher, to *queue) *merge {
+func newMerge(of *Device, folder Folder, about *part.Folder, patterns *ignore.Matcher, to *disk.Queue) *merge {
 	made := &merge{device: of, patterns: patterns, to: to, walker: of.walker(folder), folder: about.ID}
 	made.own = pull(func(take func(device.Entry) bool) error { return folder.Own(of.Names, take) })
 	for _, view := range about.Views {
@@ -64,11 +62,14 @@ func (m *merge) run() error {
 	}()
 	for {
 		name, is := m.least()
+		if err := m.failure(); err != nil {
+			return err
+		}
 		if !is {
-			if m.err() == nil && !m.sendHidden() {
+			if !m.sendHidden() {
 				return errStopped
 			}
-			return m.err()
+			return nil
 		}
 		if !m.put(name) {
 			return errStopped
@@ -80,9 +81,9 @@ func (m *merge) run() error {
 func (m *merge) tellEnd(end *part.End) {
 	end.Temporary = &m.walker.Temporary
 	if m.device.Names.IsAll() {
-		m.toIgnore.end()
+		m.toIgnore.End()
 		linked := m.walker.Linked()
-		end.Linked, end.ToIgnore = &linked, m.toIgnore.names
+		end.Linked, end.ToIgnore = &linked, m.toIgnore.Names
 	}
 }
 
@@ -91,14 +92,14 @@ func (m *merge) entries() []*puller[device.Entry] {
 	return append([]*puller[device.Entry]{m.own}, m.views...)
 }
 
-// err gives the error of a reading, if there was one.
-func (m *merge) err() error {
-	for _, one := range m.entries() {
-		if one.err != nil {
-			return one.err
+// failure gives the error of a reading that ended too early, if there was one. A name that comes after it isn't told without what that reading has.
+func (m *merge) failure() error {
+	for _, entries := range m.entries() {
+		if err := entries.failure(); err != nil {
+			return err
 		}
 	}
-	return m.nodes.err
+	return m.nodes.failure()
 }
 
 // least gives the least name that is still to come.
@@ -123,41 +124,60 @@ func (m *merge) least() (string, bool) {
 // put puts all that is said of a name into the queue, and has its file hashed. It says whether more names are wanted.
 func (m *merge) put(name string) bool {
 	line := &part.Name{Name: part.Bytes(name)}
-	var recorded [][32]byte
-	stamp := ""
-	for place, one := range m.entries() {
-		next := one.peek()
-		if next == nil || next.Name != name {
-			continue
-		}
-		one.take()
-		if next.Out != nil {
-			line.Out = append(line.Out, *next.Out)
-			continue
-		}
-		m.addRecord(line, place, next)
-		if place == 0 && next.Record.Content != nil {
-			recorded = next.Blocks
-		}
-	}
-	if next := m.nodes.peek(); next != nil && next.Name == name {
-		m.nodes.take()
-		line.Disk, stamp = next.Node, next.Stamp
-		if next.Out != nil {
-			line.Out = append(line.Out, *next.Out)
-		}
-	}
+	recorded := m.takeEntries(line)
+	isIndexed := line.Own != nil || len(line.Views) > 0 || len(line.Out) > 0
+	stamp := m.takeNode(line)
 	if m.device.Look != nil {
 		line.Receiving = m.walker.StampOf(fs.TempName(name))
 	}
-	if m.isIgnored(name, line.Own) {
+	switch {
+	case m.isIgnored(name, line.Own):
 		line.Out = append(line.Out, ignored(line))
-	} else if m.patterns.Match(name).IsIgnored() {
-		m.toIgnore.takeDirectory(name)
-	} else if line.Own != nil && !line.Own.Deleted && line.Disk != nil {
-		m.toIgnore.takeOther(name)
+		if !isIndexed && line.Disk != nil && len(line.Out) == 1 {
+			m.hide(line)
+			return true
+		}
+	case m.patterns.Match(name).IsIgnored():
+		m.toIgnore.TakeDirectory(name)
+	case line.Own != nil && !line.Own.Deleted && line.Disk != nil:
+		m.toIgnore.TakeOther(name)
 	}
 	return m.send(line, recorded, stamp)
+}
+
+// takeEntries adds what the index and the views have of a name. It gives the block hashes that the own record has.
+func (m *merge) takeEntries(line *part.Name) [][32]byte {
+	var recorded [][32]byte
+	for place, entries := range m.entries() {
+		entry := entries.peek()
+		if entry == nil || entry.Name != string(line.Name) {
+			continue
+		}
+		entries.take()
+		if entry.Out != nil {
+			line.Out = append(line.Out, *entry.Out)
+			continue
+		}
+		m.addRecord(line, place, entry)
+		if place == 0 && entry.Record.Content != nil {
+			recorded = entry.Blocks
+		}
+	}
+	return recorded
+}
+
+// takeNode adds what stands on the disk under a name. It gives the stamp that it had when it was found.
+func (m *merge) takeNode(line *part.Name) string {
+	found := m.nodes.peek()
+	if found == nil || found.Name != string(line.Name) {
+		return ""
+	}
+	m.nodes.take()
+	line.Disk = found.Node
+	if found.Out != nil {
+		line.Out = append(line.Out, *found.Out)
+	}
+	return found.Stamp
 }
 
 // isIgnored says whether .stignore keeps a name out of the folder. Where a pattern takes in what is below a directory that another pattern ignores,
@@ -205,11 +225,7 @@ func sizeOf(line *part.Name) int64 {
 
 // send puts a name into the queue, and has its file hashed. The file had this stamp when it was found.
 func (m *merge) send(line *part.Name, recorded [][32]byte, stamp string) bool {
-	switch {
-	case isHidden(line):
-		m.hide(line)
-		return true
-	case part.IsLongName(string(line.Name)):
+	if part.IsLongName(string(line.Name)) {
 		m.hideLong(line)
 		return true
 	}
@@ -217,27 +233,27 @@ func (m *merge) send(line *part.Name, recorded [][32]byte, stamp string) bool {
 	if node != nil && m.device.Bytes && node.Size > limits.MostFileBytes && len(line.Out) == 0 {
 		line.Out = append(line.Out, tooLarge(node.Size))
 	}
-	one := &pending{line: line, weight: weightOfName}
+	one := &disk.Pending{Line: line, Weight: disk.WeightOfName}
 	isHashed := node != nil && node.Type == int(protocol.FileInfoTypeFile) && len(line.Out) == 0 && !m.device.isSecondLook()
 	file := disk.File{}
 	if isHashed {
 		file = disk.File{Disk: m.walker.Disk, Name: string(line.Name), Stamp: stamp, Node: node, BlockSizes: blockSizes(line),
 			Longest: longest(line), Recorded: recorded, Keep: m.device.Bytes}
-		one.weight += len(recorded)
+		one.Weight += len(recorded)
 		for _, size := range file.BlockSizes {
-			one.weight += int(part.CountOfBlocks(file.Length(), size))
+			one.Weight += int(part.CountOfBlocks(file.Length(), size))
 		}
 		if file.Keep {
-			one.weight += int(node.Size / 32)
+			one.Weight += int(node.Size / 32)
 		}
 	}
-	if !m.to.reserve(one.weight) {
+	if !m.to.Reserve(one.Weight) {
 		return false
 	}
 	if isHashed {
-		one.job = m.device.Pool.Begin(file)
+		one.Job = m.device.Pool.Begin(file)
 	}
-	m.to.put(one)
+	m.to.Put(one)
 	return true
 }
 

@@ -11,7 +11,8 @@ type puller[T any] struct {
 	batch   []T
 	stopped chan struct{}
 	stop    sync.Once
-	err     error // once the batches are at their end
+	isOver  bool  // whether the batches are at their end
+	err     error // once they are
 }
 
 // pull begins a reading.
@@ -45,11 +46,20 @@ func (p *puller[T]) peek() *T {
 	for len(p.batch) == 0 {
 		next, is := <-p.batches
 		if !is {
+			p.isOver = true
 			return nil
 		}
 		p.batch = next
 	}
 	return &p.batch[0]
+}
+
+// failure gives why the reading ended too early, once peek has come to its end.
+func (p *puller[T]) failure() error {
+	if !p.isOver {
+		return nil
+	}
+	return p.err
 }
 
 // take takes what peek gives.

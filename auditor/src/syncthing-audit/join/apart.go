@@ -25,7 +25,7 @@ const ByChance = "default"
 func (p *Plan) checkOwn(folder *Folder) {
 	for _, one := range p.Devices {
 		if folder.Own != "" && one.Head.Folder(folder.ID) == nil && one.mayShare(folder.ID) && !p.IsLeftOut(folder.ID, one.Head.Device) {
-			p.LeftOut = append(p.LeftOut, Refusal{part.Unshared, folder.ID, folder.Label, one.Head.Device, one.Head.Name,
+			p.leaveOut(Refusal{part.Unshared, folder.ID, folder.Label, one.Head.Device, one.Head.Name,
 				one.whyWithout(folder.ID) + "; " + folder.Members[0].Label() + " shares it with nobody"})
 		}
 	}
@@ -33,20 +33,22 @@ func (p *Plan) checkOwn(folder *Folder) {
 
 // IsLeftOut says whether a device is left out of a folder without being asked for.
 func (p *Plan) IsLeftOut(folder, device string) bool {
-	for _, one := range p.LeftOut {
-		if one.Folder == folder && one.Device == device {
-			return true
-		}
-	}
-	return false
+	return p.isOut[placeOfFolder{folder, device}]
+}
+
+// placeOfFolder is a folder at a device.
+type placeOfFolder struct{ folder, device string }
+
+// leaveOut leaves a folder out at a device, without being asked for.
+func (p *Plan) leaveOut(one Refusal) {
+	p.LeftOut = append(p.LeftOut, one)
+	p.isOut[placeOfFolder{one.Folder, one.Device}] = true
 }
 
 // mayShare says whether a device may share a folder that its part is without, as far as the part says that.
 func (d *Device) mayShare(folder string) bool {
-	for _, one := range d.Head.Others {
-		if one.ID == folder {
-			return len(one.Devices) > 0 || folder != ByChance
-		}
+	if one := d.Head.Other(folder); one != nil {
+		return len(one.Devices) > 0 || folder != ByChance
 	}
 	return d.Head.Others == nil
 }
@@ -66,7 +68,7 @@ func (p *Plan) checkApart(folder *Folder) {
 		switch {
 		case together[one.Head.Device]:
 		case len(one.About.Sharing) == 0:
-			p.LeftOut = append(p.LeftOut, Refusal{part.Unshared, folder.ID, folder.Label, one.Head.Device, one.Head.Name,
+			p.leaveOut(Refusal{part.Unshared, folder.ID, folder.Label, one.Head.Device, one.Head.Name,
 				"it shares its folder of this id with nobody: it is another folder than that of " + kept[0].Label()})
 		default:
 			p.refuse(part.Unshared, folder, one.Head.Device, one.Head.Name, "it doesn't share the folder with "+kept[0].Label()+

@@ -20,7 +20,7 @@ func TestFoldersThatAreAway(t *testing.T) {
 	}{
 		{"others have it", "12", "there is no /media/docs", nil, "left-out:absent", 1},
 		{"others have it, and it is asked for", "12", "there is no /media/docs", []string{"docs"}, "left-out:absent", 1},
-		{"it is there and wasn't asked for", "12", "", nil, "unshared", 0},
+		{"it is there and wasn't asked for", "12", "", nil, "unshared", 1},
 		{"no other device has it", "", "there is no /media/docs", nil, "left-out:absent", 0},
 	} {
 		devices := sharing(map[byte]string{1: one.with, 2: "12"}, unchanged)

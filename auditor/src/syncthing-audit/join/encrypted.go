@@ -24,12 +24,6 @@ func (p *Plan) takeOutEncrypted(folder *Folder) map[string]bool {
 			}
 		}
 	}
-	kept := []Member{}
-	for _, one := range folder.Members {
-		if !encrypted[one.Head.Device] {
-			kept = append(kept, one)
-		}
-	}
-	folder.Members = kept
+	folder.takeOut(func(one Member) bool { return encrypted[one.Head.Device] })
 	return encrypted
 }

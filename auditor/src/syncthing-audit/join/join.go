@@ -16,7 +16,9 @@ type Device struct {
 	Head   *part.Head
 	Number uint64
 	From   string // the home or the file, for messages
-	line   *part.Line
+
+	IsUnsigned bool // whether it was read from a part whose signature nobody checked
+	line       *part.Line
 }
 
 // NewDevice gives the device of a part.
@@ -33,6 +35,7 @@ type Member struct {
 	Temporary *part.Count // its names that Syncthing takes for its temporary files, as far as its part tells them
 	Linked    *part.Count // its names of files that have links elsewhere, as far as its part tells them
 	ToIgnore  int64       // its directories whose records the next scan marks as ignored
+	Unseen    Unseen      // of a device that is seen over the wire
 }
 
 // Folder is a folder with those of its devices that are audited, their numbers rising.
@@ -41,6 +44,9 @@ type Folder struct {
 	Label   string
 	Members []Member
 	Own     string // the id of the one device, where that shares its folder with nobody
+
+	isEarlier         map[string]bool // the devices of whose indexes others know later changes
+	isEarlierThanWire map[string]bool // those of which others know so that are asked over the wire
 }
 
 // Called names the folder for a person.
@@ -58,8 +64,9 @@ func (f *Folder) Member(device string) int {
 
 // Row is all that the members of a folder have of one name: nothing where one has nothing.
 type Row struct {
-	Name string
-	At   []*part.Name
+	Name  string
+	At    []*part.Name
+	Later []int // the members at which it changed after their parts were made
 }
 
 // Size gives the most bytes that a member has, records or leaves out of the name.
@@ -226,6 +233,8 @@ func (f *Folder) next() (*Row, error) {
 		f.Members[place].line = nil
 		f.Members[place].takeTime(next)
 	}
+	f.fill(row)
+	f.addLater(row)
 	return row, nil
 }
 

@@ -9,13 +9,31 @@ import (
 	"syncthing-audit/part"
 )
 
-// checkLooks says which device was looked at once, where others were twice.
+// checkLooks says which device was looked at once, where others were twice. An observer looks twice by itself: its parts go with those of devices that
+// are stopped.
 func checkLooks(devices []*Device) error {
-	for place := 1; place < len(devices); place++ {
-		one, other := devices[0], devices[place]
-		if (one.Head.Look == nil) == (other.Head.Look == nil) {
-			continue
+	for place, one := range devices {
+		for _, other := range devices[:place] {
+			if err := checkTwoLooks(one, other); err != nil {
+				return err
+			}
 		}
+	}
+	return nil
+}
+
+// checkTwoLooks says why the parts of two devices don't go together by their looks.
+func checkTwoLooks(one, other *Device) error {
+	isOverWire := one.Head.IsOverWire() || other.Head.IsOverWire()
+	switch {
+	case one.Head.IsOverWire() && other.Head.IsOverWire():
+		if one.Head.Look.ID != other.Head.Look.ID {
+			return fmt.Errorf("refused: %s and %s are of two runs of 'observe', which may be of two moments: observe all in one run", one.From, other.From)
+		}
+	case isOverWire && one.Head.Look != nil && other.Head.Look != nil:
+		return fmt.Errorf("refused: one of %s and %s is made by two looks at the device itself, and the other one over the wire: observe both, or stop the "+
+			"first device and make its part by 'part'", one.From, other.From)
+	case !isOverWire && (one.Head.Look == nil) != (other.Head.Look == nil):
 		if one.Head.Look == nil {
 			one, other = other, one
 		}
@@ -25,34 +43,44 @@ func checkLooks(devices []*Device) error {
 	return nil
 }
 
-// checkOrder refuses a second look that began before another device's first look was over. It can't name that look then.
-func (p *Plan) checkOrder(folder *Folder) {
+// outOfOrder gives the members of which one's second look may have begun before another one's first look was over. It can't name that look then.
+func outOfOrder(folder *Folder) []odds {
+	made := []odds{}
 	for _, one := range folder.Members {
 		for _, other := range folder.Members {
-			if one.Head.Look == nil || one.Head.Look.After[other.Head.Device] == other.Head.Look.ID {
+			if one.Head.Look == nil || other.Head.Look == nil || one.Head.Look.After[other.Head.Device] == other.Head.Look.ID {
 				continue
 			}
-			p.refuse("", folder, one.Head.Device, one.Head.Name, "its second look has no token of the first look of "+other.Label()+
-				", so it may have begun before that was over: make the second look of this one anew, with the tokens of all")
+			made = append(made, odds{one.Head.Device, other.Head.Device,
+				"its second look has no token of the first look of " + other.Label() +
+					", so it may have begun before that was over: make the second look of this one anew, with the tokens of all",
+				"the second look of " + one.Label() + " has no token of its first look, so that one may have begun before this one was over: make the second look " +
+					"of that one anew, with the tokens of all"})
 		}
 	}
+	return made
 }
 
 // ErrClocks says that the devices' clocks differ by more than the time between the looks.
 var ErrClocks = errors.New("by the devices' clocks the second looks began before the first ones were over")
 
-// IsLive says whether the folder was audited by two looks at each device.
-func (f *Folder) IsLive() bool { return len(f.Members) > 0 && f.Members[0].Head.Look != nil }
+// IsLive says whether the folder was audited by two looks at each device that ran.
+func (f *Folder) IsLive() bool {
+	return slices.IndexFunc(f.Members, func(one Member) bool { return one.Head.Look != nil }) >= 0
+}
 
 // Still gives how long it was between the last first look and the first second one, by the devices' clocks.
 func (f *Folder) Still() (time.Duration, error) {
 	var last, first time.Time
-	for place, one := range f.Members {
+	for _, one := range f.Members {
 		look := one.Head.Look
-		if place == 0 || look.At.After(last) {
+		if look == nil {
+			continue
+		}
+		if last.IsZero() || look.At.After(last) {
 			last = look.At
 		}
-		if place == 0 || look.Ended.Before(first) {
+		if first.IsZero() || look.Ended.Before(first) {
 			first = look.Ended
 		}
 	}
@@ -62,8 +90,11 @@ func (f *Folder) Still() (time.Duration, error) {
 	return first.Sub(last), nil
 }
 
-// IsMoving says whether a name changed at a member between its two looks.
+// IsMoving says whether a name changed at a member between its two looks, or after its part was made.
 func (r *Row) IsMoving() bool {
+	if len(r.Later) > 0 {
+		return true
+	}
 	for _, one := range r.At {
 		if one != nil && len(one.Moved) > 0 {
 			return true
@@ -84,8 +115,12 @@ func (f *Folder) IsUnheard(row *Row, knower, of int) bool {
 		if view.Device != f.Members[of].Head.Device {
 			continue
 		}
+		heard := view.Heard
+		if f.Members[knower].Head.Look == nil { // a stopped device hears of nothing more
+			heard = view.Max
+		}
 		seen := row.seen(knower, place)
-		return seen == nil || view.Heard < at.Own.Sequence || seen.Invalid != at.Own.Invalid || !slices.Equal(seen.Version, at.Own.Version)
+		return seen == nil || heard < at.Own.Sequence || seen.Invalid != at.Own.Invalid || !slices.Equal(seen.Version, at.Own.Version)
 	}
 	return true
 }

@@ -32,7 +32,7 @@ func TestOrderOfLooks(t *testing.T) {
 	}{
 		{"in order", func([]*Device) {}, ""},
 		{"a second look before a first one", func(d []*Device) { delete(d[0].Head.Look.After, d[2].Head.Device) }, "no token of the first look of"},
-		{"a first look that was made anew", func(d []*Device) { d[1].Head.Look.ID = "another" }, "no token of the first look of"},
+		{"a first look that was made anew", func(d []*Device) { d[1].Head.Look.ID = "another" }, "has no token of its first look"},
 		{"one that was looked at once", func(d []*Device) { d[1].Head.Look = nil }, "make all parts in the same way"},
 		{"all but one were looked at once", func(d []*Device) { d[0].Head.Look, d[1].Head.Look = nil, nil }, "make all parts in the same way"},
 		{"a device that knew more at its first look", func(d []*Device) {
@@ -49,7 +49,7 @@ func TestOrderOfLooks(t *testing.T) {
 		told := fmt.Sprint(err)
 		if err == nil {
 			told = ""
-			for _, refusal := range plan.Refusals {
+			for _, refusal := range append(plan.Refusals, plan.Earlier...) {
 				told += refusal.Why
 			}
 		}

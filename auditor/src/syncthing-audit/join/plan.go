@@ -9,7 +9,7 @@ import (
 	"syncthing-audit/part"
 )
 
-// Refusal is why something isn't audited. One of a kind can be left out on request; one without a kind can't.
+// Refusal is why something isn't audited.
 type Refusal struct {
 	Kind   string
 	Folder string
@@ -23,14 +23,25 @@ type Refusal struct {
 type Plan struct {
 	Devices  []*Device // their numbers rising
 	Folders  []*Folder
-	Refusals []Refusal
-	LeftOut  []Refusal // what is left out without being asked for
+	Refusals []Refusal // what isn't audited: it is left out, or refused by a strict audit
+	LeftOut  []Refusal // what is left out of a strict audit, too
+	Earlier  []Refusal // the parts of an earlier moment than others: names that changed since are in motion
 	IsByName bool      // whether the folders were asked for by their ids
+
+	isOut     map[placeOfFolder]bool // of what is left out
+	unreached map[string]string      // why devices have no part, by their ids
+	Observers []Observer             // that devices name; a device that was asked over the wire names none
 }
 
 // NewPlan says what is to be audited of these devices: the folders that are wanted, or all. Of what the refusals name, and of
-// what is left out, the devices and folders aren't in it.
-func NewPlan(devices []*Device, wanted []string) (*Plan, error) {
+// what is left out, the devices and folders aren't in it. Observers are known by their ids, or by the parts that they made.
+func NewPlan(devices []*Device, wanted []string, known ...string) (*Plan, error) {
+	return NewPlanWithout(nil, devices, wanted, known...)
+}
+
+// NewPlanWithout says the same where devices weren't reached, of which it is known why.
+func NewPlanWithout(unreached map[string]string, devices []*Device, wanted []string, known ...string) (*Plan, error) {
+	observers := takeOutObservers(devices, known)
 	sort.Slice(devices, func(a, b int) bool { return devices[a].Number < devices[b].Number })
 	if err := checkDevices(devices); err != nil {
 		return nil, err
@@ -42,7 +53,7 @@ func NewPlan(devices []*Device, wanted []string) (*Plan, error) {
 	if err != nil {
 		return nil, err
 	}
-	made := &Plan{Devices: devices, IsByName: len(wanted) > 0}
+	made := &Plan{Devices: devices, IsByName: len(wanted) > 0, isOut: map[placeOfFolder]bool{}, unreached: unreached, Observers: observers}
 	made.leaveOutAway(wanted)
 	for _, id := range ids {
 		for _, folder := range made.foldersOf(id) {
@@ -52,21 +63,23 @@ func NewPlan(devices []*Device, wanted []string) (*Plan, error) {
 			}
 		}
 	}
+	has := made.places()
 	for _, device := range devices {
 		id := device.Head.Device
-		device.Choose(func(folder string) bool { return made.has(folder, id) })
+		device.Choose(func(folder string) bool { return has[placeOfFolder{folder, id}] })
 	}
 	return made, checkDirectories(made.Folders)
 }
 
-// has says whether a folder is audited on a device.
-func (p *Plan) has(folder, device string) bool {
-	for _, one := range p.Folders {
-		if one.ID == folder && one.Member(device) >= 0 {
-			return true
+// places gives where folders are audited.
+func (p *Plan) places() map[placeOfFolder]bool {
+	made := map[placeOfFolder]bool{}
+	for _, folder := range p.Folders {
+		for _, one := range folder.Members {
+			made[placeOfFolder{folder.ID, one.Head.Device}] = true
 		}
 	}
-	return false
+	return made
 }
 
 // checkDevices says whether two parts are one device's, or were made with other names.
@@ -124,7 +137,7 @@ func (p *Plan) foldersOf(id string) []*Folder {
 	return made.split()
 }
 
-// check refuses what can't be audited of a folder, and says whether it is audited as a whole.
+// check leaves out what can't be audited of a folder, and says whether something of it is audited.
 func (p *Plan) check(folder *Folder) bool {
 	before := len(p.Refusals)
 	p.checkWhole(folder)
@@ -136,12 +149,10 @@ func (p *Plan) check(folder *Folder) bool {
 		return false
 	}
 	p.checkApart(folder)
-	if !p.checkSharing(folder, encrypted) {
-		return false
-	}
+	p.checkSharing(folder, encrypted)
+	p.partBy(part.Moment, folder, outOfOrder)
 	p.checkMoments(folder)
-	p.checkOrder(folder)
-	return true
+	return len(folder.Members) > 0
 }
 
 // refuse adds a refusal.
@@ -155,33 +166,8 @@ func (p *Plan) checkWhole(folder *Folder) {
 		p.refuse(part.OddName, folder, "", "", "its id isn't 1 to 64 ASCII letters, digits, '-' and '_'")
 	}
 	if len(folder.Members) > limits.MostDevices {
-		p.refuse("", folder, "", "", fmt.Sprintf("%d devices, at most %d go into a document", len(folder.Members), limits.MostDevices))
+		p.refuse(part.Large, folder, "", "", fmt.Sprintf("%d devices, at most %d go into a document", len(folder.Members), limits.MostDevices))
 	}
-}
-
-// checkSharing refuses a device without a part. It also refuses a folder that one device shares with another, if the other
-// is here and doesn't share it back. It says whether there is no such folder. Of those on which it is encrypted it says nothing.
-func (p *Plan) checkSharing(folder *Folder, encrypted map[string]bool) bool {
-	absent := map[string]bool{}
-	isShared := true
-	for _, one := range folder.Members {
-		for _, other := range one.About.Sharing {
-			at := folder.Member(other.Device)
-			switch {
-			case encrypted[other.Device], at < 0 && p.IsLeftOut(folder.ID, other.Device):
-			case at >= 0 && !sharesWith(folder.Members[at].About, one.Head.Device):
-				isShared = false
-				p.refuse(part.Unshared, folder, other.Device, other.Name, "it doesn't share the folder with "+one.Label()+", which shares it with this one")
-			case at < 0 && p.device(other.Device) != nil:
-				isShared = false
-				p.refuse(part.Unshared, folder, other.Device, other.Name, p.device(other.Device).whyWithout(folder.ID)+"; "+one.Label()+" shares it with this one")
-			case at < 0 && !absent[other.Device]:
-				absent[other.Device] = true
-				p.refuse(part.Absent, folder, other.Device, other.Name, "it shares the folder, and no home or part of it is given ("+other.Device+")")
-			}
-		}
-	}
-	return isShared
 }
 
 // device gives the device with this id, if a part of it is here.
@@ -196,10 +182,8 @@ func (p *Plan) device(id string) *Device {
 
 // whyWithout says why a device's part hasn't a folder, as far as the part says that.
 func (d *Device) whyWithout(folder string) string {
-	for _, one := range d.Head.Others {
-		if one.ID == folder {
-			return "its part is without the folder: make it without --folder, or with it for this one, too"
-		}
+	if d.Head.Other(folder) != nil {
+		return "its part is without the folder: make it without --folder, or with it for this one, too"
 	}
 	if d.Head.Others == nil {
 		return "it doesn't share the folder, or its part is without it"
@@ -217,31 +201,12 @@ func sharesWith(about *part.Folder, device string) bool {
 	return false
 }
 
-// checkMoments refuses parts that can't be of one moment: a device knows more of another one's index than that one's
-// part has.
-func (p *Plan) checkMoments(folder *Folder) {
-	for _, one := range folder.Members {
-		for _, view := range one.About.Views {
-			at := folder.Member(view.Device)
-			if at < 0 {
-				continue
-			}
-			other := folder.Members[at]
-			if view.IndexID == other.About.IndexID && view.Max > other.About.Max {
-				p.refuse("", folder, other.Head.Device, other.Head.Name, fmt.Sprintf(whyEarlier(other.Head), one.From, view.Max, other.About.Max))
-			}
-		}
+// behind gives a path to stand behind a word; nothing where a part doesn't tell it.
+func behind(path string) string {
+	if path == "" {
+		return ""
 	}
-}
-
-// whyEarlier says why a part can't be of the moment of another one.
-func whyEarlier(head *part.Head) string {
-	if head.Look != nil {
-		return "%s knew of its change %d at its first look, and at this one's second look, which came later, its last one is %d: " +
-			"was an older home put in its place, or a copy looked at?"
-	}
-	return "it is of an earlier moment than %s, which knows of its change %d, and here its last one is %d: stop both devices, then make " +
-		"the part of this one anew"
+	return " " + path
 }
 
 // checkDirectories refuses two devices that have one and the same directory, be it for one folder or for two. The
@@ -260,8 +225,8 @@ func checkDirectories(folders []*Folder) error {
 		for _, one := range folder.Members {
 			other, taken := seen[one.About.Directory]
 			if taken && other.Device != one.Device {
-				return fmt.Errorf("refused: folder %s, %s: its directory %s is that of %s for folder %s, too. A copied home's "+
-					"config.xml is to name the directory of the copied folder", folder.Called(), one.Label(), one.About.Path, other.Label(), other.folder)
+				return fmt.Errorf("refused: folder %s, %s: its directory%s is that of %s for folder %s, too. A copied home's "+
+					"config.xml is to name the directory of the copied folder", folder.Called(), one.Label(), behind(one.About.Path), other.Label(), other.folder)
 			}
 			seen[one.About.Directory] = owner{one, folder.Called()}
 		}

@@ -52,6 +52,9 @@ func refused(plan *Plan) string {
 	for _, one := range plan.LeftOut {
 		words = append(words, "left-out:"+one.Kind)
 	}
+	for _, one := range plan.Earlier {
+		words = append(words, "earlier:"+one.Kind)
+	}
 	return strings.Join(words, " ")
 }
 
@@ -68,12 +71,14 @@ func TestSharing(t *testing.T) {
 		{"alone", map[byte]string{1: "1"}, unchanged, "", 1},
 		{"a part is missing", map[byte]string{1: "12"}, unchanged, part.Absent, 1},
 		{"one that two miss is told once", map[byte]string{1: "123", 2: "123"}, unchanged, part.Absent, 2},
-		{"not shared back", map[byte]string{1: "12", 2: "2"}, unchanged, part.Unshared, 0},
+		{"not shared back", map[byte]string{1: "12", 2: "2"}, unchanged, part.Unshared, 1},
 		{"two that share it with nobody", map[byte]string{1: "1", 2: "2"}, unchanged, "", 2},
 		{"one beside two that share it", map[byte]string{1: "1", 2: "23", 3: "23"}, unchanged, "left-out:unshared", 2},
 		{"two beside three by way of one that is missing", map[byte]string{1: "12", 2: "12", 3: "39", 4: "49", 5: "59"}, unchanged,
 			"unshared unshared absent", 3},
-		{"not shared back, by one that others share it with", map[byte]string{1: "12", 2: "23", 3: "23"}, unchanged, part.Unshared, 0},
+		{"not shared back, by one that others share it with", map[byte]string{1: "12", 2: "23", 3: "23"}, unchanged, part.Unshared, 2},
+		{"not shared back by two", map[byte]string{1: "1234", 2: "124", 3: "34", 4: "1234"}, unchanged, part.Unshared, 3},
+		{"of three in a circle, each with the next", map[byte]string{1: "2", 2: "3", 3: "1"}, unchanged, "unshared unshared", 1},
 		{"encrypted", map[byte]string{1: "12", 2: "12"}, func(device byte, folder *part.Folder) {
 			if device == 2 {
 				folder.Kind = "encrypted"
@@ -180,27 +185,6 @@ func TestWhyAPartIsWithoutAFolder(t *testing.T) {
 		plan, err := NewPlan(devices, nil)
 		if err != nil || len(plan.Refusals) != 1 || !strings.HasPrefix(plan.Refusals[0].Why, told) {
 			t.Errorf("%v, %v", plan.Refusals, err)
-		}
-	}
-}
-
-func TestMoments(t *testing.T) {
-	cases := []struct {
-		why     string
-		indexID uint64
-		max     int64
-		refused bool
-	}{
-		{"as far as the index goes", 2, 5, false}, {"behind it", 2, 4, false}, {"ahead of it", 2, 6, true}, {"of an index that is gone", 9, 6, false},
-	}
-	for _, one := range cases {
-		plan, err := NewPlan(sharing(map[byte]string{1: "12", 2: "12"}, func(device byte, folder *part.Folder) {
-			if device == 1 {
-				folder.Views = []part.View{{Device: deviceID(2), IndexID: one.indexID, Max: one.max}}
-			}
-		}), nil)
-		if err != nil || (len(plan.Refusals) > 0) != one.refused {
-			t.Errorf("%s: %v, %v", one.why, plan.Refusals, err)
 		}
 	}
 }

@@ -16,10 +16,15 @@ type savedMember struct {
 	Temporary *part.Count `json:",omitempty"`
 	Linked    *part.Count `json:",omitempty"`
 	ToIgnore  int64       `json:",omitempty"`
+	Unseen    *Unseen     `json:",omitempty"`
 }
 
 func (m Member) MarshalJSON() ([]byte, error) {
-	return json.Marshal(savedMember{m.Head, m.From, m.About, m.Near, m.Temporary, m.Linked, m.ToIgnore})
+	saved := savedMember{m.Head, m.From, m.About, m.Near, m.Temporary, m.Linked, m.ToIgnore, nil}
+	if m.Unseen != (Unseen{}) {
+		saved.Unseen = &m.Unseen
+	}
+	return json.Marshal(saved)
 }
 
 func (m *Member) UnmarshalJSON(text []byte) error {
@@ -32,5 +37,8 @@ func (m *Member) UnmarshalJSON(text []byte) error {
 		m.Number = read.Head.Number()
 	}
 	m.About, m.Near, m.Temporary, m.Linked, m.ToIgnore = read.About, read.Near, read.Temporary, read.Linked, read.ToIgnore
+	if read.Unseen != nil {
+		m.Unseen = *read.Unseen
+	}
 	return nil
 }

@@ -20,11 +20,6 @@ func (c Claim) IsBelow(other Claim) bool {
 	return part.IsAtMost(c.Version, other.Version) && !part.IsAtMost(other.Version, c.Version)
 }
 
-// IsOfOneVersion says whether two claims have one version. Syncthing never exchanges such ones, whatever else they say.
-func (c Claim) IsOfOneVersion(other Claim) bool {
-	return part.IsAtMost(c.Version, other.Version) && part.IsAtMost(other.Version, c.Version)
-}
-
 // Wins says whether Syncthing keeps this one of two claims: the one on top; else by its WinsConflict what isn't deleted, the later one, and at equal
 // times the one whose version goes first. Of three claims each may win against the next one in a circle: Winner says what is to be done then.
 func (c Claim) Wins(other Claim) bool {

@@ -225,3 +225,8 @@ func told(row *Row) string {
 	}
 	return text
 }
+
+// IsOfOneVersion says whether two claims have one version. Syncthing never exchanges such ones, whatever else they say.
+func (c Claim) IsOfOneVersion(other Claim) bool {
+	return part.IsAtMost(c.Version, other.Version) && part.IsAtMost(other.Version, c.Version)
+}

@@ -9,6 +9,7 @@ import (
 	"path/filepath"
 	"sync"
 	"syscall"
+	"time"
 
 	"golang.org/x/sys/unix"
 )
@@ -34,26 +35,8 @@ func Place() string {
 	return os.TempDir()
 }
 
-// New makes a file for its user alone at a path where nothing is yet, to be gone in the end unless it is kept.
-func New(path string) (*os.File, error) {
-	mutex.Lock()
-	defer mutex.Unlock()
-	file, err := os.OpenFile(path, os.O_WRONLY|os.O_CREATE|os.O_EXCL, 0o600)
-	if err == nil {
-		paths[path] = true
-	}
-	return file, err
-}
-
-// At makes a directory at a path, with those above it that aren't there. Those that it makes are gone in the end unless they are kept, or
+// makeAt makes a directory at a path, those above it that aren't there first. Those that it makes are gone in the end unless they are kept, or
 // something is in them.
-func At(path string) error {
-	mutex.Lock()
-	defer mutex.Unlock()
-	return makeAt(path)
-}
-
-// makeAt makes a directory, those above it first.
 func makeAt(path string) error {
 	err := os.Mkdir(path, 0o777)
 	if above := filepath.Dir(path); os.IsNotExist(err) && above != path {
@@ -69,23 +52,6 @@ func makeAt(path string) error {
 		made = append(made, path)
 	}
 	return err
-}
-
-// Keep has these files stay, and the directories that were made at paths.
-func Keep(all []string) {
-	mutex.Lock()
-	defer mutex.Unlock()
-	made = nil
-	for _, path := range all {
-		delete(paths, path)
-	}
-}
-
-// RemoveMade takes away the directories that were made at paths, but for those in which something is.
-func RemoveMade() {
-	mutex.Lock()
-	defer mutex.Unlock()
-	removeMade()
 }
 
 // removeMade takes them away, each before the one above it.
@@ -118,9 +84,18 @@ func Run(program *exec.Cmd) error {
 func Remove(path string) {
 	mutex.Lock()
 	defer mutex.Unlock()
-	os.RemoveAll(path)
+	removeWhole(path)
 	unlock(path)
 	delete(paths, path)
+}
+
+// removeWhole takes away a file or a directory. A disk or a network may fail once: then it is tried again.
+func removeWhole(path string) error {
+	err := os.RemoveAll(path)
+	for round := 0; round < 3 && err != nil; round++ {
+		err = os.RemoveAll(path)
+	}
+	return err
 }
 
 // WatchSignals has a signal that ends the program take away all that was made first. A signal that is ignored, as
@@ -161,11 +136,30 @@ func removeAll() {
 	for one := range processes {
 		one.Kill()
 	}
-	for path := range paths {
-		// A second time, since another thread may have written into a directory meanwhile.
-		if os.RemoveAll(path) != nil {
-			os.RemoveAll(path)
-		}
-	}
+	removeUntilGone(paths)
 	removeMade()
+}
+
+// How often what was made is taken away, and how long it is to stay away.
+const (
+	mostRounds = 100
+	quietTime  = 10 * time.Millisecond
+)
+
+// removeUntilGone takes all away. Other threads go on meanwhile: an index that is being opened makes its directory anew, say. So all is taken away again
+// until nothing comes back. What a thread then does to take away what it made waits for the lock.
+func removeUntilGone(paths map[string]bool) {
+	for round := 0; round < mostRounds; round++ {
+		isGone := true
+		for path := range paths {
+			if _, err := os.Lstat(path); !os.IsNotExist(err) {
+				isGone = false
+				os.RemoveAll(path)
+			}
+		}
+		if isGone && round > 0 {
+			return
+		}
+		time.Sleep(quietTime)
+	}
 }

@@ -27,6 +27,9 @@ func TestMain(tests *testing.M) {
 	if os.Getenv(makingOfChild) != "" {
 		makeForever(room)
 	}
+	if os.Getenv(stagingOfChild) != "" {
+		stageAndWait(room)
+	}
 	directory, _ := Directory()
 	os.WriteFile(filepath.Join(directory, "inside"), nil, 0o600)
 	if os.Getenv(pipesOfChild) != "" {
@@ -34,8 +37,8 @@ func TestMain(tests *testing.M) {
 	}
 	Unnamed()
 	NewWhole(room)
-	At(filepath.Join(room, "above", "asked"))
-	New(filepath.Join(room, "above", "asked", "file"))
+	staged, _ := NewStaged(filepath.Join(room, "above", "asked"))
+	staged.New("file")
 	program := exec.Command("sh", "-c", "echo "+directory+"; exec sleep 60")
 	program.Stdout = os.Stdout
 	fmt.Println(Run(program))
@@ -133,40 +136,6 @@ func TestRemove(t *testing.T) {
 	}
 	if _, err := os.Stat(path); !os.IsNotExist(err) || len(paths) != 0 {
 		t.Errorf("%s is there still, or noted: %v", path, paths)
-	}
-}
-
-// A directory that was asked for goes with those above it that were made for it, unless it is kept or something is in it.
-func TestDirectoriesAtPaths(t *testing.T) {
-	room := t.TempDir()
-	for _, one := range []struct {
-		end  func()
-		left bool
-		why  string
-	}{
-		{RemoveMade, false, "nothing is in it"},
-		{func() { Keep(nil); RemoveMade() }, true, "it is kept"},
-		{func() { os.WriteFile(filepath.Join(room, "above", "asked", "other"), nil, 0o600); RemoveMade() }, true, "something else is in it"},
-	} {
-		path := filepath.Join(room, "above", "asked")
-		for again := 0; again < 2; again++ {
-			if err := At(path); err != nil {
-				t.Fatal(err)
-			}
-		}
-		one.end()
-		_, err := os.Stat(filepath.Dir(path))
-		if _, there := os.Stat(room); (err == nil) != one.left || there != nil || len(made) != 0 {
-			t.Errorf("%s: %v, %v", one.why, err, made)
-		}
-		os.RemoveAll(filepath.Dir(path))
-	}
-	os.WriteFile(filepath.Join(room, "file"), nil, 0o600)
-	if err := At(filepath.Join(room, "file", "below")); err == nil {
-		t.Error("a directory below a file is made")
-	}
-	if err := At(filepath.Join(room, "file")); !os.IsExist(err) {
-		t.Errorf("at a file: %v", err)
 	}
 }
 

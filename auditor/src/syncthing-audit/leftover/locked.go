@@ -1,6 +1,7 @@
 package leftover
 
 import (
+	"errors"
 	"os"
 	"path/filepath"
 	"strings"
@@ -14,6 +15,11 @@ const (
 	prefixOfFile      = ".syncthing-audit-locked-"
 )
 
+// mostTries is how often something is made anew that another run took away, or that isn't seen to be there.
+const mostTries = 100
+
+var errTaken = errors.New("what was just made for this run alone isn't there any more, time and again: see what takes it away, or name another place by TMPDIR")
+
 // locks are the open directories that hold the locks, by their paths.
 var locks = map[string]*os.File{}
 
@@ -21,9 +27,14 @@ var locks = map[string]*os.File{}
 func Directory() (string, error) {
 	mutex.Lock()
 	defer mutex.Unlock()
-	sweep(Place(), prefixOfDirectory)
-	for {
-		path, err := os.MkdirTemp(Place(), prefixOfDirectory)
+	return makeLocked(Place(), prefixOfDirectory)
+}
+
+// makeLocked makes such a directory, and takes away what killed runs left beside it.
+func makeLocked(place, prefix string) (string, error) {
+	sweep(place, prefix)
+	for try := 0; try < mostTries; try++ {
+		path, err := os.MkdirTemp(place, prefix)
 		if err != nil {
 			return "", err
 		}
@@ -32,8 +43,11 @@ func Directory() (string, error) {
 			locks[path] = lock
 			return path, nil
 		}
-		delete(paths, path) // a run that started took it for one without a maker
+		// A run that started took it for one without a maker, or it can't be seen that none did.
+		os.Remove(path)
+		delete(paths, path)
 	}
+	return "", errTaken
 }
 
 // lockOf locks what was just made at a path, and says whether it is there still. Where a file system has no locks there is none, and nobody takes
@@ -85,7 +99,7 @@ func sweepOne(path string) {
 		return
 	}
 	if syscall.Flock(int(file.Fd()), syscall.LOCK_EX|syscall.LOCK_NB) == nil && isAt(file, path) {
-		os.RemoveAll(path)
+		removeWhole(path)
 	}
 }
 

@@ -55,7 +55,7 @@ func NewWhole(directory string) (*Whole, error) {
 	}
 	mutex.Lock()
 	defer mutex.Unlock()
-	for {
+	for try := 0; try < mostTries; try++ {
 		file, err := os.CreateTemp(directory, prefixOfFile)
 		if err != nil {
 			return nil, err
@@ -65,22 +65,42 @@ func NewWhole(directory string) (*Whole, error) {
 			paths[file.Name()] = true
 			return &Whole{file, file.Name()}, nil
 		}
-		file.Close() // a run that started took it for one without a maker
+		os.Remove(file.Name()) // a run that started took it for one without a maker, or it can't be seen that none did
+		file.Close()
 	}
+	return nil, errTaken
 }
 
 // Put has the file stand at a path, in place of another file that is there, once all its bytes are on the disk.
 func (w *Whole) Put(path string) error {
+	return w.putBy(w.put, path)
+}
+
+// PutNew has the file stand at a path at which nothing is, once all its bytes are on the disk. Where something is there, that stays, and the error
+// is os.ErrExist.
+func (w *Whole) PutNew(path string) error {
+	return w.putBy(w.putNew, path)
+}
+
+// putBy puts it, and has it be on the disk before and after that.
+func (w *Whole) putBy(put func(string) error, path string) error {
 	if err := w.Sync(); err != nil && !errors.Is(err, syscall.EINVAL) && !errors.Is(err, syscall.ENOTSUP) {
 		return err
 	}
 	mutex.Lock()
 	defer mutex.Unlock()
-	err := w.put(path)
+	err := put(path)
 	if err == nil {
 		syncDirectory(filepath.Dir(path))
 	}
 	return err
+}
+
+func (w *Whole) putNew(path string) error {
+	if w.path == "" {
+		return w.link(path)
+	}
+	return os.Link(w.path, path) // its other name goes as it is dropped
 }
 
 func (w *Whole) put(path string) error {

@@ -1,20 +1,21 @@
 package looks
 
 import (
+	"errors"
 	"fmt"
 	"io"
 	"reflect"
 
 	"golang.org/x/exp/slices"
 	"syncthing-audit/part"
-	"syncthing-audit/shell"
 )
 
 // Stream gives a device's lines as they were at both of two looks, and which names changed between them.
 type Stream struct {
 	first, second *reading
 	head          *part.Head
-	folder        int // the place of the one whose names these are
+	kept          map[string]bool // the folders that are joined
+	folder        int             // the place of the one whose names these are
 	names         int64
 }
 
@@ -52,21 +53,12 @@ func Join(first, second part.Stream) (*Stream, error) {
 	case one.Names != other.Names:
 		return nil, fmt.Errorf("the first look is at %s, and the second one at %s: make both with the same %s", one.Names.Words(), other.Names.Words(),
 			one.Unlike(other.Names))
-	case len(one.Folders) != len(other.Folders):
-		return nil, fmt.Errorf("the two looks are at other folders: make both with the same --folder, and mount or take away no folder's disk meanwhile")
 	}
 	made := &Stream{first: &reading{Stream: first}, second: &reading{Stream: second}, folder: -1}
 	head := *one
 	head.Look = &part.Look{Home: one.Look.Home, ID: one.Look.ID, After: other.Look.After, At: one.Look.At, Ended: other.Look.At}
-	head.Folders = nil
-	for place := range one.Folders {
-		folder, err := joinFolder(&one.Folders[place], &other.Folders[place])
-		if err != nil {
-			return nil, err
-		}
-		head.Folders = append(head.Folders, *folder)
-	}
 	made.head = &head
+	made.joinFolders()
 	return made, nil
 }
 
@@ -74,16 +66,14 @@ func Join(first, second part.Stream) (*Stream, error) {
 // greatest sequences of its views are of both.
 func joinFolder(one, other *part.Folder) (*part.Folder, error) {
 	switch {
-	case one.ID != other.ID:
-		return nil, fmt.Errorf("the two looks are at other folders: make both with the same --folder, and mount or take away no folder's disk meanwhile")
 	case one.IndexID != other.IndexID:
-		return nil, fmt.Errorf("folder %s: its index was made anew between the two looks: begin again", shell.Folder(one.ID, one.Label))
+		return nil, errors.New("its index was made anew between the two looks: begin again")
 	case one.Max > other.Max:
-		return nil, fmt.Errorf("folder %s: its index went back from change %d to %d between the two looks: begin again", shell.Folder(one.ID, one.Label), one.Max, other.Max)
+		return nil, fmt.Errorf("its index went back from change %d to %d between the two looks: begin again", one.Max, other.Max)
 	case one.Directory != other.Directory || one.Kind != other.Kind || one.IgnoresPermissions != other.IgnoresPermissions ||
 		one.ScansAttributes != other.ScansAttributes || one.TimeWindow != other.TimeWindow ||
 		!reflect.DeepEqual(one.Sharing, other.Sharing):
-		return nil, fmt.Errorf("folder %s: its configuration changed between the two looks: begin again", shell.Folder(one.ID, one.Label))
+		return nil, errors.New("its configuration changed between the two looks: begin again")
 	}
 	made := *one
 	made.Max, made.Paused, made.PausedDevices, made.Rest = other.Max, other.Paused, other.PausedDevices, other.Rest
@@ -106,16 +96,16 @@ func (s *Stream) Head() *part.Head { return s.head }
 
 // Next gives the next line; io.EOF behind the last.
 func (s *Stream) Next() (part.Line, error) {
-	one, err := s.first.peek()
+	one, err := s.first.next(s.kept)
 	if err == io.EOF {
-		if _, left := s.second.peek(); left != io.EOF {
+		if _, left := s.second.next(s.kept); left != io.EOF {
 			return part.Line{}, fmt.Errorf("its second look goes on where the first one ends: %v", left)
 		}
 	}
 	if err != nil {
 		return part.Line{}, err
 	}
-	other, err := s.second.peek()
+	other, err := s.second.next(s.kept)
 	if err != nil {
 		return part.Line{}, fmt.Errorf("its second look: %w", err)
 	}
@@ -159,6 +149,9 @@ func onlyOnce(one *part.Name) *part.Name {
 	if one.IsIgnored() {
 		return &part.Name{Name: one.Name, Disk: one.Disk, Out: one.Out}
 	}
+	if lost := lostBy(one); len(lost) > 0 {
+		return &part.Name{Name: one.Name, Out: lost}
+	}
 	made := &part.Name{Name: one.Name, Moved: one.Moved}
 	add := func(is bool, why string) {
 		if is && !slices.Contains(made.Moved, why) {
@@ -172,10 +165,26 @@ func onlyOnce(one *part.Name) *part.Name {
 	return made
 }
 
+// lostBy gives what a disk itself fails to give of a name. Nobody's change does that, so such a name isn't in motion.
+func lostBy(name *part.Name) []part.LeftOut {
+	var lost []part.LeftOut
+	for _, out := range name.Out {
+		if out.Kind == part.Damaged {
+			lost = append(lost, out)
+		}
+	}
+	return lost
+}
+
 // both gives a name that both looks have: as it is where it is still, or what changed.
 func (s *Stream) both(one, other *part.Name) *part.Name {
 	if one.IsIgnored() && other.IsIgnored() {
 		return s.still(one)
+	}
+	if lost := lostBy(other); len(lost) > 0 && !one.IsDamaged() {
+		made := s.still(one)
+		made.Moved, made.Out = nil, append(append([]part.LeftOut(nil), one.Out...), lost...)
+		return made
 	}
 	moved := append([]string(nil), one.Moved...)
 	add := func(is bool, why string) {
@@ -189,7 +198,7 @@ func (s *Stream) both(one, other *part.Name) *part.Name {
 	if len(moved) == 0 {
 		sameDisk := one.Disk.Mark() == other.Disk.Mark()
 		add(!reflect.DeepEqual(one.Own, other.Own), part.MovedRecord)
-		add(!reflect.DeepEqual(s.first.viewsOf(one, s.folder), s.second.viewsOf(other, s.folder)), part.MovedViews)
+		add(!reflect.DeepEqual(s.first.viewsOf(one, s.head.Folders[s.folder].ID), s.second.viewsOf(other, s.head.Folders[s.folder].ID)), part.MovedViews)
 		add(one.Receiving != other.Receiving, part.MovedReceiving)
 		add(!sameDisk || !isOutAlike(one, other), part.MovedDisk)
 		add(len(one.Out) == 0 && sameDisk && !one.IsAsRecorded(s.head.Folders[s.folder].Window()), part.MovedUnscanned)
@@ -229,10 +238,10 @@ type seen struct {
 }
 
 // viewsOf gives the records of a name's views, by device.
-func (r *reading) viewsOf(one *part.Name, folder int) map[string]seen {
+func (r *reading) viewsOf(one *part.Name, folder string) map[string]seen {
 	made := map[string]seen{}
 	for _, view := range one.Views {
-		of := r.Head().Folders[folder].Views[view.View]
+		of := r.Head().Folder(folder).Views[view.View]
 		made[of.Device] = seen{of.IndexID, *view.Record}
 	}
 	return made

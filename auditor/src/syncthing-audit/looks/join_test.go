@@ -245,7 +245,7 @@ func TestHeadOfBothLooks(t *testing.T) {
 	}
 }
 
-// Looks that don't belong together, or between which more changed than names, are refused.
+// Looks that don't belong together are refused.
 func TestLooksThatAreRefused(t *testing.T) {
 	cases := []struct {
 		why    string
@@ -261,13 +261,6 @@ func TestLooksThatAreRefused(t *testing.T) {
 			first.Names, second.Names = choice.Names{Slice: 1, Slices: 7}, choice.Names{Slice: 2, Slices: 7}
 		}},
 		{"a slice, and all names", func(first, _ *part.Head) { first.Names = choice.Names{Slice: 1, Slices: 7} }},
-		{"no folder", func(_, second *part.Head) { second.Folders = nil }},
-		{"another folder", func(_, second *part.Head) { second.Folders[0].ID = "pics" }},
-		{"a new index", func(_, second *part.Head) { second.Folders[0].IndexID++ }},
-		{"an older index", func(_, second *part.Head) { second.Folders[0].Max-- }},
-		{"another directory", func(_, second *part.Head) { second.Folders[0].Directory = "y" }},
-		{"another kind", func(_, second *part.Head) { second.Folders[0].Kind = "send-only" }},
-		{"shared with others", func(_, second *part.Head) { second.Folders[0].Sharing = nil }},
 	}
 	for _, one := range cases {
 		first, second := firstLook(), secondLook()

@@ -12,6 +12,7 @@ import (
 	"sort"
 
 	"github.com/syncthing/syncthing/lib/protocol"
+	"syncthing-audit/device"
 	"syncthing-audit/disk"
 	"syncthing-audit/limits"
 	"syncthing-audit/part"
@@ -36,7 +37,7 @@ type name struct {
 	Out     *part.LeftOut `json:"out,omitempty"`
 	State   wire.State    `json:"state,omitempty"`
 	Content *part.Content `json:"content,omitempty"`
-	Differ  []int         `json:"differ,omitempty"`
+	Differ  *part.Differ  `json:"differ,omitempty"`
 }
 
 func main() {
@@ -102,7 +103,11 @@ func askAgain(ctx context.Context, observer *wire.Observer, made *told, id proto
 	if err != nil {
 		return err
 	}
-	made.SinceThen = len(since.Entries)
+	count, err := since.Count()
+	if err != nil {
+		return err
+	}
+	made.SinceThen = int(count)
 	made.Asked += connection.Asked()
 	return nil
 }
@@ -110,16 +115,19 @@ func askAgain(ctx context.Context, observer *wire.Observer, made *told, id proto
 // names gives all names of an index with what is found of them.
 func names(ctx context.Context, connection *wire.Connection, index *wire.Index) ([]name, error) {
 	made := []name{}
-	for of, entry := range index.Entries {
-		if limits.CheckName(of) != nil {
-			made = append(made, name{Name: part.Bytes(of), Out: entry.Out})
+	err := index.Each(func(entry device.Entry) error {
+		if limits.CheckName(entry.Name) != nil {
+			made = append(made, name{Name: part.Bytes(entry.Name), Out: entry.Out})
 		}
+		return nil
+	})
+	if err != nil {
+		return nil, err
 	}
-	err := connection.Bytes(ctx, index, func(of string, found wire.Found) error {
-		entry := index.Entries[of]
-		one := name{Name: part.Bytes(of), Own: entry.Record, Out: entry.Out, State: found.State, Differ: found.Differ}
-		if found.State == wire.Same || found.State == wire.Differs {
-			one.Content = &part.Content{Size: found.Size, BlockSize: entry.Record.Content.BlockSize, Hash: disk.HashOf(found.Blocks)}
+	err = connection.Bytes(ctx, index, func(string) bool { return true }, func(entry device.Entry, found wire.Found) error {
+		one := name{Name: part.Bytes(entry.Name), Own: entry.Record, Out: entry.Out, State: found.State, Differ: found.Differ}
+		if found.Blocks != nil {
+			one.Content = &part.Content{Size: found.Size, BlockSize: found.BlockSize, Hash: disk.HashOf(found.Blocks)}
 		}
 		made = append(made, one)
 		return nil

@@ -12,7 +12,7 @@ import (
 // A part of a slice has a version that a program of 0.10.0 or before refuses: it would take the slice's names for all. Others have the
 // version that they had.
 func TestVersions(t *testing.T) {
-	const other = "by what it says of looks and slices"
+	const other = "by what it says of looks, slices, disks and the wire"
 	first := &Look{Home: "home", ID: strings.Repeat("0", 32), At: time.Unix(0, 0)}
 	begun, sliced := choice.Names{Prefix: "a"}, choice.Names{Slice: 3, Slices: 7}
 	for _, one := range []struct {
@@ -23,7 +23,7 @@ func TestVersions(t *testing.T) {
 	}{
 		{choice.Names{}, nil, 1, ""}, {begun, nil, 1, ""}, {begun, first, 2, ""}, {sliced, nil, 3, ""}, {sliced, first, 3, ""},
 		{sliced, nil, 1, other}, {sliced, first, 2, other}, {begun, nil, 3, other}, {begun, nil, 2, other}, {begun, first, 1, other},
-		{begun, nil, 4, "reads versions 1 to 3"}, {begun, nil, 0, "reads versions 1 to 3"},
+		{begun, nil, 6, "reads versions 1 to 5"}, {begun, nil, 0, "reads versions 1 to 5"}, {begun, nil, 4, other}, {begun, nil, 5, other},
 		{choice.Names{Slice: 8, Slices: 7}, nil, 3, "it has slice 8 of 7"}, {choice.Names{Slice: 1, Slices: 1}, nil, 3, "it has slice 1 of 1"},
 		{choice.Names{Slice: 3}, nil, 1, "it has slice 3 of 0"}, {sliced, &Look{Home: "home"}, 3, "look is none"},
 	} {

@@ -23,6 +23,7 @@ const (
 	MovedViews     = "views"     // what it knows of another device's
 	MovedDisk      = "disk"      // what stands on the disk
 	MovedReceiving = "receiving" // the temporary file of what is being received
+	MovedLater     = "later"     // what changed after the part was made, as another device knows; no part says this of itself
 	MovedUnscanned = "unscanned" // the disk isn't as the record says, by kind, size, time or target
 )
 
@@ -34,6 +35,12 @@ func (l *Look) IsSecond() bool { return l.ID == "" && l.After != nil }
 
 // checkLook says why a look is none.
 func checkLook(head *Head) error {
+	if head.Half != nil {
+		return checkHalfHead(head)
+	}
+	if head.Wire != nil {
+		return checkWireLook(head)
+	}
 	if head.Look != nil && (head.Look.Home == "" || head.Look.IsFirst() == head.Look.IsSecond()) {
 		return errors.New("the part's look is none")
 	}
@@ -71,6 +78,25 @@ func (n *Name) IsAsRecorded(window time.Duration) bool {
 func (n *Name) IsDamaged() bool {
 	return n.Disk != nil && n.Disk.Lost != "" || slices.IndexFunc(n.Out, func(out LeftOut) bool { return out.Kind == Damaged }) >= 0
 }
+
+// HasOtherBytes says whether a file on the disk has other bytes than recorded. A part may say it without which blocks differ: a walk of disks knows no
+// record.
+func (n *Name) HasOtherBytes() bool {
+	own, disk := n.Own, n.Disk
+	if own == nil || own.Content == nil || disk == nil {
+		return false
+	}
+	for _, found := range disk.Contents {
+		isOneBlock := CountOfBlocks(own.Content.Size, own.Content.BlockSize) == 1 && CountOfBlocks(found.Size, found.BlockSize) == 1
+		if found.BlockSize == own.Content.BlockSize || isOneBlock {
+			return found.Size != own.Content.Size || found.Hash != own.Content.Hash
+		}
+	}
+	return disk.Differ != nil
+}
+
+// WhyIgnored says why a name is left out that .stignore keeps out.
+const WhyIgnored = "it is ignored there by .stignore"
 
 // IsIgnored says whether .stignore keeps a name out of the folder at the device, whatever its file does.
 func (n *Name) IsIgnored() bool {

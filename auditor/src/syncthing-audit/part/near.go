@@ -3,7 +3,7 @@ package part
 import (
 	"time"
 
-	"github.com/syncthing/syncthing/lib/protocol"
+	"syncthing-audit/bep"
 )
 
 // Window gives by how much less the times of a file may differ that Syncthing takes for one in the folder.
@@ -16,7 +16,7 @@ func (n *Name) HasNearTime(window time.Duration) bool {
 		return false
 	}
 	recorded, found := time.Unix(own.ModifiedS, int64(own.ModifiedNs)), time.Unix(disk.ModifiedS, int64(disk.ModifiedNs))
-	return !recorded.Equal(found) && protocol.ModTimeEqual(recorded, found, window)
+	return !recorded.Equal(found) && bep.IsTimeEqual(recorded, found, window)
 }
 
 // TakeTime gives such a file the recorded time, as Syncthing sees it.

@@ -40,8 +40,8 @@ func NewReader(from io.Reader) (*Reader, error) {
 	if err != nil {
 		return nil, noPart(err)
 	}
-	made := &Reader{lines: bufio.NewReaderSize(unzipped, mostLineBytes)}
-	if err := made.readHead(); err != nil {
+	made := &Reader{lines: bufio.NewReaderSize(unzipped, 1<<16)}
+	if err := made.read(&made.head, mostHeadBytes); err != nil {
 		if err == io.EOF {
 			err = errors.New("it is empty")
 		}
@@ -60,7 +60,7 @@ func (r *Reader) Head() *Head { return &r.head }
 // Next gives the next line; io.EOF behind the last.
 func (r *Reader) Next() (Line, error) {
 	var line Line
-	err := r.read(&line)
+	err := r.read(&line, mostLineBytes)
 	if err == io.EOF {
 		return Line{}, r.rules.end()
 	}
@@ -76,32 +76,31 @@ func (r *Reader) Next() (Line, error) {
 	return line, nil
 }
 
-// read reads a line into a value.
-func (r *Reader) read(into interface{}) error {
+// read reads a line of at most so many bytes into a value.
+func (r *Reader) read(into interface{}, most int) error {
 	text, err := r.lines.ReadSlice('\n')
-	if err := whyNoLine(text, err, mostLineBytes); err != nil {
+	if errors.Is(err, bufio.ErrBufferFull) {
+		text, err = r.readOn(text, most)
+	}
+	if err := whyNoLine(text, err, most); err != nil {
 		return err
 	}
 	r.count++
 	return json.Unmarshal(text, into)
 }
 
-// readHead reads the first line, which may be longer.
-func (r *Reader) readHead() error {
-	text, err := r.lines.ReadSlice('\n')
-	whole := append([]byte(nil), text...)
-	for errors.Is(err, bufio.ErrBufferFull) && len(whole) <= mostHeadBytes {
+// readOn reads the rest of a line, as far as it may go.
+func (r *Reader) readOn(begin []byte, most int) ([]byte, error) {
+	whole, err := append([]byte(nil), begin...), bufio.ErrBufferFull
+	for errors.Is(err, bufio.ErrBufferFull) && len(whole) <= most {
+		var text []byte
 		text, err = r.lines.ReadSlice('\n')
 		whole = append(whole, text...)
 	}
-	if len(whole) > mostHeadBytes {
+	if len(whole) > most {
 		err = bufio.ErrBufferFull
 	}
-	if err := whyNoLine(whole, err, mostHeadBytes); err != nil {
-		return err
-	}
-	r.count++
-	return json.Unmarshal(whole, &r.head)
+	return whole, err
 }
 
 // whyNoLine says why what was read up to an error is no line of at most so many bytes; io.EOF where nothing is left.

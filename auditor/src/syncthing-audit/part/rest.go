@@ -22,8 +22,10 @@ const (
 // was stopped and looked at once.
 func (h *Head) WhyBusy(folder *Folder) string {
 	switch {
-	case h.Look == nil:
+	case h.Look == nil || h.IsOverWireAlone(): // of what is seen over the wire more than this isn't known
 		return ""
+	case h.Wire != nil && folder.Rest == nil:
+		return "whether a scan is under way isn't seen over the wire, and its disks were walked without --config"
 	case folder.Rest == nil:
 		return "an older syncthing-audit made the looks there, and didn't ask whether Syncthing is idle"
 	case folder.Rest.State == RestUnasked:

@@ -6,8 +6,8 @@ import (
 	"io"
 	"math"
 
-	"github.com/syncthing/syncthing/lib/protocol"
 	"golang.org/x/exp/slices"
+	"syncthing-audit/bep"
 	"syncthing-audit/limits"
 	"syncthing-audit/shell"
 )
@@ -17,10 +17,16 @@ func checkHead(head *Head) error {
 	if err := checkVersionOf(head); err != nil {
 		return err
 	}
+	if err := checkMany(head); err != nil {
+		return fmt.Errorf("the part is none: %w", err)
+	}
 	if err := checkLook(head); err != nil {
 		return err
 	}
-	if err := checkLookID(head.Look); err != nil {
+	if err := checkLookID(head.Look, head.Wire != nil); err != nil {
+		return err
+	}
+	if err := checkWire(head); err != nil {
 		return err
 	}
 	if err := head.Names.Check(); err != nil {
@@ -34,7 +40,11 @@ func checkHead(head *Head) error {
 		if place > 0 && head.Folders[place-1].ID >= one.ID {
 			return fmt.Errorf("the part's folder %q isn't in its place", one.ID)
 		}
-		if err := checkFolder(one); err != nil {
+		check := func() error { return checkFolder(one, head.IsOverWire()) }
+		if head.Half != nil {
+			check = func() error { return checkHalfFolder(one) }
+		}
+		if err := check(); err != nil {
 			return fmt.Errorf("the part's folder %q: %w", one.ID, err)
 		}
 	}
@@ -57,7 +67,7 @@ func checkOthers(head *Head) error {
 }
 
 // checkFolder says why a folder of a head is none.
-func checkFolder(one *Folder) error {
+func checkFolder(one *Folder, isOverWire bool) error {
 	switch one.Kind {
 	case "send-receive", "send-only", "receive-only", KindEncrypted:
 	default:
@@ -71,7 +81,7 @@ func checkFolder(one *Folder) error {
 	}
 	seen := map[string]bool{}
 	for _, of := range one.Views {
-		if Number(of.Device) == 0 || seen[of.Device] || of.Max < 0 || of.Heard != 0 {
+		if Number(of.Device) == 0 || seen[of.Device] || of.Max < 0 || of.Heard < 0 || of.Heard != 0 && !isOverWire {
 			return fmt.Errorf("its view of %q is none", of.Device)
 		}
 		seen[of.Device] = true
@@ -122,6 +132,16 @@ func (r *rules) take(line Line) error {
 	if err := checkStanding(line.Name, r.head); err != nil {
 		return err
 	}
+	if r.head.Wire != nil {
+		if err := checkWireName(line.Name, r.head.IsOfRecords()); err != nil {
+			return fmt.Errorf("%s: %w", shell.Path(string(line.Name.Name)), err)
+		}
+	}
+	if r.head.Half != nil {
+		if err := checkHalfName(line.Name, r.head.Half); err != nil {
+			return fmt.Errorf("%s: %w", shell.Path(string(line.Name.Name)), err)
+		}
+	}
 	return checkName(line.Name, r.in, r.head.hasBytes())
 }
 
@@ -142,6 +162,9 @@ func (r *rules) finish(line *End) error {
 	}
 	if line.Last != (r.begun == len(r.head.Folders)) {
 		return fmt.Errorf("folder %q isn't in its place", line.Folder)
+	}
+	if r.head.Half != nil && (line.Max != 0 || line.ToIgnore != 0) {
+		return fmt.Errorf("folder %q ends with what an index says, and the part is of disks alone", line.Folder)
 	}
 	for _, count := range []*Count{line.Temporary, line.Linked, {Names: line.ToIgnore}} {
 		if count != nil && (count.Names < 0 || count.Bytes < 0) {
@@ -289,16 +312,16 @@ func checkDiffer(one *Name) error {
 
 // isOne says whether this is a content.
 func (c *Content) isOne() bool {
-	return c.Size >= 0 && c.BlockSize >= protocol.MinBlockSize && c.BlockSize <= math.MaxInt32
+	return c.Size >= 0 && c.BlockSize >= bep.MinBlockSize && c.BlockSize <= math.MaxInt32
 }
 
-const symlink = int(protocol.FileInfoTypeSymlink)
+const symlink = bep.Symlink
 
-func isFile(kind int) bool { return kind == int(protocol.FileInfoTypeFile) }
+func isFile(kind int) bool { return kind == bep.File }
 
 // IsType says whether a document has this type.
 func IsType(kind int) bool {
-	return isFile(kind) || kind == int(protocol.FileInfoTypeDirectory) || kind == symlink
+	return isFile(kind) || kind == bep.Directory || kind == symlink
 }
 
 // IsKind says whether this is a kind of what is left out.

@@ -15,7 +15,7 @@ var kindsOfMoved = []string{MovedRecord, MovedViews, MovedDisk, MovedReceiving, 
 // checkStanding says which field of a name stands where it may not: a part of one look at a stopped device has nothing of two looks.
 func checkStanding(one *Name, head *Head) error {
 	wrong := ""
-	switch isOfLook := head.Look != nil; {
+	switch isOfLook := head.Look != nil || head.Half != nil; {
 	case !isOfLook && len(one.Moved) > 0:
 		wrong = "it moved"
 	case !isOfLook && one.Receiving != "":
@@ -46,14 +46,14 @@ func checkMoved(one *Name) error {
 const bytesOfLook = 16
 
 // checkLookID says why the id of a first look is none: it goes to other devices, on a line of its own.
-func checkLookID(look *Look) error {
+func checkLookID(look *Look, isOverWire bool) error {
 	if look == nil {
 		return nil
 	}
 	if data, err := hex.DecodeString(look.ID); err != nil || look.ID != "" && len(data) != bytesOfLook {
 		return errors.New("the part's look has an id that is none")
 	}
-	if !look.Ended.IsZero() {
+	if !look.Ended.IsZero() && !isOverWire {
 		return errors.New("the part's look is one of two, and says when both had ended")
 	}
 	return nil

@@ -5,10 +5,12 @@ package part
 
 import (
 	"math"
+	"sort"
 	"time"
 
-	"github.com/syncthing/syncthing/lib/protocol"
+	"syncthing-audit/bep"
 	"syncthing-audit/choice"
+	"syncthing-audit/shell"
 )
 
 // Kinds of what a check document can't say, in the words of --leave-out.
@@ -25,13 +27,15 @@ const (
 	Absent     = "absent"     // a device that shares the folder has no part
 	Encrypted  = "encrypted"  // a folder that is encrypted somewhere
 	Unshared   = "unshared"   // a folder that one device shares and the other doesn't
+	Moment     = "moment"     // a device whose part or look is of another moment than the others'
+	Unknown    = "unknown"    // a device that is asked over the wire answers, and not so that this is known
 )
 
 // Damaged is the kind of what the disk itself fails to give. That is a fault of the device, and never left out on request.
 const Damaged = "damaged"
 
 // Kinds are all that may be left out.
-var Kinds = []string{Ignored, Unreadable, Changing, Special, OddName, OddTarget, OddRecord, Rescan, Large, Absent, Encrypted, Unshared}
+var Kinds = []string{Ignored, Unreadable, Changing, Special, OddName, OddTarget, OddRecord, Rescan, Large, Absent, Encrypted, Unshared, Moment, Unknown}
 
 // KindEncrypted is the kind of a folder whose device has it encrypted, of which no document is made.
 const KindEncrypted = "encrypted"
@@ -46,6 +50,8 @@ type Head struct {
 	choice.Names           // those that were read
 	Folders      []Folder  `json:"folders"`        // rising by id
 	Look         *Look     `json:"look,omitempty"` // of a device that may run
+	Wire         *Wire     `json:"over_wire,omitempty"`
+	Half         *Half     `json:"disk_half,omitempty"` // of disks alone
 	Index        *Index    `json:"index,omitempty"`
 	Newer        *Newer    `json:"newer_index,omitempty"`
 	ToRepair     bool      `json:"index_to_repair,omitempty"` // Syncthing is to repair the index at its next start
@@ -61,10 +67,18 @@ type Index struct {
 
 // Newer is another index, which may be the device's present one: it was written after the one of which a part was made.
 type Newer struct {
-	Path    string    `json:"path"`
+	Path    string    `json:"path,omitempty"` // nothing where the part tells no paths
 	Written time.Time `json:"written"`
 	Read    time.Time `json:"read"` // when the index that was read was written last
 	IsOfTwo bool      `json:"of_syncthing_2,omitempty"`
+}
+
+// Called names the index for a person.
+func (n *Newer) Called() string {
+	if n.Path == "" {
+		return "another index"
+	}
+	return shell.Quoted(n.Path)
 }
 
 // WhatToDo says what another index may mean for an answer, and what to do then.
@@ -82,16 +96,19 @@ type Other struct {
 	ID      string   `json:"id"`
 	Label   string   `json:"label,omitempty"`
 	Devices []string `json:"devices"`        // others that it is shared with
-	Away    string   `json:"away,omitempty"` // it is paused, and its directory isn't there: in words
+	Away    string   `json:"away,omitempty"` // its directory isn't there: in words
+
+	IsStopped bool   `json:"stopped,omitempty"` // it isn't paused, so Syncthing stopped it since it is away
+	Apart     string `json:"-"`                 // why two looks at it don't go together
 }
 
 // Folder is a folder at the device.
 type Folder struct {
 	ID                 string    `json:"id"`
 	Label              string    `json:"label,omitempty"`
-	Kind               string    `json:"kind"` // as in a check document, or 'encrypted'
-	Path               string    `json:"path"`
-	Directory          string    `json:"directory"` // the same for one directory of one machine alone
+	Kind               string    `json:"kind"`           // as in a check document, or 'encrypted'
+	Path               string    `json:"path,omitempty"` // nothing where the part tells no paths
+	Directory          string    `json:"directory"`      // the same for one directory of one machine alone
 	IndexID            uint64    `json:"index_id,string"`
 	Max                int64     `json:"max"`
 	IgnoresPermissions bool      `json:"ignores_permissions,omitempty"`
@@ -104,6 +121,14 @@ type Folder struct {
 	Writers            []string  `json:"writers,omitempty"`        // what else of Syncthing writes into its directory, in words
 	Indexed            int64     `json:"indexed,omitempty"`        // how many names the device's own index has, whichever were asked for
 	Rest               *Rest     `json:"rest,omitempty"`           // of a second look; nothing where an older program made it
+	Options            *Options  `json:"options,omitempty"`        // nothing where an older program made it
+	Ignores            *Ignores  `json:"ignores,omitempty"`        // of disks alone
+}
+
+// Options are what else of a folder's configuration decides to which end its names come.
+type Options struct {
+	MaxConflicts     int  `json:"max_conflicts"` // how many conflict copies of a name are kept: below 0 all
+	IgnoresDeletions bool `json:"ignores_deletions,omitempty"`
 }
 
 // Sharing is another device that the folder is shared with, by the device's own configuration.
@@ -274,11 +299,11 @@ type LeftOut struct {
 
 // Number gives a device's number: the first 8 bytes of its id; 0 for what is no id.
 func Number(device string) uint64 {
-	id, err := protocol.DeviceIDFromString(device)
+	id, err := bep.ReadID(device)
 	if err != nil {
 		return 0
 	}
-	return uint64(id.Short())
+	return id.Short()
 }
 
 // Number gives the number of the part's device.
@@ -286,10 +311,18 @@ func (h *Head) Number() uint64 { return Number(h.Device) }
 
 // Folder gives the folder of this id, or nothing.
 func (h *Head) Folder(id string) *Folder {
-	for place := range h.Folders {
-		if h.Folders[place].ID == id {
-			return &h.Folders[place]
-		}
+	place := sort.Search(len(h.Folders), func(place int) bool { return h.Folders[place].ID >= id })
+	if place < len(h.Folders) && h.Folders[place].ID == id {
+		return &h.Folders[place]
+	}
+	return nil
+}
+
+// Other gives the folder of this id that the part hasn't and the device has, or nothing.
+func (h *Head) Other(id string) *Other {
+	place := sort.Search(len(h.Others), func(place int) bool { return h.Others[place].ID >= id })
+	if place < len(h.Others) && h.Others[place].ID == id {
+		return &h.Others[place]
 	}
 	return nil
 }

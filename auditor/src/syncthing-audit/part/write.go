@@ -19,6 +19,9 @@ type Writer struct {
 
 // NewWriter begins a part with its head.
 func NewWriter(to io.Writer, head *Head) (*Writer, error) {
+	if err := checkMany(head); err != nil {
+		return nil, fmt.Errorf("refused: %w", err)
+	}
 	made := &Writer{buffered: bufio.NewWriterSize(to, 1<<16)}
 	made.zipped, _ = gzip.NewWriterLevel(made.buffered, gzip.BestSpeed)
 	made.encoder = json.NewEncoder(&made.line)

@@ -29,7 +29,7 @@ func Verdict(answer *finding.Answer) string {
 }
 
 // Lines prints the verdict, the counts of each folder, and all that was found, a line each, in syncaudit's words.
-func Lines(to io.Writer, answer *finding.Answer) {
+func Lines(to io.Writer, answer *finding.Answer, dangers *Dangers) {
 	outside.Println(to, Verdict(answer))
 	for _, folder := range answer.Folders {
 		outside.Printf(to, "folder %s: %d names, %d deleted, %d devices\n", folder.ID, folder.Names, folder.Deleted, len(folder.Members))
@@ -39,8 +39,10 @@ func Lines(to io.Writer, answer *finding.Answer) {
 	}
 	for _, folder := range answer.Folders {
 		firm(to, folder)
+		converging(to, answer, folder)
 	}
 	Rest(to, answer)
+	dangers.print(to)
 	names(to, answer)
 }
 
@@ -92,7 +94,13 @@ func Rest(to io.Writer, answer *finding.Answer) {
 		own(to, answer, folder)
 	}
 	for _, one := range answer.LeftOut {
-		outside.Printf(to, "left out: folder %s, device %s: %s\n", one.Folder, one.Device, one.Why)
+		outside.Printf(to, "left out: %s: %s\n", whereOut(one), one.Why)
+	}
+	for _, one := range answer.Earlier {
+		outside.Printf(to, "of another moment: folder %s, device %s: %s\n", one.Folder, one.Device, one.Why)
+	}
+	for _, one := range answer.Observers {
+		outside.Printf(to, "observer, not asked: folder %s, device %s\n", one.Folder, one.Device)
 	}
 	unasked(to, answer)
 	for _, one := range answer.Devices {
@@ -105,6 +113,9 @@ func Rest(to io.Writer, answer *finding.Answer) {
 		if one.ToRepair {
 			outside.Printf(to, "to be repaired: the index on %d\n", one.Number)
 		}
+		if one.IsUnsigned {
+			outside.Printf(to, "not signed: the part of %d\n", one.Number)
+		}
 	}
 }
 
@@ -115,7 +126,7 @@ func ageOf(index *part.Index) string {
 
 // besides says which other index may be the present one.
 func besides(newer *part.Newer) string {
-	return fmt.Sprintf("written %s, before %s was written %s", newer.Read.UTC().Format(time.RFC3339), shell.Quoted(newer.Path), newer.Written.UTC().Format(time.RFC3339))
+	return fmt.Sprintf("written %s, before %s was written %s", newer.Read.UTC().Format(time.RFC3339), newer.Called(), newer.Written.UTC().Format(time.RFC3339))
 }
 
 // own prints of a folder that its device shares with nobody that this is so, and whether other devices have theirs of the same id.

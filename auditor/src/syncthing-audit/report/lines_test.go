@@ -115,7 +115,7 @@ func TestLinesOfFoldersThatAreNotShared(t *testing.T) {
 		"default": "\nnot shared: folder default on 1\nnot shared: folder default on 1\n",
 	} {
 		var written strings.Builder
-		Lines(&written, &finding.Answer{Folders: []*finding.Folder{ownFolder(id), otherOwn(id)}})
+		Lines(&written, &finding.Answer{Folders: []*finding.Folder{ownFolder(id), otherOwn(id)}}, nil)
 		if !strings.Contains(written.String(), expected) {
 			t.Errorf("%s: %q has no %q", id, written.String(), expected)
 		}
@@ -130,7 +130,7 @@ func TestLines(t *testing.T) {
 	folder.Unlisted.LeftOut = finding.Count{Names: 7, Bytes: 9}
 	folder.Outside = finding.Count{Names: 4, Bytes: 7}
 	var written strings.Builder
-	Lines(&written, &finding.Answer{Folders: []*finding.Folder{folder}})
+	Lines(&written, &finding.Answer{Folders: []*finding.Folder{folder}}, nil)
 	const expected = `not settled: NotWinner docs new\x20file
 folder docs: 2 names, 0 deleted, 2 devices
 NotWinner docs new\x20file
@@ -154,7 +154,7 @@ func TestLinesOnFirmness(t *testing.T) {
 	unasked.Firmness = finding.Firmness{}
 	unsettled := folderOf("text", 2, finding.Failure{Reason: "StoreDiffers", Name: "b", Device: 1})
 	var written strings.Builder
-	Lines(&written, &finding.Answer{Folders: []*finding.Folder{isFirm, isnt, unasked, unsettled}})
+	Lines(&written, &finding.Answer{Folders: []*finding.Folder{isFirm, isnt, unasked, unsettled}}, nil)
 	const expected = `not settled: StoreDiffers text b on 1
 folder docs: 2 names, 0 deleted, 2 devices
 folder music: 2 names, 0 deleted, 2 devices
@@ -166,6 +166,7 @@ not firm: VersionDiffers music b\x20c on 2
 not firm: ViewNotBelow music a on 1
 not firm: ViewNotBelow music b\x20c on 1
 firm wasn't asked: pics
+converging wasn't asked: text
 `
 	if written.String() != expected {
 		t.Errorf("%s\nnot\n%s", written.String(), expected)
@@ -178,7 +179,7 @@ func TestLinesOfOtherFolders(t *testing.T) {
 		{Number: 2, Name: "my server", Unasked: []finding.Unasked{{ID: "music", Label: "My music"}}}}}
 	for _, verdict := range []string{"settled as far as audited", "settled"} {
 		var written strings.Builder
-		Lines(&written, answer)
+		Lines(&written, answer, nil)
 		if written.String() != verdict+"\nfolder docs: 2 names, 0 deleted, 2 devices\nfirm: docs\nnot told: other folders of 1\nnot asked for: folder music on 2\n"+
 			"device 1: laptop\ndevice 2: my\\x20server\n" {
 			t.Errorf("%s", written.String())
@@ -198,7 +199,7 @@ func TestLinesOfOtherNames(t *testing.T) {
 		answer := &finding.Answer{Folders: []*finding.Folder{folder}}
 		for _, verdict := range []string{"settled as far as audited", "settled"} {
 			var written strings.Builder
-			Lines(&written, answer)
+			Lines(&written, answer, nil)
 			if written.String() != verdict+"\nfolder docs: 2 names, 0 deleted, 2 devices\nfirm: docs\n"+told {
 				t.Errorf("%s", written.String())
 			}
@@ -214,7 +215,7 @@ func TestLinesOfRunningDevices(t *testing.T) {
 		{Member: 0, Why: []string{part.MovedRecord, part.MovedDisk}}, {Member: 1, Why: []string{part.MovedViews}}}}},
 		Unheard: []finding.Unheard{{Member: 1, Of: 0, Names: 4}}}
 	var written strings.Builder
-	Lines(&written, &finding.Answer{Folders: []*finding.Folder{folder}})
+	Lines(&written, &finding.Answer{Folders: []*finding.Folder{folder}}, nil)
 	const expected = `settled as far as audited
 folder docs: 2 names, 0 deleted, 2 devices
 firm: docs
@@ -237,7 +238,7 @@ not heard of: docs on 2 of 1: 4 names
 func TestLineOfAnIndexThatMayBeOld(t *testing.T) {
 	var written strings.Builder
 	old := &part.Index{Written: time.Unix(1600000000, 0), Configured: time.Unix(1600000060, 0)}
-	Lines(&written, &finding.Answer{Folders: []*finding.Folder{folderOf("docs", 2)}, Devices: []finding.Device{{Number: 1}, {Number: 2, Index: old}}})
+	Lines(&written, &finding.Answer{Folders: []*finding.Folder{folderOf("docs", 2)}, Devices: []finding.Device{{Number: 1}, {Number: 2, Index: old}}}, nil)
 	var refused strings.Builder
 	Refusals(&refused, &finding.Answer{Devices: []finding.Device{{ID: "A"}, {ID: "B", Index: old}}, Refusals: []finding.Refusal{{Folder: "docs", Why: "odd"}}})
 	if !strings.HasSuffix(refused.String(), "syncthing-audit: maybe an old index: device B, written 2020-09-13T12:26:40Z, before config.xml was changed "+
@@ -254,7 +255,7 @@ func TestLineOfAnIndexThatMayBeOld(t *testing.T) {
 func TestLineOfANewerIndex(t *testing.T) {
 	var written, refused strings.Builder
 	newer := &part.Newer{Path: "/srv/a b", Read: time.Unix(1600000000, 0), Written: time.Unix(1600000060, 0)}
-	Lines(&written, &finding.Answer{Folders: []*finding.Folder{folderOf("docs", 2)}, Devices: []finding.Device{{Number: 1}, {Number: 2, Newer: newer}}})
+	Lines(&written, &finding.Answer{Folders: []*finding.Folder{folderOf("docs", 2)}, Devices: []finding.Device{{Number: 1}, {Number: 2, Newer: newer}}}, nil)
 	Refusals(&refused, &finding.Answer{Devices: []finding.Device{{ID: "A"}, {ID: "B", Newer: newer}}, Refusals: []finding.Refusal{{Folder: "docs", Why: "odd"}}})
 	const told = "written 2020-09-13T12:26:40Z, before '/srv/a b' was written 2020-09-13T12:27:40Z"
 	if strings.Count(written.String(), "maybe an old") != 1 || !strings.HasSuffix(written.String(), "\nmaybe an old index: on 2, "+told+"\n") {
@@ -270,7 +271,7 @@ func TestLineOfNearTimes(t *testing.T) {
 	var written strings.Builder
 	folder := folderOf("docs", 2)
 	folder.Members[1].About, folder.Members[1].Near = &part.Folder{TimeWindow: 2}, 3
-	Lines(&written, &finding.Answer{Folders: []*finding.Folder{folder}})
+	Lines(&written, &finding.Answer{Folders: []*finding.Folder{folder}}, nil)
 	if !strings.HasSuffix(written.String(), "\ntimes taken for the same: docs 3 files on 2, by less than 2 s\n") || strings.Count(written.String(), "times") != 1 {
 		t.Error(written.String())
 	}
@@ -281,7 +282,7 @@ func TestLineOfTemporaryNames(t *testing.T) {
 	var written strings.Builder
 	folder := folderOf("docs", 2)
 	folder.Members[0].Temporary, folder.Members[1].Temporary = &part.Count{}, &part.Count{Names: 2, Bytes: 9}
-	Lines(&written, &finding.Answer{Folders: []*finding.Folder{folder}})
+	Lines(&written, &finding.Answer{Folders: []*finding.Folder{folder}}, nil)
 	if !strings.HasSuffix(written.String(), "\ntemporary: docs 2 names, 9 bytes on 2\n") || strings.Count(written.String(), "temporary") != 1 {
 		t.Error(written.String())
 	}
@@ -291,7 +292,7 @@ func TestLineOfTemporaryNames(t *testing.T) {
 func TestLineOfAnIndexThatIsToBeRepaired(t *testing.T) {
 	devices := []finding.Device{{ID: "A", Number: 1}, {ID: "B", Number: 2, ToRepair: true}}
 	var written, refused strings.Builder
-	Lines(&written, &finding.Answer{Folders: []*finding.Folder{folderOf("docs", 2)}, Devices: devices})
+	Lines(&written, &finding.Answer{Folders: []*finding.Folder{folderOf("docs", 2)}, Devices: devices}, nil)
 	Refusals(&refused, &finding.Answer{Devices: devices, Refusals: []finding.Refusal{{Folder: "docs", Why: "odd"}}})
 	for text, told := range map[string]string{written.String(): "\nto be repaired: the index on 2\n",
 		refused.String(): "\nsyncthing-audit: to be repaired: the index of device B. Start Syncthing there, and let it finish\n"} {

@@ -15,7 +15,9 @@ func live(to io.Writer, folder *finding.Folder) {
 		return
 	}
 	spent := "unknown"
-	if folder.Live.Timed {
+	if folder.Live.OfParts {
+		spent = "by parts"
+	} else if folder.Live.Timed {
 		spent = fmt.Sprintf("%.3f s", folder.Live.Seconds)
 	}
 	outside.Printf(to, "still: %s %s, in motion: %d names\n", folder.ID, spent, folder.Live.Moving)

@@ -52,7 +52,12 @@ func keysAt(t *testing.T, network string) (config.GUIConfiguration, *int) {
 	made := httptest.NewUnstartedServer(http.HandlerFunc(func(_ http.ResponseWriter, asked *http.Request) { count += len(asked.Header["X-Api-Key"]) }))
 	about := config.GUIConfiguration{APIKey: "key"}
 	if network == "unix" {
-		about.RawAddress = filepath.Join(t.TempDir(), "gui")
+		room, err := os.MkdirTemp("", "gui") // a socket's path has at most 107 bytes
+		if err != nil {
+			t.Fatal(err)
+		}
+		t.Cleanup(func() { os.RemoveAll(room) })
+		about.RawAddress = filepath.Join(room, "gui")
 		listening, err := net.Listen(network, about.RawAddress)
 		if err != nil {
 			t.Fatal(err)

@@ -14,12 +14,12 @@ import (
 	"net"
 	"net/http"
 	"net/url"
-	"os"
 	"path/filepath"
 	"strings"
 	"time"
 
 	"github.com/syncthing/syncthing/lib/config"
+	"syncthing-audit/regular"
 	"syncthing-audit/shell"
 )
 
@@ -198,7 +198,7 @@ func localAddress(about config.GUIConfiguration) string {
 
 // checkCertificate says whether whoever answers hasn't the certificate that the home has for it.
 func checkCertificate(path string, raw [][]byte) error {
-	text, err := os.ReadFile(path)
+	text, _, err := regular.Read(path, mostOfAnswer)
 	if err != nil {
 		return err
 	}

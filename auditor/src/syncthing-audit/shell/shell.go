@@ -4,11 +4,11 @@
 // either for an escape. So each of these two stands outside of quotes, behind a backslash: 'it'\”s'. There is no $'..', which dash and fish don't
 // know, and no word without quotes of more than ASCII letters, digits and _./+:,@-.
 //
-// A name with a newline, another control character, one that turns text around, or bytes that aren't UTF-8 can't be typed in one way in all of
-// these shells, and printed as it is it would move the terminal's cursor. Such a name is given for reading: in one quoted word that says so, with
-// \x and two digits for each byte that can't be typed, for a backslash and for a single quote. No shell does anything with that word, and the word of
-// no other name is like it, since none has a backslash within quotes. To reach such a file, choose it in a file manager, or by a pattern of the
-// shell, * in place of these bytes, after seeing that it fits that file alone.
+// Some names can't be typed in one way in all of these shells: those with a newline or another control character, with one that turns text around, or
+// with bytes that aren't UTF-8. Printed as it is, such a name would move the terminal's cursor. So it is given for reading: in one quoted word that
+// says so, with \x and two digits for each byte that can't be typed, for a backslash and for a single quote. No shell does anything with that word.
+// The word of no other name is like it, since none has a backslash within quotes. To reach such a file, choose it in a file manager, or by a pattern of
+// the shell, * in place of these bytes, after seeing that it fits that file alone.
 package shell
 
 import (

@@ -1,6 +1,9 @@
 package summary
 
-import "golang.org/x/exp/slices"
+import (
+	"golang.org/x/exp/slices"
+	"syncthing-audit/outlook"
+)
 
 // actions are what all entries of an answer tell to do on devices. A start of Syncthing scans all folders, and each entry speaks of its own names
 // alone: so what one of them tells to do first counts for all others.
@@ -10,9 +13,11 @@ type actions struct {
 	damaged map[string]int64    // how many files look damaged there, and a scan sends that
 	grown   map[string]int64    // how many have more bytes there than recorded under the recorded time, and a scan sends these
 	added   map[string]int64    // how many names stand on a device that only receives, and aren't the others'
-	reverts map[string]bool     // whether an entry tells to revert local changes there
+	changed map[string]int64    // how many names have bytes there that the others' names don't have
+	taken   map[string][]int    // the entries of both
+	reverts map[string][]int    // those that tell to revert local changes there
 	waits   map[string]*waiting // what no scan has seen there
-	started map[string][]int    // those that tell to start Syncthing, to scan or to touch there, or for which others fetch from there
+	started map[string][]int    // those after which Syncthing starts, scans or sends there: they tell that, or to stop it there for what they tell
 }
 
 // note notes what the entry of a name tells to do.
@@ -23,28 +28,17 @@ func (a *actions) note(file *File) {
 	}
 	for place := range file.Faults {
 		switch one := &file.Faults[place]; {
-		case one.Cause == LocalAddition || one.Cause == NotScanned && one.Kind == receiveOnly:
-			a.added[one.Device]++
-		case one.Cause == LocalChange:
-			a.reverts[one.Device] = true
 		case !one.isDamagedChange():
-		case one.damage == isGrown:
+		case one.Damage.MayBeOfRecord():
 			a.grown[one.Device]++
 		default:
 			a.damaged[one.Device]++
 		}
 	}
-	for _, one := range file.toStart() {
+	a.noteReverts(file)
+	for _, one := range file.actsOn() {
 		a.started[one] = append(a.started[one], a.entries)
 	}
-}
-
-// loses says how many names 'Revert Local Changes' would delete on a device where an entry of another name tells it.
-func (a *actions) loses(device string) int64 {
-	if !a.reverts[device] {
-		return 0
-	}
-	return a.added[device]
 }
 
 // isFirst says whether something on a device is to be made safe before that is done there which another entry tells.
@@ -65,6 +59,11 @@ func (a *actions) isToMakeSafe(device string) bool {
 // toMakeSafe gives the devices on which something of the name is to be made safe before Syncthing starts or scans there.
 func (f *File) toMakeSafe() []string {
 	made := []string{}
+	if f.foretold.is(outlook.Lost) && f.foretold.plan != nil {
+		for _, step := range f.foretold.plan.Steps {
+			made = addOnce(made, step.Device)
+		}
+	}
 	for place := range f.Faults {
 		if f.losesAt(&f.Faults[place]) {
 			made = addOnce(made, f.Faults[place].Device)
@@ -80,22 +79,21 @@ func (f *File) toMakeSafe() []string {
 
 // mayLose says whether bytes of the name may be lost by a scan, or by what others fetch.
 func (f *File) mayLose() bool {
-	return slices.IndexFunc(f.Faults, func(one Fault) bool { return f.losesAt(&one) }) >= 0
+	return f.foretold.is(outlook.Lost) || slices.IndexFunc(f.Faults, func(one Fault) bool { return f.losesAt(&one) }) >= 0
 }
 
-// losesAt says whether Syncthing may send to all what is wrong on a device, or lose what it alone recorded, once it scans or another device fetches
-// the file.
+// losesAt says whether Syncthing may send to all what is wrong on a device, or lose it, once it scans there. Where it is known what becomes of the name,
+// its fate says that, but of what looks like damage.
 func (f *File) losesAt(one *Fault) bool {
 	switch {
 	case one.Kind == receiveOnly:
 		return false
-	case one.Cause == Missing:
-		return !one.isGoneElsewhere(f) && (one.late != lateChange || one.isAlone)
-	case one.Cause == OtherBytes:
-		lack := f.lackOn(one.Device)
-		return one.isSeen || one.isFetched || one.mayShow() || one.isAsked || one.mayMove || lack != nil && lack.Cause == Conflicting
+	case one.Cause == Damaged || one.isDamagedChange() || one.isReplacedDirectory():
+		return true
+	case f.foretold.isKnown():
+		return false
 	}
-	return one.mayBeMissing() || one.Cause == Back || one.Cause == Damaged || one.isDamagedChange() || one.isReplacedDirectory()
+	return one.mayBeMissing() || one.Cause == Missing && !f.isGoneElsewhere(one) || one.Cause == OtherBytes || one.Cause == Back
 }
 
 // mayBeMissing says whether the disk isn't as recorded in a way of which no details were kept: the name may be missing there, or have other bytes.
@@ -103,15 +101,13 @@ func (f *Fault) mayBeMissing() bool {
 	return f.Cause == Differs && slices.Contains(f.Reasons, "StoreDiffers")
 }
 
-// toStart gives the devices on which Syncthing is told to run or to scan for this name, and those from which others fetch it.
+// toStart gives the devices on which Syncthing is to run or to scan for this name, and those from which others take it.
 func (f *File) toStart() []string {
 	made := []string{}
 	for place := range f.Faults {
 		one := &f.Faults[place]
-		if one.isToStart() || !f.losesAt(one) && one.Cause != Differs && one.Cause != Damaged || one.Cause == OtherBytes && one.Kind != receiveOnly {
-			made = addOnce(made, one.Device)
-		}
-		if one.isToStart() || one.fetches() {
+		made = addOnce(made, one.Device)
+		if one.isToStart() {
 			for _, device := range f.Have {
 				made = addOnce(made, device)
 			}

@@ -5,6 +5,7 @@ import (
 	"strings"
 
 	"golang.org/x/exp/slices"
+	"syncthing-audit/outlook"
 )
 
 // labels are the names of devices for a person, by their ids.
@@ -35,33 +36,6 @@ func (l labels) all(ids []string) string {
 	return strings.Join(names, ", ")
 }
 
-// adviceOf says what to do about a name, each thing once. What saves bytes comes first, and what asks to start Syncthing for a device to take something
-// comes last.
-func adviceOf(file *File, named labels) []string {
-	made := append(file.waitsAdvice(named), file.unseenAdvice()...)
-	for turn := savesBytes; turn <= takes; turn++ {
-		if turn == takes && file.isModeFirst() {
-			made = append(made, permissionsAdvice(file, named))
-		}
-		for next := range file.Faults {
-			one := &file.Faults[next]
-			if file.turnOf(one) == turn {
-				made = addOnce(made, file.orDamaged(one, adviceOfFault(one, file, named), named))
-			}
-		}
-	}
-	if file.stuck != nil {
-		made = addOnce(made, file.stuck.advice(named))
-	}
-	if senders := file.sendersOfOtherBytes(); len(senders) > 1 {
-		made = append(made, touchAdvice(file, senders, named))
-	}
-	if len(file.Permissions) > 0 && !file.isModeFirst() {
-		made = append(made, permissionsAdvice(file, named))
-	}
-	return made
-}
-
 // addOnce adds a text that isn't there yet.
 func addOnce(all []string, text string) []string {
 	if slices.Contains(all, text) {
@@ -70,49 +44,230 @@ func addOnce(all []string, text string) []string {
 	return append(all, text)
 }
 
-// adviceOfFault says what to do about one fault.
+const (
+	receiveOnly = "receive-only"
+	sendOnly    = "send-only"
+)
+
+// adviceOf says what to do about a name, each thing once: first what saves bytes, then the steps for it or, where it isn't known what becomes of it, what
+// is to be saved; then what each fault asks for beside that. It foretells nothing: package outlook does.
+func adviceOf(file *File, named labels) []string {
+	made := append(file.waitsAdvice(named), file.bestAdvice(named)...)
+	made = append(made, file.mounted(named)...)
+	if file.foretold.isKnown() {
+		if told := file.stepsFor(named); told != "" {
+			made = append(made, told)
+		}
+	} else {
+		made = append(made, file.toSave(named)...)
+	}
+	if file.isModeFirst() {
+		made = append(made, permissionsAdvice(file, named))
+	}
+	for _, isOfDisk := range []bool{true, false} {
+		for place := range file.Faults {
+			if one := &file.Faults[place]; one.isOfDisk() == isOfDisk {
+				if told := adviceOfFault(one, file, named); told != "" {
+					made = addOnce(made, told)
+				}
+			}
+		}
+	}
+	if len(file.Permissions) > 0 && !file.isModeFirst() {
+		made = append(made, permissionsAdvice(file, named))
+	}
+	return made
+}
+
+// stepsFor says what is to be done so that the name comes to the end that is wanted.
+func (f *File) stepsFor(named labels) string {
+	it := f.say("it", "them")
+	switch plan := f.foretold.plan; {
+	case f.foretold.hasGoal():
+		return "the steps for " + it + " above, behind 'to do in': " + plan.Leads(named.all)
+	case plan != nil:
+		return "the steps for " + it + " above, behind 'to do in', which save what is to stay"
+	case f.foretold.is(outlook.Deleted) || f.foretold.is(outlook.ByItself) && f.isToGo():
+		return "nothing, if " + it + " may go. If not, copy " + it + " elsewhere before Syncthing starts on any of these devices"
+	case f.foretold.is(outlook.Changed) && f.looksDamaged():
+		return ""
+	case f.foretold.is(outlook.Changed):
+		return "nothing, if the " + f.say("change is", "changes are") + " wanted"
+	case f.hasChoice():
+		return "choose for the whole folder what stands above, behind 'to choose in', or leave " + it + " so"
+	case f.foretold.is(outlook.Stays):
+		return "copy elsewhere what is to stay. Then, while Syncthing is stopped on all of these devices, put what is wanted on each of them"
+	case f.foretold.is(outlook.Depends):
+		return "nothing is lost, whichever of these comes: let Syncthing run on all of these devices until it is idle"
+	case f.foretold.is(outlook.ByItself):
+		return "nothing: let Syncthing run on all of these devices until it is idle"
+	}
+	return "before Syncthing starts or scans on any of these devices, copy elsewhere what is to stay"
+}
+
+// comesBack says whether by itself something comes to stand again where the name is missing on a device.
+func (f *File) comesBack(one *Fault) bool {
+	if !f.foretold.isKnown() || len(f.foretold.fate.Ends) == 0 {
+		return false
+	}
+	for _, end := range f.foretold.fate.Ends {
+		is := false
+		for _, thing := range end {
+			is = is || !thing.Copy && slices.Contains(thing.Devices, one.Device)
+		}
+		if !is {
+			return false
+		}
+	}
+	return true
+}
+
+// isToGo says whether the name is missing somewhere, and doesn't come back there.
+func (f *File) isToGo() bool {
+	return slices.IndexFunc(f.Faults, func(one Fault) bool { return one.Cause == Missing && !f.comesBack(&one) && !f.isGoneElsewhere(&one) }) >= 0
+}
+
+// looksDamaged says whether on some device a scan would take what looks like damage for a change.
+func (f *File) looksDamaged() bool {
+	return slices.IndexFunc(f.Faults, func(one Fault) bool { return one.isDamagedChange() || one.isReplacedDirectory() }) >= 0
+}
+
+// mounted says to see that disks are mounted on which the name is missing, where that takes the name from others.
+func (f *File) mounted(named labels) []string {
+	on := []string{}
+	for place := range f.Faults {
+		if one := &f.Faults[place]; one.Cause == Missing && !f.comesBack(one) && !f.isGoneElsewhere(one) {
+			on = addOnce(on, one.Device)
+		}
+	}
+	if len(on) == 0 {
+		return nil
+	}
+	return []string{"first see that the folder's disk is mounted on " + named.all(on) + ": a scan there takes " + f.say("it", "them") + " for deleted"}
+}
+
+// hasChoice says whether on a device that keeps the name otherwise than others something may be chosen for the whole folder.
+func (f *File) hasChoice() bool {
+	for _, kept := range f.foretold.fate.Kept {
+		if f.foretold.choices[kept.Device] {
+			return true
+		}
+	}
+	return false
+}
+
+// toSave says what is to be saved of a name of which it isn't known what becomes of it: a start of Syncthing may take away whatever stands there.
+func (f *File) toSave(named labels) []string {
+	on := []string{}
+	if len(f.Have) > 0 && !f.isDeletionDue() {
+		on = append(on, named.rising(f.Have)[0])
+	}
+	for place := range f.Faults {
+		if one := &f.Faults[place]; one.Found != nil || one.Cause == Differs || one.Cause == Damaged || one.isHolding() && !f.hasAt(one.Device, Missing) {
+			on = addOnce(on, one.Device)
+		}
+	}
+	if len(on) == 0 || len(f.Faults) == 0 {
+		return nil
+	}
+	return []string{"before Syncthing starts or scans on any of these devices, copy elsewhere what is to stay of what stands on " + named.all(on)}
+}
+
+// isGoneElsewhere says whether what is missing on a device was deleted on others, too: nothing is lost there.
+func (f *File) isGoneElsewhere(one *Fault) bool {
+	lack := f.lackOn(one.Device)
+	return lack != nil && lack.Cause == Behind && lack.Deletion
+}
+
+// isHolding says whether a device has what it recorded, as far as that is known: its fault is one of its record.
+func (f *Fault) isHolding() bool { return !f.isOfDisk() && f.Recorded != nil && !f.Recorded.Deleted }
+
+// isOfDisk says whether what stands on the disk isn't as recorded.
+func (f *Fault) isOfDisk() bool {
+	switch f.Cause {
+	case OtherBytes, Changed, Missing, Back, OtherTime, NotScanned, Damaged, Differs:
+		return true
+	}
+	return false
+}
+
+// adviceOfFault says what a fault asks for beside the steps.
 func adviceOfFault(one *Fault, file *File, named labels) string {
 	at := named.of(one.Device)
-	if one.isRival && one.Cause != OtherBytes && !file.isOdd {
-		return rivalsAdvice(file, named)
-	}
-	if file.isStopped(one) {
-		return file.stuck.advice(named)
-	}
-	if file.isBlockedAt(one) {
-		return file.blockedAdvice(at, named)
-	}
-	switch one.Cause {
-	case OtherBytes:
-		return otherBytesAdvice(one, file, at, named)
-	case Damaged:
+	switch {
+	case one.Cause == Damaged:
 		return damageAdvice(one, file, at, named)
-	case Changed:
-		return changedAdvice(one, file, at, named)
-	case Missing:
-		return missingAdvice(one, file, at, named)
-	case Back:
-		return backAdvice(one, file, at, named)
-	case Behind, Conflicting:
-		return behindAdvice(one, file, at, named)
-	case LocalChange:
-		return localChangeAdvice(one, file, at, named)
-	case LocalAddition:
-		return "'Revert Local Changes' on " + at + " deletes what was added there: copy elsewhere first what is to stay. To have it " +
-			file.spread("everywhere", "recorded as any other file") + ", " + file.sendAndReceive(one.Device, named)
-	case NotScanned:
-		return notScannedAdvice(one, file, at, named)
-	case OnlySeen, NewerKnown:
-		return "start Syncthing on all of these devices and let them connect: they then tell each other what they have"
-	case OtherTime:
-		return otherTimeAdvice(one, file, at, named)
-	case OtherBlocks:
-		told := "nothing is lost: the bytes are the same. Once the devices connect, Syncthing takes one of the records" + file.say("", " of each")
-		if file.isCopy {
-			return told
-		}
-		return told + ". Where neither is of a later version, it may keep " + file.say("a conflict copy, which has", "conflict copies, which have") + " the same bytes"
+	case one.Cause == Differs:
+		return differsAdvice(one, file, at)
+	case (one.isDamagedChange() || one.isReplacedDirectory()) && !file.foretold.hasGoal():
+		return seeDamage(one, file, named)
+	case one.Cause == NotScanned && file.isOdd:
+		return "rename " + file.say("it", "them") + " on " + at + ": " + file.say("its name isn't", "their names aren't") + " in Unicode's form NFC, in which " +
+			"Syncthing has names. A scan does that by itself only where the folder's 'Auto Normalize' is on and nothing stands at the other name; else it passes over " + file.say("it", "them")
+	case one.isTied:
+		return tiedAdvice(one, file, at, named)
+	case one.isUntold:
+		return untoldAdvice(file, at, named)
+	case one.isOfDisk():
+		return diskAdvice(one, file, named)
 	}
+	return recordAdvice(one, file, at, named)
+}
+
+// diskAdvice says what a scan takes a disk for, where that isn't foretold, and how it gets back what was recorded there. Where there are steps for the
+// name, these do it.
+func diskAdvice(one *Fault, file *File, named labels) string {
+	at, it := named.of(one.Device), file.say("it", "them")
+	takes := map[Cause]string{Changed: "changed", Back: "new", NotScanned: "new", OtherTime: "changed"}[one.Cause]
+	told := ""
+	switch {
+	case file.foretold.hasGoal() || one.Cause == Missing && (file.comesBack(one) || file.isGoneElsewhere(one)):
+		return ""
+	case file.foretold.isKnown() && takes != "" && one.Cause != Changed:
+		return ""
+	case !file.foretold.isKnown() && takes != "":
+		told = "a scan on " + at + " takes " + it + " for " + takes + ". "
+	}
+	if one.Cause == NotScanned || one.Cause == OtherTime {
+		return strings.TrimSuffix(told, ". ")
+	}
+	told += one.whetherEdit(file, at)
+	have := "to have again what "
+	if strings.HasSuffix(told, ". ") {
+		have = "To have again what "
+	}
+	return told + have + at + " recorded, " + file.putsBack(one, named)
+}
+
+// recordAdvice says what a record asks for that isn't as others', where that isn't foretold.
+func recordAdvice(one *Fault, file *File, at string, named labels) string {
+	switch {
+	case one.Cause == OtherBlocks:
+		return "nothing is lost: the bytes are the same"
+	case one.Cause == Behind && one.Kind != sendOnly && (!file.foretold.isKnown() || file.foretold.is(outlook.ByItself) || file.foretold.is(outlook.Deleted)):
+		return behindAdvice(one, file, at, named)
+	case file.foretold.isKnown():
+		return ""
+	case one.Cause == LocalChange || one.Cause == LocalAddition:
+		return "'Revert Local Changes' on " + at + " deletes what was added there, and writes over what was changed, mostly without a copy: copy elsewhere first what is to stay"
+	case one.Kind == sendOnly:
+		return at + " only sends, and takes nothing by itself. 'Override Changes' there undoes what others changed; made 'Send & Receive' there, it takes that in place of what stands there"
+	}
+	return "once what is to stay is saved, let Syncthing run on all of these devices, connected, until it is idle. Then audit again"
+}
+
+// behindAdvice says what a device needs to take what others have, and what to see if it doesn't.
+func behindAdvice(one *Fault, file *File, at string, named labels) string {
+	told := "let Syncthing run on " + at + " and on " + file.holders(named) + ", and let them finish. If it stays so, see whether a device " +
+		"or the folder is paused, whether they are connected, whether a disk is full, and whether Syncthing's page lists 'Failed Items'"
+	if one.Deletion {
+		told += "; or 'Ignore Delete' is set for the folder on " + at
+	}
+	return told
+}
+
+// differsAdvice says how details are told that weren't kept.
+func differsAdvice(one *Fault, file *File, at string) string {
 	before := ""
 	if one.mayBeMissing() {
 		before = "before Syncthing starts or scans on " + at + " (" + file.say("it", "they") + " may be missing there, which a scan takes for deleted), "
@@ -120,125 +275,13 @@ func adviceOfFault(one *Fault, file *File, named labels) string {
 	return before + file.detailsBy(file.say("audit it by itself: --names with this name tells more", "audit some of them by themselves: --names with how they begin tells more"))
 }
 
-const (
-	receiveOnly = "receive-only"
-	sendOnly    = "send-only"
-)
-
-// spreads says where a change goes that a scan finds.
-func spreads(one *Fault, file *File, named labels) string {
-	if one.Kind == receiveOnly {
-		return file.say(", a local addition", ", local additions")
+// detailsBy says how details are told that weren't kept: by an audit of some names alone, for which parts of all names don't do. 'sum' has no
+// details of what documents tell, of however few names that is.
+func (f *File) detailsBy(alone string) string {
+	if f.isOfSum {
+		return "'syncthing-audit check' of the same parts or homes tells the details"
 	}
-	return file.spread(" and sends "+file.say("it", "them")+" "+file.toAll(one.Device, named), " and records "+file.say("it", "them"))
-}
-
-// backAdvice says what a scan does with what is back, though the device has deleted it.
-func backAdvice(one *Fault, file *File, at string, named labels) string {
-	if told := lateAdvice(one, file, at, named); told != "" {
-		return told
-	}
-	if one.Kind == receiveOnly && file.hasAt(one.Device, LocalChange) {
-		return changedAdvice(one, file, at, named)
-	}
-	return file.say("to have it gone, delete it", "to have them gone, delete them") + " on " + at + " before Syncthing scans there: a scan takes " +
-		file.say("it for a new file", "them for new files") + spreads(one, file, named) + file.orBytes(one, named)
-}
-
-// notScannedAdvice says what a scan does with what it hasn't seen yet.
-func notScannedAdvice(one *Fault, file *File, at string, named labels) string {
-	told := "start Syncthing on " + at + " and 'Rescan': "
-	late := lateAdvice(one, file, at, named)
-	switch {
-	case late != "":
-		return late
-	case file.isOdd:
-		return "rename " + file.say("it", "them") + " on " + at + ": " + file.say("its name isn't", "their names aren't") + " in Unicode's form NFC, in which " +
-			"Syncthing has names. A scan does that by itself only where the folder's 'Auto Normalize' is on and nothing stands at the other name; else it passes over " + file.say("it", "them")
-	case one.Kind == receiveOnly && file.isOwn:
-		return "make the folder 'Send & Receive' on " + at + " and 'Rescan': " + file.say("it is then recorded", "they are then recorded") +
-			". While the folder only receives, a scan takes " + file.say("it for a local addition, which keeps", "them for local additions, which keep") +
-			" the folder from being in step, and which 'Revert Local Changes' would delete"
-	case one.Kind == receiveOnly:
-		return told + file.say("it stays there as a local addition", "they stay there as local additions") + ", which 'Revert Local Changes' would delete. " +
-			"To have " + file.say("it", "them") + " everywhere, " + file.sendAndReceive(one.Device, named)
-	}
-	return told + file.spread(file.say("it then goes ", "they then go ")+file.toAll(one.Device, named), file.say("it is then recorded", "they are then recorded"))
-}
-
-// otherTimeAdvice says what a scan does with a file whose time alone isn't as recorded.
-func otherTimeAdvice(one *Fault, file *File, at string, named labels) string {
-	told := "start Syncthing on " + at + " and 'Rescan'"
-	late := lateAdvice(one, file, at, named)
-	switch {
-	case late != "":
-		return late
-	case one.Kind == receiveOnly:
-		return told + ": " + file.say("the time stays there as a local change", "the times stay there as local changes") + file.revert(one, at)
-	case len(file.sharers.keepers(one.Device))+len(file.blocked) > 0:
-		told += ": " + file.say("the time then goes ", "the times then go ") + file.toAll(one.Device, named)
-	}
-	return told + file.orBytes(one, named)
-}
-
-func changedAdvice(one *Fault, file *File, at string, named labels) string {
-	how := overAnother
-	if one.isFileForFile() {
-		how = overFile
-	}
-	told := "start Syncthing on " + at + " and 'Rescan': "
-	if late := lateAdvice(one, file, at, named); late != "" {
-		return late
-	}
-	if one.Kind == receiveOnly {
-		return told + file.say("the change stays there as a local one", "the changes stay there as local ones") + file.revert(one, at)
-	}
-	told += file.spread(file.say("the change then goes ", "the changes then go ")+file.toAll(one.Device, named),
-		file.say("the change is then recorded", "the changes are then recorded"))
-	told += file.orBytes(one, named)
-	if one.isDamagedChange() || one.isReplacedDirectory() { // so that is told before
-		return told
-	}
-	return told + file.say(". If the change isn't wanted", ". If they aren't wanted") + ", first " + copying(one, file, named, how)
-}
-
-// isFileForFile says whether a file stands where a file is recorded.
-func (f *Fault) isFileForFile() bool { return f.types() == "file file" }
-
-// types gives what is recorded and what stands on the disk, where both are known.
-func (f *Fault) types() string {
-	if f.Recorded == nil || f.Found == nil {
-		return ""
-	}
-	return f.Recorded.Type + " " + f.Found.Type
-}
-
-func behindAdvice(one *Fault, file *File, at string, named labels) string {
-	switch {
-	case one.Kind == sendOnly:
-		return at + " only sends: it doesn't take what others change. Choose for the whole folder: 'Override Changes' there undoes their changes " +
-			file.onAll(one.Device, named) + ", and deletes what they added; made 'Send & Receive' there, it takes their changes in place of what stands there" +
-			file.firstWhereOnlySent(one, at)
-	case one.Cause == Conflicting && file.isMissingSomewhere():
-		return "then start Syncthing on all of these devices"
-	case one.Cause == Conflicting && one.Deletion:
-		return "start Syncthing on all of these devices: it keeps " + file.say("the file", "the files") + ", since a change goes before a deletion"
-	case one.Cause == Conflicting:
-		return "start Syncthing on all of these devices: it " + file.conflicting(one.hasNoCopy, file.firsts, named) + file.keepOwn(file.isAloneWith, named)
-	case one.isTied:
-		return tiedAdvice(one, file, at, named)
-	case one.isUntold:
-		return untoldAdvice(file, at, named)
-	case one.Deletion && one.hasDirectory:
-		return at + " has" + file.say(" a directory in its place", " directories in their places") + ", which Syncthing doesn't delete for a deleted file or symlink: it " +
-			"lists 'Failed Items'. Delete" + file.say(" that", " those") + " there, and let Syncthing scan"
-	}
-	told := "let Syncthing run on " + at + " and on " + file.holders(named) + ", and let them finish. If it stays so, see whether a device " +
-		"or the folder is paused, whether they are connected, whether a disk is full, and whether Syncthing's page lists 'Failed Items'"
-	if one.Deletion {
-		told += "; or 'Ignore Delete' is set for the folder on " + at
-	}
-	return told
+	return alone + "; parts are made anew with it"
 }
 
 // holders says on which devices that can be had which is due. It names no device on which something is to be made safe first, if there is another one.

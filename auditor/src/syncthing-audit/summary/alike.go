@@ -37,39 +37,3 @@ func haveSame(contents, others []part.Content) bool {
 	}
 	return false
 }
-
-// sendersOfOtherBytes gives the devices whose other bytes a scan could send to all, once the file is touched.
-func (f *File) sendersOfOtherBytes() []string {
-	made := []string{}
-	for place := range f.Faults {
-		one := &f.Faults[place]
-		if one.Cause == OtherBytes && one.Kind != receiveOnly && f.lackOn(one.Device) == nil {
-			made = append(made, one.Device)
-		}
-	}
-	return made
-}
-
-// touchAdvice says what to do where the other bytes of one of several devices are the right ones.
-func touchAdvice(file *File, senders []string, named labels) string {
-	touch := "'touch' the " + file.say("file", "files")
-	for _, same := range file.Same {
-		if hasAll(same, senders) {
-			touched := file.toTouch(senders)
-			return "if instead the bytes on " + named.all(senders) + " are the right ones, which are the same, " + touch + " on " +
-				named.of(touched) + " alone and let Syncthing scan: it sends them " + file.toAll(touched, named) + file.lostByTouch([]string{touched}, named)
-		}
-	}
-	return "if instead the bytes on one of " + named.all(senders) + " are the right ones, " + touch + " on that one alone and let " +
-		"Syncthing scan: it sends them " + file.toAll("", named) + file.lostByTouch(senders, named)
-}
-
-// hasAll says whether a list has all of these words.
-func hasAll(list, words []string) bool {
-	for _, one := range words {
-		if !slices.Contains(list, one) {
-			return false
-		}
-	}
-	return true
-}

@@ -20,9 +20,9 @@ func TestWhoHasAFileOfAnotherTime(t *testing.T) {
 		reasons    []string
 		told, from string
 	}{
-		{3, []*part.Name{touched(), with(file(1, 1), rotten), file(1, 1)}, []string{"StoreUnclean 1", "StoreDiffers 2"}, " as recorded on: phone to do", "phone"},
-		{2, []*part.Name{touched(), with(file(1, 1), rotten)}, []string{"StoreUnclean 1", "StoreDiffers 2"}, " the recorded bytes on: laptop to do", "laptop"},
-		{2, []*part.Name{touched(), file(1, 1)}, []string{"StoreUnclean 1"}, " as recorded on: server to do", ""},
+		{3, []*part.Name{touched(), with(file(1, 1), rotten), file(1, 1)}, []string{"StoreUnclean 1", "StoreDiffers 2"}, " as recorded on: phone if nothing is done", "phone"},
+		{2, []*part.Name{touched(), with(file(1, 1), rotten)}, []string{"StoreUnclean 1", "StoreDiffers 2"}, " the recorded bytes on: laptop if nothing is done", "laptop"},
+		{2, []*part.Name{touched(), file(1, 1)}, []string{"StoreUnclean 1"}, " as recorded on: server if nothing is done", ""},
 	} {
 		text := printed(answerOf(one.devices, func(folder *finding.Folder) { fails(folder, "a", one.row, one.reasons...) }))
 		if !strings.Contains(text, one.told) || strings.Count(text, " on: ") != 1 || strings.Contains(text, source) != (one.from != "") ||
@@ -34,7 +34,7 @@ func TestWhoHasAFileOfAnotherTime(t *testing.T) {
 
 // So it is of many such files, which are one entry.
 func TestWhoHasManyFilesOfAnotherTime(t *testing.T) {
-	for devices, told := range map[int]string{1: " the recorded bytes on: laptop to do", 2: " as recorded on: server to do"} {
+	for devices, told := range map[int]string{1: " the recorded bytes on: laptop if nothing is done", 2: " as recorded on: server if nothing is done"} {
 		text := printed(answerOf(devices, func(folder *finding.Folder) {
 			for at := 0; at < mostAlone+1; at++ {
 				row := []*part.Name{with(file(1, 1), func(one *part.Name) { one.Disk.ModifiedS = later }), file(1, 1)}

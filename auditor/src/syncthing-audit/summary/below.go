@@ -35,10 +35,9 @@ func (f *File) isAbove() bool {
 }
 
 // filesBelow tells of how many files a scan of a device takes below a directory for deleted; nothing where it takes none.
-func (f *File) filesBelow(one *Fault) (deleted, without string) {
-	count := f.below[one.Device]
-	if count == 0 {
-		return "", ""
+func (f *File) filesBelow(one *Fault) string {
+	if count := f.below[one.Device]; count > 0 {
+		return ", " + counted(count, "file", "files")
 	}
-	return ", " + counted(count, "file", "files"), ", without " + counted(count, "file", "files") + " below it"
+	return ""
 }

@@ -26,11 +26,8 @@ func TestADirectoryComesBeforeWhatIsBelow(t *testing.T) {
 				}
 			}))
 			count := counted(int64(names), "file", "files")
-			const start = "start Syncthing on server and 'Rescan'"
-			copy := strings.Index(text, "before Syncthing scans there (the scan takes all that was below the directory for deleted, "+count+", and sends that on), copy it from laptop")
-			wanted := strings.Index(text, "If it is wanted as it is, without "+count+" below it: "+start)
-			if at := strings.Index(text, " b (in docs"); at < 0 || copy < at || wanted < copy || strings.Index(text, start) < copy ||
-				strings.Index(text, "b/0") < at || strings.Index(text, " a (in docs") < at {
+			copy := strings.Index(text, "before Syncthing starts or scans on server (a scan takes all that was below the directory for deleted, "+count+")")
+			if at := strings.Index(text, " b (in docs"); at < 0 || copy < at || strings.Index(text, "b/0") < at || strings.Index(text, " a (in docs") < at {
 				t.Errorf("%d names, late: %v: %s", names, isLate, text)
 			}
 		}

@@ -4,6 +4,7 @@ import (
 	"time"
 
 	"github.com/syncthing/syncthing/lib/protocol"
+	"syncthing-audit/damage"
 	"syncthing-audit/part"
 )
 
@@ -32,49 +33,28 @@ const (
 
 // Fault is what is wrong on a device.
 type Fault struct {
-	Device   string   `json:"device"`
-	Cause    Cause    `json:"cause"`
-	Kind     string   `json:"kind"`               // of the folder at the device
-	Deletion bool     `json:"deletion,omitempty"` // what the device is behind with, or changed, is a deletion
-	Due      *State   `json:"due,omitempty"`      // what it should have
-	Recorded *State   `json:"recorded,omitempty"`
-	Found    *State   `json:"found,omitempty"` // on its disk
-	Blocks   *Blocks  `json:"blocks,omitempty"`
-	Reasons  []string `json:"reasons"`       // in syncaudit's words
-	Why      string   `json:"why,omitempty"` // of Damaged: the system's words
+	Device   string      `json:"device"`
+	Cause    Cause       `json:"cause"`
+	Kind     string      `json:"kind"`               // of the folder at the device
+	Deletion bool        `json:"deletion,omitempty"` // what the device is behind with, or changed, is a deletion
+	Due      *State      `json:"due,omitempty"`      // what it should have
+	Recorded *State      `json:"recorded,omitempty"`
+	Found    *State      `json:"found,omitempty"`  // on its disk
+	Damage   damage.Kind `json:"damage,omitempty"` // why what stands on the disk looks like damage, and not like an edit
+	Blocks   *Blocks     `json:"blocks,omitempty"`
+	Reasons  []string    `json:"reasons"`       // in syncaudit's words
+	Why      string      `json:"why,omitempty"` // of Damaged: the system's words
 	contents []part.Content
-	damage   string // why what stands on the disk looks like damage, not like an edit
-	ends     ends
-	late     late // what others have and the device's own version lacks
-	mayStay  bool // whether it may lack nothing, by the version of Syncthing there
-	isDue    bool // what stands on the disk is what is due, whatever the device recorded
-	// Of Missing: the type of what the device recorded, or that another device has it, where that goes before what others have.
-	goesBefore string
-	isAlone    bool // of Missing: the device recorded a change that no other one has
-	isSeen     bool // by the next scan, since the mode isn't as recorded
-	isWide     bool // the device's scans look at owners or extended attributes, too
-	// Of Behind: it has a directory in place of something else, which Syncthing doesn't delete together with that.
-	hasDirectory bool
-	isTied       bool     // of Behind: it has something else under the version of what is due, so Syncthing takes nothing
-	isUntold     bool     // of Behind: its view goes beyond what it lacks, so nobody tells it of that again
-	isBefore     bool     // of a device that only receives: the version of what is due counts a change of it from before
-	isLast       bool     // and no change of another device
-	isSameBytes  bool     // whether a local change of a file is of its time or mode alone
-	isGone       bool     // of LocalChange: others deleted the directory after that, so Syncthing deletes what stands there
-	isPassed     bool     // of LocalChange: others changed the name after that, so Syncthing takes theirs by itself
-	firsts       []string // of LocalChange: the devices whose change goes first of those of one time, once that one is sent, too
-	// Another device has to take the file, and may fetch it from there.
-	isFetched bool
-	// Of other bytes: another device may fetch these before this one takes what is newest; what is newest has the recorded bytes, too.
-	isAsked, isLeft bool
-	// Syncthing may move the other bytes to another name that comes; that name, where it is known.
-	mayMove bool
-	movesTo comer
-	lacks   parent // a directory above the name that isn't on the disk
-	// A scan of another device records another change there, of which neither's record knows.
-	isRival bool
-	// What is in conflict isn't a file on each side, so Syncthing may keep no copy of it.
-	hasNoCopy bool
+	// Other devices on whose disks the very bytes stand that the device recorded, at their time.
+	sources     []string
+	ends        ends
+	isSeen      bool   // by the next scan, since the mode isn't as recorded
+	isWide      bool   // the device's scans look at owners or extended attributes, too
+	isOverWire  bool   // the device was asked over the wire, where times of files aren't seen
+	isTied      bool   // of Behind: it has something else under the version of what is due, so Syncthing takes nothing
+	isUntold    bool   // of Behind: its view goes beyond what it lacks, so nobody tells it of that again
+	isSameBytes bool   // whether a local change of a file is of its time or mode alone
+	lacks       parent // a directory above the name that isn't on the disk
 }
 
 // State is what a record or a disk says of a name.
@@ -158,9 +138,9 @@ func onDisk(at *part.Name) Cause {
 	}
 	isLate := own.Content.Size != disk.Size || own.ModifiedS != disk.ModifiedS || own.ModifiedNs != disk.ModifiedNs
 	switch {
-	case disk.Differ != nil && isLate:
+	case at.HasOtherBytes() && isLate:
 		return Changed
-	case disk.Differ != nil:
+	case at.HasOtherBytes():
 		return OtherBytes
 	case isLate:
 		return OtherTime
@@ -193,7 +173,7 @@ func blocksOf(at *part.Name) *Blocks {
 
 // isCutOtherwise says whether a device has the winner's bytes on its disk and in its record, cut into blocks otherwise.
 func isCutOtherwise(at *part.Name, winner *part.Record) bool {
-	if at == nil || at.Own == nil || at.Own.Content == nil || at.Disk == nil || at.Disk.Differ != nil || winner.Content == nil {
+	if at == nil || at.Own == nil || at.Own.Content == nil || at.Disk == nil || at.HasOtherBytes() || winner.Content == nil {
 		return false
 	}
 	for _, one := range at.Disk.Contents {

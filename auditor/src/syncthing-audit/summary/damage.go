@@ -42,9 +42,5 @@ func damageAdvice(one *Fault, file *File, at string, named labels) string {
 	} else {
 		told += "Then bring back what is lost, from another device, old versions or backups"
 	}
-	told += ". Don't delete what is damaged, and don't start Syncthing there, before that is done: a scan takes what is missing for deleted"
-	if one.Kind == receiveOnly {
-		return told
-	}
-	return told + file.spread(file.allDelete(one, "that", named), "")
+	return told + ". Don't delete what is damaged, and don't start Syncthing there, before that is done: a scan takes what is missing for deleted"
 }

@@ -2,6 +2,7 @@ package summary
 
 import (
 	"golang.org/x/text/unicode/norm"
+	"syncthing-audit/damage"
 	"syncthing-audit/finding"
 	"syncthing-audit/join"
 	"syncthing-audit/part"
@@ -15,40 +16,25 @@ type File struct {
 	Name            Text       `json:"name"`
 	Size            int64      `json:"size"`
 	Faults          []Fault    `json:"faults"`
-	Have            []string   `json:"have_recorded"`              // devices whose index and disk have what is due
-	Same            [][]string `json:"same_other_bytes,omitempty"` // devices that have the same bytes in place of those recorded
-	Follows         []Follow   `json:"follows"`                    // what fails for want of the above
-	Permissions     []Mode     `json:"permissions"`                // where they differ
+	Have            []string   `json:"have_recorded"`                // devices whose index and disk have what is due
+	Same            [][]string `json:"same_other_bytes,omitempty"`   // devices that have the same bytes in place of those recorded
+	Follows         []Follow   `json:"follows"`                      // what fails for want of the above
+	Permissions     []Mode     `json:"permissions"`                  // where they differ
+	Foretold        string     `json:"if_nothing_is_done,omitempty"` // in words
 	Advice          []string   `json:"advice"`
 	RenamedFrom     Text       `json:"renamed_from,omitempty"` // the name that goes where this one comes with the same bytes
 	RenamedTo       Text       `json:"renamed_to,omitempty"`   // and the other way round
 	hasDetails      bool
+	foretold        *foretold         // nothing where it isn't known what becomes of it
 	isOfSum         bool              // whether 'sum' tells it
 	isOfAnotherTime bool              // whether those that have what is due have it with another time
 	isOdd           bool              // whether the name isn't in Unicode's form NFC
-	isCopy          bool              // whether the name is itself that of a conflict copy
 	isMany          bool              // whether it stands for many names, which are told as one
 	areWide         map[string]bool   // the devices whose scans look at owners or extended attributes, too
 	takers          []string          // those of them that take the file from others, with the owner and attributes that are recorded
 	runs            map[string]string // the version of Syncthing on each device, as far as that is known
-	isOwn           bool              // whether the folder's one device shares it with nobody
 	others          *actions          // what the entries of all names tell to do
-	rivals          []string          // the devices whose next scans record changes that are in conflict
-	receivers       []string          // the devices that only receive
-	sharers         *sharers          // who takes changes from whom
-	isKept          bool              // whether Syncthing keeps a change of it, since no deletion is on top of that
-	mayStay         []string          // the devices whose change it may keep, since not each deletion is on top of that
-	// The devices whose change goes first of those of one time, once other bytes are a change, too.
-	firstsBesideBytes []string
-	stuck             *stuck           // where Syncthing gets no further with it
-	isOpen            bool             // whether it depends on which devices connect first which of several changes Syncthing keeps
-	localsBelow       []string         // the devices that only receive and have local changes below it
-	blocked           []blocked        // the devices that only receive and can\'t take what Syncthing keeps of it
-	unseenBelow       int64            // how many names below it no details were kept of, where what becomes of it depends on these
-	unseenAbove       string           // a directory above it of which no details were kept, where that decides
-	below             map[string]int64 // how many files below it a device lacks, by its id
-	isNeeded          bool             // whether it is a directory below which there is what Syncthing keeps
-	firsts            []string         // the devices whose change goes first of those in conflict that were modified at the same time; nothing where times decide
+	below           map[string]int64  // how many files below it a device lacks, by its id
 }
 
 // say gives what is said of one name, or of many where the file stands for these.
@@ -57,14 +43,6 @@ func (f *File) say(one, many string) string {
 		return many
 	}
 	return one
-}
-
-// spread gives what is said where a change goes to other devices, or where there is none to which it could go.
-func (f *File) spread(shared, own string) string {
-	if f.isOwn {
-		return own
-	}
-	return shared
 }
 
 // Follow is a reason of syncaudit that goes away with the faults.
@@ -83,30 +61,34 @@ type Mode struct {
 // fileOf gives what is to be told of a name.
 func fileOf(folder *finding.Folder, told *finding.Told) *File {
 	made := &File{Name: Text(told.Name), Faults: []Fault{}, Have: []string{}, Follows: []Follow{}, Permissions: []Mode{}, areWide: areWide(folder),
-		takers: membersWhere(folder, isTaker), receivers: membersWhere(folder, isReceiver), runs: runsOf(folder), isOwn: folder.Own != "",
-		sharers: sharersOf(folder), isOdd: !norm.NFC.IsNormalString(told.Name), isCopy: isCopyName(told.Name)}
-	row := folder.Rows[told.Name]
+		takers: membersWhere(folder, isTaker), runs: runsOf(folder),
+		isOdd: !norm.NFC.IsNormalString(told.Name)}
+	row, read := folder.Rows[told.Name], &reader{folder: folder, row: folder.Rows[told.Name], file: made, reasons: map[int][]string{}}
 	switch {
 	case told.Unwon != nil:
 		addUnwon(made, folder, told.Unwon)
 	case len(told.Failures) > 0:
-		read := &reader{folder: folder, row: row, file: made, reasons: map[int][]string{}}
 		read.read(told.Failures)
 	}
 	if told.Damaged != nil {
 		made.addDamage(folder, told.Damaged)
 	}
-	made.noteFetched()
-	made.noteAsked(folder, row)
 	if told.Permissions != nil {
 		made.Permissions = modesOf(folder, told.Permissions)
 	}
-	made.noteChanges(folder, row)
 	if row != nil {
 		made.hasDetails = true
-		made.Size = row.Size()
+		made.Size = sizeOf(row, read.winner)
 	}
 	return made
+}
+
+// sizeOf gives how many bytes what is due has. Where nothing is due, or its deletion, it is the most that a device has or records.
+func sizeOf(row *join.Row, winner *part.Record) int64 {
+	if winner != nil && winner.Content != nil {
+		return winner.Content.Size
+	}
+	return row.Size()
 }
 
 // unwonCauses are the causes of names without a winner.
@@ -125,7 +107,6 @@ func addUnwon(file *File, folder *finding.Folder, one *finding.Unwon) {
 			if row.At[at.Member].Disk != nil {
 				fault.contents = row.At[at.Member].Disk.Contents
 			}
-			fault.hasNoCopy = fault.isWithoutCopy()
 		}
 		file.Faults = append(file.Faults, fault)
 	}
@@ -157,9 +138,6 @@ func areWide(folder *finding.Folder) map[string]bool {
 
 // isTaker says whether scans look at owners or attributes, and the device takes what others record.
 func isTaker(member join.Member) bool { return isWide(member) && kindOf(member) != sendOnly }
-
-// isReceiver says whether the device only receives.
-func isReceiver(member join.Member) bool { return kindOf(member) == receiveOnly }
 
 // membersWhere gives the devices of which something is so; nothing where there is none.
 func membersWhere(folder *finding.Folder, is func(join.Member) bool) []string {
@@ -318,30 +296,22 @@ func (r *reader) addFaults(member int) {
 func (r *reader) add(member int, cause Cause) {
 	one := r.folder.Members[member]
 	made := Fault{Device: one.Head.Device, Cause: cause, Kind: kindOf(one), Due: recorded(r.winner), Reasons: r.reasons[member],
-		isWide: isWide(one)}
+		isWide: isWide(one), isOverWire: one.Head.IsOverWireAlone()}
 	if at := r.at(member); at != nil {
 		made.Recorded, made.Found = recorded(at.Own), found(at.Disk)
 		if cause == OtherBytes || cause == Changed {
-			made.Blocks, made.damage = blocksOf(at), looksDamaged(at)
-			made.isLeft = cause == OtherBytes && hasBytesOf(at.Own, r.winner)
+			made.Blocks, made.Damage = blocksOf(at), damage.Of(at.Own, at.Disk)
 		}
 		if at.Disk != nil {
 			made.contents = at.Disk.Contents
 		}
-		made.late, made.mayStay = r.lateAt(member)
-		made.isAlone, made.isDue = cause == Missing && r.isAlone(member), isSame(at.Disk, r.winner)
+		made.sources = r.sourcesOf(member)
 		made.isTied = cause == Behind && r.isTied(at)
-		made.isGone = cause == LocalChange && made.Kind == receiveOnly && made.isDirectoryDeleted() && r.isGone(at.Own)
-		made.isPassed = cause == LocalChange && made.Kind == receiveOnly && r.isPassed(at.Own)
 		made.isSameBytes = cause == LocalChange && hasBytesOf(at.Own, r.winner)
 	}
-	made.hasDirectory = cause == Behind && made.Recorded.isDirectory() && made.Due != nil && made.Due.Type != "directory"
 	made.isUntold = cause == Behind && !made.isTied && r.isUntold(member)
-	made.isBefore = made.Kind == receiveOnly && r.winner != nil && part.Counts(r.winner.Version, one.Number)
-	made.isLast = made.isBefore && !part.CountsOthers(r.winner.Version, one.Number)
 	made.Deletion = cause == Behind && made.Due != nil && made.Due.Deleted ||
 		(cause == LocalChange || cause == Conflicting) && made.Recorded != nil && made.Recorded.Deleted
-	made.hasNoCopy = made.isWithoutCopy()
 	made.ends = endsOf(&made, r.at(member), r.winner)
 	r.file.Faults = append(r.file.Faults, made)
 }

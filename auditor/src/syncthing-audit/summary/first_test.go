@@ -28,7 +28,7 @@ func fresh(folder *finding.Folder, member int) {
 
 // Who is told to start Syncthing for one name is told what comes first, where a scan of that device would delete another one on all.
 func TestWhatComesFirst(t *testing.T) {
-	const told = "\nfirst, on server: do what the entries below say to do before Syncthing starts or scans there. As it starts, it scans all folders\n"
+	const told = "\nfirst, on server: do what the steps and the entries below say to do before Syncthing starts or scans there. As it starts, it scans all folders\n"
 	for why, one := range map[string]struct {
 		fill func(*finding.Folder)
 		told bool
@@ -47,7 +47,7 @@ func TestWhatComesFirst(t *testing.T) {
 		"other bytes": {func(folder *finding.Folder) {
 			fails(folder, "a", []*part.Name{file(1, 1), with(file(1, 1), rotten)}, "StoreDiffers 2")
 			fresh(folder, 1)
-		}, false},
+		}, true},
 		"other bytes, and one from which another device takes a file": {func(folder *finding.Folder) {
 			fails(folder, "a", []*part.Name{nil, with(file(1, 1), rotten)}, "RecordMissing 1", "StoreDiffers 2")
 			fails(folder, "b", []*part.Name{nil, file(1, 1)}, "RecordMissing 1")
@@ -61,7 +61,8 @@ func TestWhatComesFirst(t *testing.T) {
 			folder.Rows["a"] = &join.Row{Name: "a", At: []*part.Name{file(1, 1), file(1, 1)}}
 			fresh(folder, 1)
 		}, true},
-		"on two devices":     {func(folder *finding.Folder) { missing(folder, "a", 1); fresh(folder, 0) }, false},
+		"on two devices": {func(folder *finding.Folder) { missing(folder, "a", 1); fresh(folder, 0) }, false},
+		"two are missing, and each entry stops Syncthing there": {func(folder *finding.Folder) { missing(folder, "a", 1); missing(folder, "b", 1) }, true},
 		"one is missing":     {func(folder *finding.Folder) { missing(folder, "a", 1) }, false},
 		"nothing is missing": {func(folder *finding.Folder) { fresh(folder, 1) }, false},
 		"a device that receives": {func(folder *finding.Folder) {
@@ -165,7 +166,7 @@ func TestNamesWithoutDetailsComeFirst(t *testing.T) {
 			}
 			fresh(folder, 1)
 		}))
-		for _, has := range []string{"first, on server: do what the entries below", "to do: before Syncthing starts or scans on server (" + it + " may be missing there, which a scan takes for deleted), audit"} {
+		for _, has := range []string{"first, on server: do what the steps and the entries below", "to do: before Syncthing starts or scans on server (" + it + " may be missing there, which a scan takes for deleted), audit"} {
 			if !strings.Contains(text, has) {
 				t.Errorf("%d: %q isn't in %s", names, has, text)
 			}
@@ -175,7 +176,8 @@ func TestNamesWithoutDetailsComeFirst(t *testing.T) {
 
 // 'Revert Local Changes' is of the whole folder: where one entry tells it, what another one tells of and it would delete is told above both.
 func TestWhatARevertWouldDeleteComesFirst(t *testing.T) {
-	const first = "first, on server: 1 name was added there. 'Revert Local Changes' deletes all of these, whichever entry below tells it: copy elsewhere before what is to stay"
+	const first = "first, on server: 1 name was added, and 1 name was changed there. 'Revert Local Changes' deletes what was added, and writes over what was changed, " +
+		"mostly without a copy, whichever entry below tells it: copy elsewhere before what is to stay"
 	for _, one := range []struct {
 		why              string
 		changed, isFirst bool
@@ -187,8 +189,59 @@ func TestWhatARevertWouldDeleteComesFirst(t *testing.T) {
 			}
 			unwon(folder, "new", 1, finding.LocalChange, local(file(1, 1)))
 		}))
-		if strings.Contains(text, first) != one.isFirst || one.isFirst && strings.Index(text, first) > strings.Index(text, "takes back what was changed") {
+		if strings.Contains(text, first) != one.isFirst || one.isFirst && strings.Index(text, first) > strings.Index(text, "to do: 'Revert Local Changes' on server deletes what was added there") {
 			t.Errorf("%s: whether %q is told above is wrong: %s", one.why, first, text)
 		}
+	}
+}
+
+// A change of one name is taken away by what the entry of another change tells, and no copy is kept of it. Alone, its entry says so.
+func TestWhatARevertWritesOverComesFirst(t *testing.T) {
+	const first = "first, on server: 2 names were changed there. 'Revert Local Changes' deletes what was added, and writes over what was changed"
+	for changed, isFirst := range map[int]bool{1: false, 2: true} {
+		text := printed(answerOf(2, func(folder *finding.Folder) {
+			folder.Members[1].About.Kind = receiveOnly
+			for place := 0; place < changed; place++ {
+				fails(folder, fmt.Sprint("a", place), []*part.Name{file(1, 1), local(file(2, 2), onFirst...)}, "LocalOnly 2")
+			}
+		}))
+		if strings.Contains(text, first) != isFirst {
+			t.Errorf("%d: whether %q is told is wrong: %s", changed, first, text)
+		}
+	}
+}
+
+// What comes first stands in the JSON, too, with the devices and in the same words.
+func TestWhatComesFirstInJSON(t *testing.T) {
+	made := Of(answerOf(3, func(folder *finding.Folder) {
+		fails(folder, "a", []*part.Name{file(1, 1), with(file(1, 1), emptied), file(1, 1)}, "StoreDiffers 2")
+		fails(folder, "b", []*part.Name{file(1, 1), with(file(1, 1), absent), file(1, 1)}, "StoreDiffers 2")
+		fails(folder, "c", []*part.Name{file(1, 1), file(1, 1), with(file(1, 1), grown)}, "StoreDiffers 3")
+		waits(folder, "d", 0, []int{1}, absent)
+	}))
+	told := []string{}
+	for _, one := range made.First {
+		told = append(told, fmt.Sprint(one.Why, one.Devices, one.Names))
+	}
+	want := []string{fmt.Sprint(isUnscanned, []string{laptop}, 1), fmt.Sprint(isDamaged, []string{server}, 1), fmt.Sprint(isLonger, []string{phone}, 1),
+		fmt.Sprint(isMadeSafe, []string{server}, 0)}
+	if fmt.Sprint(told) != fmt.Sprint(want) {
+		t.Errorf("%v, not %v", told, want)
+	}
+	var text, document strings.Builder
+	made.Print(&text, time.UTC, time.Time{})
+	for _, one := range made.First {
+		if !strings.Contains(strings.Join(strings.Fields(text.String()), " "), one.Text) {
+			t.Errorf("%q isn't in %s", one.Text, text.String())
+		}
+	}
+	if err := made.WriteJSON(&document); err != nil {
+		t.Fatal(err)
+	}
+	if told, err := validate(t, document.String()); err != nil {
+		t.Error(told)
+	}
+	if !strings.Contains(document.String(), `"damage":"emptied"`) {
+		t.Error(document.String())
 	}
 }

@@ -26,7 +26,10 @@ type Group struct {
 	Have    []string `json:"have_recorded"` // devices that have what is due, of all of these names
 	Modes   []Mode   `json:"permissions,omitempty"`
 	Advice  []string `json:"advice"`
-	of      *File    // what is so of each name
+
+	Foretold string `json:"if_nothing_is_done,omitempty"` // in words, of each
+
+	of *File // what is so of each name
 
 	isOfAnotherTime bool // as of a file
 	isAbove         bool // whether one of the names is a directory that isn't on the disk of a device
@@ -59,7 +62,7 @@ func (f *folding) keyOf(file *File) string {
 	}
 	many := file.asMany()
 	many.others = nil // these aren't all known yet, and are the same for all names
-	return key + strings.Join(adviceOf(many, f.named), "\n")
+	return key + many.tell(f.named) + strings.Join(adviceOf(many, f.named), "\n")
 }
 
 // asMany gives a name as it is told for many.
@@ -87,6 +90,7 @@ type folding struct {
 	named labels
 	to    *actions // of all entries
 	wrong int64    // names with faults
+	modes int64    // names of which the permissions alone differ
 	alone []*File
 	alike map[string]*alike // by their keys
 	keys  []string          // in the order of their first names
@@ -104,11 +108,12 @@ type alike struct {
 func (f *folding) take(one *File) {
 	if len(one.Faults) > 0 {
 		f.wrong++
+	} else if len(one.Permissions) > 0 {
+		f.modes++
 	}
 	one.sortDevices(f.named)
 	one.Same = sameOtherBytes(one.Faults)
 	one.markSeen()
-	one.noteRivals()
 	one.others = f.to
 	f.to.note(one)
 	f.noteLacked(one)
@@ -156,7 +161,7 @@ func (f *folding) end() ([]*File, []*Group) {
 	sort.Slice(files, func(a, b int) bool { return files[a].Name < files[b].Name })
 	for _, one := range files {
 		f.noteBelow(one)
-		one.Advice = adviceOf(one, f.named)
+		one.Foretold, one.Advice = one.tell(f.named), adviceOf(one, f.named)
 	}
 	link(files)
 	return files, groups
@@ -168,7 +173,7 @@ func (a *alike) groupOf(named labels) *Group {
 	many := first.asMany()
 	made := a.group
 	made.Cause, made.Devices, made.First, made.Have, made.Modes = Permissions, []string{}, []Text{}, first.Have, first.Permissions
-	made.Advice = adviceOf(many, named)
+	made.Foretold, made.Advice = many.tell(named), adviceOf(many, named)
 	if len(first.Faults) > 0 {
 		made.Cause = first.Faults[0].Cause
 		made.Deleted = made.Cause == Behind && first.Faults[0].Deletion

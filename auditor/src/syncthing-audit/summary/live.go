@@ -11,13 +11,16 @@ import (
 	"syncthing-audit/shell"
 )
 
-// Live is what two looks at running devices say of a folder beside what is still.
+// Live is what two looks at running devices say of a folder beside what is still, or what parts of different moments say.
 type Live struct {
-	Seconds *float64  `json:"still_seconds"` // between the last first look and the first second one; none where clocks differ too much
-	Moving  int64     `json:"names_in_motion"`
-	Names   []Moving  `json:"in_motion"` // as many as are kept
-	Unheard []Unheard `json:"not_heard_of"`
-	waits   int64     // of all these names, those that wait for a scan
+	Seconds *float64         `json:"still_seconds"` // between the last first look and the first second one; none where clocks differ too much
+	Moving  int64            `json:"names_in_motion"`
+	Names   []Moving         `json:"in_motion"` // as many as are kept
+	Unheard []Unheard        `json:"not_heard_of"`
+	waits   int64            // of all these names, those that wait for a scan
+	unseen  map[string]int64 // how these wait at the devices that send what a scan finds
+
+	isOfParts bool // no look was made
 }
 
 // Moving is a name that changed while a device was looked at, or waits there. It isn't audited.
@@ -28,11 +31,15 @@ type Moving struct {
 
 // Moved says what changed at a device.
 type Moved struct {
-	Device string     `json:"device"`
-	Why    []string   `json:"why"`
-	waits  string     // how it waits for a scan
-	as     *part.Name // its record and its disk then
-	have   []string   // the devices that have what is recorded
+	Device   string     `json:"device"`
+	Why      []string   `json:"why"`
+	Waits    string     `json:"waits,omitempty"` // how it waits for a scan
+	Recorded *State     `json:"recorded,omitempty"`
+	Found    *State     `json:"found,omitempty"`
+	Have     []string   `json:"have_recorded,omitempty"` // the other devices that have what is recorded
+	as       *part.Name // its record and its disk then
+
+	isOverWire bool // the device was asked over the wire, where a file's time isn't seen
 }
 
 // Unheard counts the still names whose record a device hadn't heard of from another one.
@@ -47,18 +54,28 @@ func liveOf(from *finding.Folder) *Live {
 	if from.Live == nil {
 		return nil
 	}
-	made := &Live{Moving: from.Live.Moving, waits: from.Live.Waits, Names: []Moving{}, Unheard: []Unheard{}}
+	made := &Live{isOfParts: from.Live.OfParts, Moving: from.Live.Moving, waits: from.Live.Waits, unseen: map[string]int64{}, Names: []Moving{}, Unheard: []Unheard{}}
 	if from.Live.Timed {
 		seconds := math.Round(from.Live.Seconds*1000) / 1000
 		made.Seconds = &seconds
+	}
+	for member := range from.Members {
+		if waits := from.SendsAfterScan(member); waits != nil {
+			for kind, count := range waits.Names {
+				made.unseen[kind] += count
+			}
+		}
 	}
 	id := func(member int) string { return from.Members[member].Head.Device }
 	for _, one := range from.Live.Names {
 		next := Moving{Name: one.Name, Devices: []Moved{}}
 		for _, at := range one.At {
-			moved := Moved{Device: id(at.Member), Why: at.Why, waits: at.Waits, as: at.As}
+			moved := Moved{Device: id(at.Member), Why: at.Why, Waits: at.Waits, as: at.As, isOverWire: from.Members[at.Member].Head.IsOverWireAlone()}
+			if at.As != nil {
+				moved.Recorded, moved.Found = recorded(at.As.Own), found(at.As.Disk)
+			}
 			for _, other := range at.Have {
-				moved.have = append(moved.have, id(other))
+				moved.Have = append(moved.Have, id(other))
 			}
 			next.Devices = append(next.Devices, moved)
 		}
@@ -70,8 +87,20 @@ func liveOf(from *finding.Folder) *Live {
 	return made
 }
 
+// inMotion says how many names are in motion, and how they wait where a scan sends something else than what is recorded.
+func (l *Live) inMotion() string {
+	told := "; in motion: " + thousands(l.Moving)
+	if counts := countsOfWaiting(l.unseen); counts != "" {
+		return told + ", NOT audited, of which no scan has seen: " + counts
+	}
+	return told
+}
+
 // still says for how long the names were still.
 func still(one *Folder) string {
+	if one.Live.isOfParts {
+		return ""
+	}
 	if one.Live.Seconds == nil {
 		return "still: "
 	}
@@ -87,6 +116,7 @@ var wordsOfMoved = map[string]string{
 	part.MovedViews:     "what it knows of others' records changed",
 	part.MovedDisk:      "what stands on the disk changed",
 	part.MovedReceiving: "it is being received",
+	part.MovedLater:     "it changed after this part was made",
 	part.MovedUnscanned: "the disk isn't as recorded: it waits for a scan by Syncthing",
 }
 
@@ -124,6 +154,9 @@ func (p *printer) beforeScan(folder *Folder) string {
 
 // advice says what brings names in motion to rest. What waits for a scan waits on where none comes, however often one audits.
 func (l *Live) advice() string {
+	if l.isOfParts {
+		return "make the parts anew, and audit again"
+	}
 	switch l.waiting() {
 	case 0:
 		return "audit again"
@@ -139,7 +172,7 @@ func (p *printer) moving(folder *Folder) {
 	if live == nil {
 		return
 	}
-	if live.Seconds == nil {
+	if live.Seconds == nil && !live.isOfParts {
 		p.line("for how long %s was still isn't known: the devices' clocks differ by more than that", folder.ID)
 	}
 	p.movingNames(folder, live)
@@ -181,13 +214,13 @@ func (p *printer) movingNames(folder *Folder, live *Live) {
 func (p *printer) whyMoved(at Moved) string {
 	words := []string{}
 	for _, word := range at.Why {
-		if word == part.MovedUnscanned && at.waits != "" {
+		if word == part.MovedUnscanned && at.Waits != "" {
 			words = append(words, p.wordsOfWaiting(at))
 		} else {
 			words = append(words, wordsOfMoved[word])
 		}
 	}
-	if at.waits != "" && !slices.Contains(at.Why, part.MovedUnscanned) {
+	if at.Waits != "" && !slices.Contains(at.Why, part.MovedUnscanned) {
 		words = append(words, p.wordsOfWaiting(at))
 	}
 	return strings.Join(words, ", ")

@@ -2,7 +2,6 @@ package summary
 
 import (
 	"crypto/sha256"
-	"fmt"
 	"strings"
 	"testing"
 
@@ -36,6 +35,35 @@ func zeroed(one *part.Name) {
 	one.Disk.Differ.First.Found = &zeros
 }
 
+// zerosOf gives the hash of a block of so many zeros, and that of the content of a file of zeros.
+func zerosOf(size int64) (last, all part.Hash) {
+	const block = 131072
+	sum := sha256.New()
+	for left := size; left > 0; left -= block {
+		length := left
+		if length > block {
+			length = block
+		}
+		last = sha256.Sum256(make([]byte, length))
+		sum.Write(last[:])
+	}
+	return last, *(*part.Hash)(sum.Sum(nil))
+}
+
+// allZeros has zeros in place of all its blocks.
+func allZeros(one *part.Name) {
+	rotten(one)
+	last, all := zerosOf(one.Disk.Size)
+	one.Disk.Contents[0].Hash, one.Disk.Differ.First.Found = all, &last
+}
+
+// overZeros has other bytes than the zeros that were recorded.
+func overZeros(one *part.Name) {
+	rotten(one)
+	last, all := zerosOf(one.Own.Content.Size)
+	one.Own.Content.Hash, one.Disk.Differ.First.Recorded = all, &last
+}
+
 // afterwards gives a change that comes with a later time.
 func afterwards(change func(*part.Name)) func(*part.Name) {
 	return func(one *part.Name) { change(one); touched(one) }
@@ -54,14 +82,17 @@ var looking = []struct {
 	{"cut later", afterwards(resized), "server: changed on the disk since the last scan: 300.0 kB recorded, 1.0 kB on the disk (modified", false},
 	{"zeros later", afterwards(zeroed), "server: looks damaged: a block of it is all zeros now (modified", true},
 	{"zeros at the recorded time", zeroed, "server: other bytes on the disk; size and time are as recorded, so no scan sees it: a block of it is all zeros now (modified", false},
+	{"all zeros later", afterwards(allZeros), "server: looks damaged: all of it is ZEROS (modified", true},
+	{"all zeros at the recorded time", allZeros, "server: other bytes on the disk; size and time are as recorded, so no scan sees it: all of it is ZEROS (modified", false},
+	{"an edit of what was zeros", afterwards(overZeros), "server: changed on the disk since the last scan (modified", false},
 	{"an edit", afterwards(rotten), "server: changed on the disk since the last scan (modified", false},
 }
 
 // What looks like damage is to be copied back before a scan, and comes first.
 func TestWhatLooksDamaged(t *testing.T) {
 	const first = "first, on server: 1 file looks damaged, not edited. Copy back what is to stay, as said below, before Syncthing starts or scans there: a scan sends the damage on"
-	const advice = "to do: this looks like damage, not like an edit. Before Syncthing scans there (the scan takes it for changed), copy it from laptop to server with its time alone"
-	const wanted = "If it is wanted as it is: start Syncthing on server and 'Rescan': the change then goes to all. not compared"
+	const advice = "to do: this looks like damage, not like an edit. Before Syncthing starts or scans on server, copy elsewhere first what stands there, if it may be right, and copy it from laptop to server with its time alone"
+	const wanted = "If it is wanted as it is, leave it. not compared"
 	for _, one := range looking {
 		text := toldOf([]*part.Name{file(1, 1), with(file(1, 1), one.change)}, "StoreDiffers 2", 0, 1, func(*finding.Folder) {})
 		if !strings.Contains(text, one.has) {
@@ -79,9 +110,9 @@ func TestWhatLooksDamaged(t *testing.T) {
 // copy the recorded bytes over them.
 func TestMoreBytesThanRecordedAreKept(t *testing.T) {
 	text := toldOf([]*part.Name{file(1, 1), with(file(1, 1), grown)}, "StoreDiffers 2", 0, 1, func(*finding.Folder) {})
-	for _, has := range []string{"first, on server: 1 file has more bytes than recorded under the recorded time. Keep a copy outside the folder before Syncthing starts or scans there",
+	for _, has := range []string{"first, on server: 1 file has more bytes than recorded, or other ones than recorded zeros, under the recorded time. Keep a copy outside the folder before Syncthing starts or scans there",
 		"server: changed on the disk since the last scan: 300.0 kB recorded, 400.0 kB on the disk: more bytes than recorded under the recorded time",
-		"to do: before Syncthing starts or scans there, copy it from server to a place outside the folder: nobody can tell which bytes are the right ones"} {
+		"to do: before Syncthing starts or scans on server, copy it from there to a place outside the folder: nobody can tell which bytes are the right ones"} {
 		if !strings.Contains(text, has) {
 			t.Errorf("%q isn't in %s", has, text)
 		}
@@ -93,10 +124,19 @@ func TestMoreBytesThanRecordedAreKept(t *testing.T) {
 	}
 }
 
-// What looks like damage of a file of which others have a newer version is moved away: copied back, it would be in conflict with that.
+// Other bytes in place of zeros alone may be the right ones: nobody is told to copy the zeros over them before a copy of them is made.
+func TestOtherBytesThanZerosAreKept(t *testing.T) {
+	text := toldOf([]*part.Name{with(file(1, 1), overZeros), with(file(1, 1), overZeros)}, "StoreDiffers 1,StoreDiffers 2", 0, 1, func(*finding.Folder) {})
+	keep := strings.Index(text, "first copy it from server to a place outside the folder: the recorded bytes may be the wrong ones. Then ")
+	if mend := strings.LastIndex(text, "and copy it to server"); keep < 0 || mend < keep {
+		t.Error(text)
+	}
+}
+
+// What looks like damage of a file of which others have a newer version gets back what the device itself recorded: anything else would be in conflict.
 func TestWhatLooksDamagedWhereOthersHaveSomethingNewer(t *testing.T) {
 	text := toldOf([]*part.Name{file(2, 2), with(file(1, 1), afterwards(emptied))}, "RecordDiffers 2,StoreDiffers 2", 0, 1, func(*finding.Folder) {})
-	if !strings.Contains(text, "move it out of the folder on server while Syncthing is stopped there: then what the others have stays. If it is wanted as it is: start") {
+	if !strings.Contains(text, "Before Syncthing starts or scans on server, copy elsewhere first what stands there, if it may be right, and put the bytes back that server recorded, from old versions") {
 		t.Error(text)
 	}
 }
@@ -125,8 +165,7 @@ func TestMissingAndDeletedElsewhere(t *testing.T) {
 			fresh(folder, 1)
 		})
 		it := map[bool]string{true: "it", false: "them"}[names == 1]
-		if !strings.Contains(text, fmt.Sprintf("to do: start Syncthing on server and 'Rescan': the other devices have deleted %s, too.", it)) ||
-			strings.Contains(text, "mounted") || strings.Contains(text, "copy "+it) || strings.Contains(text, "first, on") {
+		if !strings.Contains(text, "to do: let Syncthing run on server and on") || strings.Contains(text, "mounted") || strings.Contains(text, "put the bytes back") || strings.Contains(text, "copy "+it) || strings.Contains(text, "first, on") {
 			t.Error(text)
 		}
 	}

@@ -49,8 +49,7 @@ func copyingParent(one *Fault, file *File, named labels) string {
 	return "copy " + what + " from " + named.of(file.sourceFor(one)) + " to " + at + file.asItIs(one) + ", with all that is below" + instead + ", while Syncthing is stopped there"
 }
 
-// isReplacedDirectory says whether something else stands in place of a directory, so that a scan takes all below that for deleted, and sends it.
+// isReplacedDirectory says whether something else stands in place of a directory, so that a scan takes all below that for deleted.
 func (f *Fault) isReplacedDirectory() bool {
-	isDue := f.late == notLate || f.late == lateChange && f.Due.isDirectory()
-	return f.Cause == Changed && f.Kind != receiveOnly && isDue && f.Recorded.isDirectory() && f.Found != nil && f.Found.Type != "directory"
+	return f.Cause == Changed && f.Kind != receiveOnly && f.Recorded.isDirectory() && f.Found != nil && f.Found.Type != "directory"
 }

@@ -24,10 +24,10 @@ func TestCopyingBelowADirectoryThatIsNotThere(t *testing.T) {
 		disk *part.Node
 		has  string
 	}{
-		"the directory is missing": {nil, "first copy the directory a/b, in which it is, from laptop to server as it is (cp -a, or rsync -aI, as the user who runs Syncthing there), with all that is below, while Syncthing is stopped there"},
-		"a file is in its place": {file(1, 1).Disk, "first copy the directory a/b, in which it is, from laptop to server as it is (cp -a, or rsync -aI, as the user who runs Syncthing there), with all that is below, once the file that stands in " +
+		"the directory is missing": {nil, "to have again what server recorded, copy the directory a/b, in which it is, from laptop to server as it is (cp -a, or rsync -aI, as the user who runs Syncthing there), with all that is below, while Syncthing is stopped there"},
+		"a file is in its place": {file(1, 1).Disk, "to have again what server recorded, copy the directory a/b, in which it is, from laptop to server as it is (cp -a, or rsync -aI, as the user who runs Syncthing there), with all that is below, once the file that stands in " +
 			"its place is moved away, while Syncthing is stopped there"},
-		"the directory is there": {&part.Node{Type: 1}, "To keep it, first copy it from laptop to server as it is"},
+		"the directory is there": {&part.Node{Type: 1}, "to have again what server recorded, copy it from laptop to server as it is"},
 	} {
 		text := printed(answerOf(2, func(folder *finding.Folder) {
 			missing(folder, "a/b/c/d", 1)
@@ -53,10 +53,10 @@ func TestAFileInPlaceOfADirectory(t *testing.T) {
 		}
 		fresh(folder, 1)
 	}))
-	for _, has := range []string{"first, on server: do what the entries below",
-		"to do: before Syncthing scans there (the scan takes all that was below the directory for deleted, 6 files, and sends that on), copy it from laptop to server as it is (cp -a, or rsync -aI, as the user who " +
-			"runs Syncthing there), once what stands there is moved away, while Syncthing is stopped there. If it is wanted as it is, without 6 files below it: start Syncthing on server",
-		"To keep them, first copy the uppermost directories above them that aren't there from laptop to server as they are (cp -a"} {
+	for _, has := range []string{"first, on server: do what the steps and the entries below",
+		"to do: before Syncthing starts or scans on server (a scan takes all that was below the directory for deleted, 6 files), copy elsewhere first what stands there, if it may be right, and copy it from laptop to " +
+			"server as it is (cp -a, or rsync -aI, as the user who runs Syncthing there), once what stands there is moved away, while Syncthing is stopped there",
+		"to have again what server recorded, copy the uppermost directories above them that aren't there from laptop to server as they are (cp -a"} {
 		if !strings.Contains(text, has) {
 			t.Errorf("%q isn't in %s", has, text)
 		}

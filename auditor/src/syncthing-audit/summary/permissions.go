@@ -20,52 +20,14 @@ func permissionsAdvice(file *File, named labels) string {
 		if !one.isStray() {
 			continue
 		}
-		strays.add("'chmod "+one.Index+"' "+it+" if that is the right mode, before Syncthing scans there: the scan "+file.scanOfMode(&one, named), one.Device)
+		strays.add("'chmod "+one.Index+"' "+it+" if that is the right mode, before Syncthing scans there: a scan takes "+one.Disk+" for a change", one.Device)
 	}
 	strays.each(named, func(told, devices string) { words = append(words, "on "+devices+", "+told) })
 	if len(indexes) > 1 {
-		words = append(words, "'chmod' "+it+" to the same mode on "+named.all(devices)+": where that changes a mode, the next scan may send it "+file.toAll("", named))
+		words = append(words, "'chmod' "+it+" to the same mode on "+named.all(devices)+": where that changes a mode, the next scan takes it for a change")
 	}
 	words = append(words, "or choose 'Ignore Permissions' for the folder")
 	return strings.Join(words, "; ")
-}
-
-// scanOfMode says what a scan does with a mode that isn't as recorded. Where the device is behind with the file, or another one's scan finds another
-// change, the scan takes what stands there for a change.
-func (f *File) scanOfMode(one *Mode, named labels) string {
-	lack := f.lackOn(one.Device)
-	switch {
-	case lack != nil && lack.Cause == Behind && lack.Deletion:
-		return "takes that for a change, which goes before the deletion"
-	case lack != nil || slices.Contains(f.rivals, one.Device):
-		return f.scanOfConflict()
-	case slices.Contains(f.receivers, one.Device):
-		return f.scanOfReceivedMode(one)
-	case f.isTiedAt(one.Device):
-		return "takes what stands there for a change, and sends it " + f.toAll(one.Device, named)
-	}
-	return f.spread("may send "+one.Disk+" "+f.toAll(one.Device, named), "records "+one.Disk)
-}
-
-// scanOfConflict says that of a mode where others have another version of the name.
-func (f *File) scanOfConflict() string {
-	return "takes " + f.say("what stands there for a change", "them for changes") + ", in conflict with what the others have"
-}
-
-// scanOfReceivedMode says that of a device that only receives. On top of a local change Syncthing 1.19 takes it for a conflict, as any change.
-func (f *File) scanOfReceivedMode(one *Mode) string {
-	told := "takes " + one.Disk + " for a local change"
-	for place := range f.Faults {
-		local := &f.Faults[place]
-		if local.Device != one.Device || local.Cause != LocalChange || local.late != lateChange {
-			continue
-		}
-		if !local.mayStay {
-			return f.scanOfConflict()
-		}
-		return told + ", or, as 1.19 does, for one in conflict with what the others have"
-	}
-	return told
 }
 
 // isModeFirst says whether a mode is to be changed before a scan, and so before anything is told that makes one.

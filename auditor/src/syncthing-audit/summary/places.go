@@ -23,3 +23,11 @@ func (p *places) each(named labels, say func(told, devices string)) {
 		say(one, named.all(p.devices[one]))
 	}
 }
+
+// say gives what is said of one device, or of several.
+func say(devices []string, one, several string) string {
+	if len(devices) == 1 {
+		return one
+	}
+	return several
+}

@@ -53,9 +53,9 @@ func link(files []*File) {
 // renamed prints from what or to what a name was renamed, as it seems.
 func (p *printer) renamed(one *File) {
 	if one.RenamedFrom != "" {
-		p.line("  it seems to be renamed from %s: the bytes are the same", shell.Path(string(one.RenamedFrom)))
+		p.line("  it seems to be renamed from %s: the recorded bytes are the same", shell.Path(string(one.RenamedFrom)))
 	}
 	if one.RenamedTo != "" {
-		p.line("  it seems to be renamed to %s: the bytes are the same", shell.Path(string(one.RenamedTo)))
+		p.line("  it seems to be renamed to %s: the recorded bytes are the same", shell.Path(string(one.RenamedTo)))
 	}
 }

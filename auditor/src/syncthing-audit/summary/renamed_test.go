@@ -64,8 +64,8 @@ func TestRenames(t *testing.T) {
 				told++
 			}
 		}
-		if told != len(one.from) || strings.Contains(written.String(), "  it seems to be renamed from old: the bytes are the same\n") != (told > 0) ||
-			strings.Contains(written.String(), "  it seems to be renamed to new: the bytes are the same\n") != (told > 0) {
+		if told != len(one.from) || strings.Contains(written.String(), "  it seems to be renamed from old: the recorded bytes are the same\n") != (told > 0) ||
+			strings.Contains(written.String(), "  it seems to be renamed to new: the recorded bytes are the same\n") != (told > 0) {
 			t.Errorf("%s:\n%s", one.why, written.String())
 		}
 		if err := made.WriteJSON(&documents); err != nil {

@@ -8,6 +8,8 @@ import (
 
 	"golang.org/x/exp/slices"
 	"syncthing-audit/finding"
+	"syncthing-audit/join"
+	"syncthing-audit/part"
 )
 
 // Which numbers devices have changes nothing that is told, and what they are called nothing but names and their order: except where Syncthing's own order
@@ -67,27 +69,12 @@ func nameless(text string) string {
 	return strings.Join(words, " ")
 }
 
-// goesByIDs says whether two devices have, or by a scan come to have, changes in conflict of one time, or of one version and not the same.
+// goesByIDs says whether two devices have recorded changes in conflict of one time, or of one version and not the same.
 func goesByIDs(folder *finding.Folder) bool {
 	for _, row := range folder.Rows {
-		all := contendersOf(folder, row, nil)
 		for place, at := range row.At {
-			if at == nil || at.Own == nil {
-				continue
-			}
-			device, number := folder.Members[place].Head.Device, folder.Members[place].Number
-			version := at.Own.Version
-			if at.Own.Invalid {
-				version = afterScan(at.Own, number)
-			}
-			all = append(all, *recordedBy(at.Own, version, device))
-			if at.Disk != nil {
-				all = append(all, contender{device, afterScan(at.Own, number), undated(found(at.Disk)), at.Disk.Contents})
-			}
-		}
-		for place := range all {
-			for _, other := range all[place+1:] {
-				if isByID(&all[place], &other) {
+			for _, other := range row.At[:place] {
+				if at != nil && other != nil && at.Own != nil && other.Own != nil && isByID(at.Own, other.Own) {
 					return true
 				}
 			}
@@ -96,14 +83,8 @@ func goesByIDs(folder *finding.Folder) bool {
 	return false
 }
 
-// isByID says whether two changes are of one time and neither is on top of the other.
-func isByID(one, other *contender) bool {
-	claim, against := one.claim(), other.claim()
-	if one.device == other.device || claim.IsBelow(against) || against.IsBelow(claim) {
-		return false
-	}
-	if claim.IsOfOneVersion(against) {
-		return !one.isSame(other) || one.is.Deleted != other.is.Deleted
-	}
-	return one.isOfOneTime(other) && one.is.Deleted == other.is.Deleted
+// isByID says whether two records are of one time and neither is on top of the other.
+func isByID(one, other *part.Record) bool {
+	claim, against := join.ClaimOf(one), join.ClaimOf(other)
+	return !claim.IsBelow(against) && !against.IsBelow(claim)
 }

@@ -28,16 +28,23 @@ func (p *printer) rest(s *Summary) {
 	p.writers(s)
 	p.nearTimes(s)
 	for _, one := range s.LeftOut {
-		p.line("left out: %s of %s: %s", shell.Folder(one.Folder, one.label), one.Device, one.Why)
+		p.line("left out: %s: %s", one.called(), one.Why)
 	}
-	p.unknownTakers(s)
+	for _, one := range s.Earlier {
+		p.line("of another moment: %s of %s: %s", shell.Folder(one.Folder, one.label), one.Device, one.Why)
+	}
+	for _, one := range s.Observers {
+		p.line("not asked: %s, an observer: it shares %s, keeps no files of it, and sends no records", p.named.observer(one), one.Folder)
+	}
 	p.notAsked(s)
 	p.otherNames(s)
 	if s.Firm == finding.NotAsked {
 		p.line("not asked: whether what is in step is firm, too: this syncaudit is too old to say so")
 	}
 	p.doubts(s)
+	p.wentBack(s)
 	p.ages(s)
+	p.unsigned(s)
 	p.untried(s)
 	p.line("not compared: %s", strings.Join(s.NotCompared, ", "))
 }
@@ -102,7 +109,7 @@ func (p *printer) doubts(s *Summary) {
 		}
 		if one.Newer != nil {
 			p.line("maybe an old index: that of %s was written last %s, and %s there after that, %s. %s", p.named.of(one.ID), p.when(one.Newer.Read),
-				shell.Quoted(one.Newer.Path), p.when(one.Newer.Written), one.Newer.WhatToDo())
+				one.Newer.Called(), p.when(one.Newer.Written), one.Newer.WhatToDo())
 		}
 		if one.Repair {
 			p.line("to be repaired: the index of %s. Syncthing found a fault in it, and repairs it at its next start. Till then it may not take or tell what it "+

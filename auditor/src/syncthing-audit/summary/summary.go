@@ -7,8 +7,10 @@ import (
 
 	"syncthing-audit/choice"
 	"syncthing-audit/finding"
+	"syncthing-audit/history"
 	"syncthing-audit/join"
 	"syncthing-audit/part"
+	"syncthing-audit/print"
 	"syncthing-audit/shell"
 )
 
@@ -28,14 +30,19 @@ type Summary struct {
 	Verdict     string     `json:"verdict"`
 	Firm        Firm       `json:"firm"`
 	Devices     []Device   `json:"devices"`
+	First       []First    `json:"first"` // what is to be done before all that entries tell
 	Folders     []*Folder  `json:"folders"`
-	LeftOut     []LeftOut  `json:"left_out"`  // devices, and folders as a whole
-	NotAsked    []NotAsked `json:"not_asked"` // folders of these devices
-	NotTold     []string   `json:"not_told"`  // devices whose parts don't say which folders they haven't
+	LeftOut     []LeftOut  `json:"left_out"`          // devices, and folders as a whole
+	Earlier     []LeftOut  `json:"earlier,omitempty"` // devices whose parts are of an earlier moment than others
+	NotAsked    []NotAsked `json:"not_asked"`         // folders of these devices
+	NotTold     []string   `json:"not_told"`          // devices whose parts don't say which folders they haven't
 	NotCompared []string   `json:"not_compared"`
-	isByName    bool       // whether the folders were asked for by their ids
-	byNames     bool       // whether the names were asked for by how they begin
-	actions     *actions
+
+	Observers []Observer     `json:"observers,omitempty"` // devices that share a folder, keep no files of it, and weren't asked
+	Since     *history.Since `json:"since,omitempty"`     // what a history says beside the answer
+	isByName  bool           // whether the folders were asked for by their ids
+	byNames   bool           // whether the names were asked for by how they begin
+	actions   *actions
 }
 
 // Device is a device that was audited.
@@ -51,7 +58,10 @@ type Device struct {
 	Index  *part.Index `json:"index,omitempty"`            // what may be amiss with it
 	Newer  *part.Newer `json:"newer_index,omitempty"`
 	Repair bool        `json:"index_to_repair,omitempty"`
-	asked  choice.Names
+
+	IsUnsigned bool `json:"not_signed,omitempty"` // its part's signature wasn't checked
+
+	asked choice.Names
 }
 
 // Slice says of which slice names are, and of how many.
@@ -86,19 +96,28 @@ type Folder struct {
 	More    Count    `json:"conflict_copies_unlisted"`
 	Ignored Count    `json:"ignored"`
 	Own     bool     `json:"not_shared,omitempty"` // its one device shares it with nobody: it was compared with that one's own index
+	modes   int64    // names of which the permissions alone differ, which don't count for the verdict
 	isApart bool     // whether other devices have theirs of this id, which they share with nobody, too
 	Live    *Live    `json:"live,omitempty"` // of devices that were looked at while they ran
 	Firm    Firm     `json:"firm"`
 	Loose   int64    `json:"names_not_firm"`           // that keep a folder in step from being firm
 	NotFirm []Loose  `json:"not_firm"`                 // the first of these names
 	Unsure  []Unsure `json:"not_known_firm,omitempty"` // what may change a folder in step that is otherwise firm
+
+	Converging finding.Converging `json:"converging,omitempty"`     // of a folder not in step: whether its records lead to one end
+	Hindrance  *Hindrance         `json:"not_converging,omitempty"` // the first thing that hinders it, in syncaudit's words
+	Pairs      *int64             `json:"pairs_to_come,omitempty"`  // of a name and a device, in a folder that converges
+
+	Outlook *print.Outlook `json:"outlook,omitempty"` // what happens if nobody does anything; nothing where an older program made the export
+
+	lacksOutlook bool // of a folder not in step
 }
 
 // Member is a device that shares a folder.
 type Member struct {
 	Device string `json:"device"`
 	Kind   string `json:"kind"`
-	Path   string `json:"path"`
+	Path   string `json:"path,omitempty"` // where the part tells it
 
 	Indexed       int64    `json:"names_in_index,omitempty"` // whichever were asked for
 	Paused        bool     `json:"paused,omitempty"`
@@ -108,10 +127,12 @@ type Member struct {
 	Near          int64    `json:"near_times,omitempty"`     // files with other times than recorded within that
 	Rest          string   `json:"syncthing_is,omitempty"`   // of two looks: how Syncthing was seen between them
 	Temporary     *Count   `json:"temporary,omitempty"`      // names that Syncthing takes for its temporary files, where there are any
+
+	OverWire *OverWire `json:"over_the_wire,omitempty"` // what isn't seen of a device that was asked over the wire
 }
 
 func memberOf(one join.Member) Member {
-	made := Member{Device: one.Head.Device, Kind: kindOf(one)}
+	made := Member{Device: one.Head.Device, Kind: kindOf(one), OverWire: overWireOf(one)}
 	if one.About != nil {
 		made.Path, made.Indexed, made.Paused, made.PausedDevices = one.About.Path, one.About.Indexed, one.About.Paused, one.About.PausedDevices
 		made.Writers, made.Window, made.Near = one.About.Writers, one.About.TimeWindow, one.Near
@@ -162,6 +183,17 @@ type LeftOut struct {
 	label  string // of the folder
 }
 
+// called names what was left out for a person: a device of a folder, a folder as a whole, or a device whose folders aren't known.
+func (l LeftOut) called() string {
+	switch {
+	case l.Folder == "":
+		return l.Device
+	case l.Device == "":
+		return shell.Folder(l.Folder, l.label)
+	}
+	return shell.Folder(l.Folder, l.label) + " of " + l.Device
+}
+
 // notCompared is what no audit compares.
 var notCompared = []string{"owners", "extended attributes", "old versions"}
 
@@ -172,11 +204,11 @@ func Of(answer *finding.Answer) *Summary {
 	asked := askedOf(answer)
 	for _, one := range answer.Devices {
 		names := asked[one.ID]
-		made.Devices = append(made.Devices, Device{one.ID, one.Name, one.Made, one.From, one.Runs, Text(names.Prefix), sliceOf(names), one.Index, one.Newer, one.ToRepair, names})
+		made.Devices = append(made.Devices, Device{one.ID, one.Name, one.Made, one.From, one.Runs, Text(names.Prefix), sliceOf(names), one.Index, one.Newer, one.ToRepair, one.IsUnsigned, names})
 	}
 	named := made.labels()
 	made.actions = &actions{safe: map[string][]int{}, damaged: map[string]int64{}, waits: map[string]*waiting{}, grown: map[string]int64{}, added: map[string]int64{},
-		reverts: map[string]bool{}, started: map[string][]int{}}
+		changed: map[string]int64{}, taken: map[string][]int{}, reverts: map[string][]int{}, started: map[string][]int{}}
 	names := []*folding{}
 	for _, one := range answer.Folders {
 		all := &folding{named: named, to: made.actions, alike: map[string]*alike{}, lacking: map[lacked]int64{}}
@@ -185,8 +217,15 @@ func Of(answer *finding.Answer) *Summary {
 	for place, one := range made.Folders { // what is told of one name depends on what is told of all others
 		one.Files, one.Groups = names[place].end()
 	}
+	for _, one := range answer.Observers {
+		made.Observers = append(made.Observers, Observer{one.Folder, one.Device, one.Name})
+	}
+	made.First = made.firstOf(named)
 	for _, one := range answer.LeftOut {
 		made.LeftOut = append(made.LeftOut, LeftOut{one.Folder, one.Device, one.Kind, one.Why, one.Label})
+	}
+	for _, one := range answer.Earlier {
+		made.Earlier = append(made.Earlier, LeftOut{one.Folder, one.Device, one.Kind, one.Why, one.Label})
 	}
 	return made
 }
@@ -240,19 +279,17 @@ func folderOf(answer *finding.Answer, from *finding.Folder, all *folding) *Folde
 	for _, one := range from.Members {
 		made.Devices = append(made.Devices, memberOf(one))
 	}
-	below, unseen, locals, coming := keptBelow(from), unseenOf(from), localsBelow(from), comersOf(from)
+	made.Outlook = print.OutlookOf(from.Outlook, devicesIn(made))
+	foretell := foreteller(made, all.named)
+	without := &withoutSteps{planned: plannedIn(from.Outlook)}
 	from.EachName(func(told *finding.Told) {
 		one := fileOf(from, told)
-		one.isOfSum = answer.IsSum
-		one.noteStuck(from, below)
-		one.noteBlocked(from)
+		one.isOfSum, one.foretold = answer.IsSum, foretell(told.Name)
 		one.noteParents(from)
-		one.noteMoved(from, from.Rows[told.Name], coming)
-		one.noteUnseen(unseen)
-		one.localsBelow = locals[string(one.Name)]
 		all.take(one)
+		without.note(one)
 	})
-	made.Wrong = all.wrong
+	made.Wrong, made.modes = all.wrong, all.modes
 	all.to.noteWaiting(from)
 	for _, one := range from.Conflicts {
 		made.Copies = append(made.Copies, Copy{Text(one.Name), one.Bytes})
@@ -264,7 +301,23 @@ func folderOf(answer *finding.Answer, from *finding.Folder, all *folding) *Folde
 	made.Firm = from.HowFirm()
 	made.Loose, made.NotFirm = looseOf(from)
 	made.Unsure = unsureOf(from)
+	made.Converging, made.Hindrance = answer.HowConverging(from), hindranceOf(from)
+	if made.Converging == finding.Converges {
+		made.Pairs = from.Convergence.Pairs
+	}
+	if made.Outlook != nil {
+		made.Outlook.WithoutSteps, made.Outlook.FirstWithout = without.count, without.first
+	}
+	made.lacksOutlook = answer.IsSum && from.Outlook == nil && made.Verdict == NotInStep
 	return made
+}
+
+func devicesIn(folder *Folder) []string {
+	devices := []string{}
+	for _, member := range folder.Devices {
+		devices = append(devices, member.Device)
+	}
+	return devices
 }
 
 // namesOf gives what was left out.

@@ -7,8 +7,10 @@ import (
 	"strings"
 	"time"
 
+	"syncthing-audit/damage"
 	"syncthing-audit/finding"
 	"syncthing-audit/outside"
+	"syncthing-audit/print"
 	"syncthing-audit/shell"
 )
 
@@ -27,7 +29,18 @@ func (s *Summary) Print(to io.Writer, zone *time.Location, now time.Time) {
 	for _, one := range s.Folders {
 		p.folder(one)
 	}
+	p.history(s.Since)
 	p.first(s)
+	foretold := &print.Person{To: p.to, Called: p.named.of, Zone: zone}
+	for _, one := range s.Folders {
+		foretold.Outlook(shell.Folder(one.ID, one.Label), one.Verdict != NotInStep, one.Outlook)
+		if one.Converging == finding.Converges {
+			foretold.Converging(shell.Folder(one.ID, one.Label), one.Outlook, one.Pairs)
+		}
+		if one.lacksOutlook {
+			foretold.NoOutlook(shell.Folder(one.ID, one.Label))
+		}
+	}
 	p.entries(s)
 	for _, folder := range s.Folders {
 		p.loose(folder)
@@ -43,14 +56,18 @@ func (p *printer) line(format string, words ...interface{}) {
 // verdict says whether a folder is in step, and firm.
 func (p *printer) verdict(one *Folder) string {
 	if one.Verdict == NotInStep {
-		return "NOT in step, " + counted(one.Wrong, "name is wrong", "names are wrong")
+		verdict := "NOT in step, " + counted(one.Wrong, "name is wrong", "names are wrong")
+		if one.modes > 0 {
+			verdict += ", and of " + thousands(one.modes) + " more the permissions alone differ"
+		}
+		return verdict
 	}
 	verdict := "in step"
 	if one.Firm == finding.IsFirm {
 		verdict += " and firm"
 	}
 	if one.Verdict == AsFar {
-		verdict += " as far as audited"
+		verdict += one.asFarAs()
 	}
 	switch one.Firm {
 	case finding.NotFirm:
@@ -64,19 +81,15 @@ func (p *printer) verdict(one *Folder) string {
 // folder prints the one line of a folder.
 func (p *printer) folder(one *Folder) {
 	verdict := p.verdict(one)
-	devices := []string{}
-	for _, member := range one.Devices {
-		devices = append(devices, member.Device)
-	}
 	names, moving := counted(one.Names, "name", "names"), ""
 	if one.Live != nil {
-		names, moving = still(one)+names, "; in motion: "+thousands(one.Live.Moving)
+		names, moving = still(one)+names, one.Live.inMotion()
 	}
 	deleted := thousands(one.Deleted) + " deleted"
 	if one.Going > 0 {
 		deleted += ", " + thousands(one.Going) + " being deleted"
 	}
-	p.line("%s: %s; %s (%s), %s hashed on %s%s", shell.Folder(one.ID, one.Label), verdict, names, deleted, size(one.Bytes), p.named.all(devices), moving)
+	p.line("%s: %s; %s (%s), %s hashed on %s%s", shell.Folder(one.ID, one.Label), verdict, names, deleted, size(one.Bytes), p.named.all(devicesIn(one)), moving)
 }
 
 // group prints names with the same fault as one entry.
@@ -86,7 +99,7 @@ func (p *printer) group(folder *Folder, one *Group) {
 		p.modes(one.Modes)
 	}
 	for _, device := range one.Devices {
-		words := wordsOf[one.Cause]
+		words := p.wordsOfMany(one, device)
 		if one.Deleted {
 			words = "behind: hasn't deleted them yet"
 		}
@@ -100,6 +113,7 @@ func (p *printer) group(folder *Folder, one *Group) {
 	if len(one.Have) > 0 && one.Cause != Permissions {
 		p.have(one.Have, one.isOfAnotherTime, one.of.isDeletionDue())
 	}
+	p.foretold(one.Foretold)
 	p.advice(one.Advice)
 }
 
@@ -132,6 +146,7 @@ func (p *printer) file(folder *Folder, one *File) {
 	if len(one.Follows) > 0 && !one.isTied() {
 		p.line("  so %s can still take another version of it, until that is mended", p.named.all(devicesOf(one.Follows)))
 	}
+	p.foretold(one.Foretold)
 	p.advice(one.Advice)
 }
 
@@ -207,6 +222,8 @@ func (p *printer) wordsOf(one *Fault) string {
 	switch {
 	case one.Cause == Differs && one.Why != "":
 		return one.Why
+	case one.mayBeEdit():
+		return "other bytes on the disk, of the recorded size: rot, or an edit that no scan has taken" + one.ofDamage()
 	case one.isSeen:
 		return "other bytes on the disk; size and time are as recorded, the mode isn't, so the next scan sees it"
 	case one.mayShow():
@@ -227,8 +244,8 @@ func (p *printer) wordsOf(one *Fault) string {
 		return fmt.Sprintf("a %s on the disk, recorded as a %s", one.Found.Type, one.Recorded.Type)
 	case one.Cause == Changed && one.isFileForFile():
 		return wordsOfChanged([]*Fault{one})
-	case one.Cause == OtherBytes && one.damage != "":
-		return wordsOf[OtherBytes] + ": " + one.damage
+	case one.Cause == OtherBytes && one.Damage != damage.None:
+		return wordsOf[OtherBytes] + one.ofDamage()
 	}
 	return wordsOf[one.Cause]
 }
@@ -240,6 +257,8 @@ func (p *printer) since(one *Fault) string {
 		return " (" + one.Why + ")"
 	case one.isTied || one.Cause == Behind && one.Due.isUndated() || one.Cause == LocalChange && one.Recorded.isUndated():
 		return ""
+	case one.mayBeEdit() && one.Recorded != nil:
+		return " (recorded as modified " + p.when(*one.Recorded.Modified) + ")"
 	case one.Cause == OtherBytes && one.Recorded != nil:
 		return " (modified " + p.when(*one.Recorded.Modified) + ")"
 	case one.Cause == LocalChange && one.Recorded != nil && one.Deletion:
@@ -311,24 +330,16 @@ func (p *printer) modes(all []Mode) {
 	p.line("  permissions differ (they don't count for the verdict): %s", strings.Join(words, "; "))
 }
 
-// widthOfText is how long a line of running text grows, about.
-const widthOfText = 100
+// foretold prints what becomes of a name if nobody does anything.
+func (p *printer) foretold(told string) {
+	if told != "" {
+		p.running("  if nothing is done:", told+".")
+	}
+}
 
 // advice prints what to do, over as many lines as it takes.
 func (p *printer) advice(all []string) {
 	for _, one := range all {
 		p.running("  to do:", one+".")
 	}
-}
-
-// running prints running text behind a word, over as many lines as it takes.
-func (p *printer) running(line, text string) {
-	for _, word := range strings.Split(text, " ") {
-		if len(line)+1+len(word) > widthOfText {
-			p.line("%s", line)
-			line = "        "
-		}
-		line += " " + word
-	}
-	p.line("%s", line)
 }

@@ -2,93 +2,13 @@ package summary
 
 import (
 	"fmt"
-	"sort"
 	"strings"
 	"testing"
 	"time"
 
 	"syncthing-audit/finding"
-	"syncthing-audit/join"
 	"syncthing-audit/part"
 )
-
-const (
-	laptop = "LAPTOPA" + restOfID
-	server = "SERVERA" + restOfID
-	phone  = "PHONEAA" + restOfID
-
-	restOfID = "-AAAAAAA-AAAAAAA-AAAAAAA-AAAAAAA-AAAAAAA-AAAAAAA-AAAAAAA"
-)
-
-var ids = []string{laptop, server, phone}
-
-// started is when all that is recorded here was changed, and later when some of it was changed again.
-const (
-	started = 1600000000
-	later   = 1600000060
-)
-
-// answerOf gives an answer of one folder, docs, at so many devices, numbered from 1.
-func answerOf(devices int, fill func(*finding.Folder)) *finding.Answer {
-	folder := &finding.Folder{ID: "docs", Label: "Documents", Names: 1204, Deleted: 4, Bytes: 335200000, Rows: map[string]*join.Row{},
-		Firmness: finding.Firmness{Asked: true}}
-	answer := &finding.Answer{Folders: []*finding.Folder{folder}}
-	for place, name := range []string{"laptop", "server", "phone"}[:devices] {
-		head := &part.Head{Device: ids[place], Name: name, Folders: []part.Folder{{ID: "docs", Kind: "send-receive", Path: "/srv/docs"}}}
-		device := &join.Device{Head: head, Number: uint64(place + 1)}
-		folder.Members = append(folder.Members, join.Member{Device: device, About: &head.Folders[0]})
-		answer.Devices = append(answer.Devices, finding.Device{ID: ids[place], Number: device.Number, Name: name})
-	}
-	told = nil
-	fill(folder)
-	sort.SliceStable(told, func(a, b int) bool { return finding.IsBefore(&told[a], &told[b]) })
-	for _, one := range told {
-		folder.Failures.Add(one)
-	}
-	return answer
-}
-
-// told are the failures of the folder that is filled, which are added to it in their order.
-var told []finding.Failure
-
-// file gives what a device in step has of a file of three blocks.
-func file(version uint64, hash byte) *part.Name {
-	content := part.Content{Size: 300000, BlockSize: 131072, Hash: part.Hash{hash}}
-	return &part.Name{Own: &part.Record{ModifiedS: started, ModifiedBy: 1, Version: [][2]uint64{{1, version}}, Sequence: 1, Content: &content},
-		Disk: &part.Node{ModifiedS: started, Size: 300000, Contents: []part.Content{content}}}
-}
-
-// with gives the same with a change.
-func with(one *part.Name, change func(*part.Name)) *part.Name {
-	change(one)
-	return one
-}
-
-// rotten has one block of other bytes.
-func rotten(one *part.Name) {
-	one.Disk.Contents[0].Hash = part.Hash{99}
-	one.Disk.Differ = &part.Differ{Count: 1, Ranges: [][2]int64{{2, 2}}, First: part.Pair{Recorded: &part.Hash{0xab, 0xcd}, Found: &part.Hash{0x12}}}
-}
-
-// fails adds a name with its reasons, such as 'StoreDiffers 2'.
-func fails(folder *finding.Folder, name string, row []*part.Name, reasons ...string) {
-	for _, one := range reasons {
-		failure := finding.Failure{Name: name}
-		fmt.Sscan(one, &failure.Reason, &failure.Device)
-		told = append(told, failure)
-	}
-	if row != nil {
-		folder.Rows[name] = &join.Row{Name: name, At: row}
-	}
-}
-
-// unwon adds a name without a winner.
-func unwon(folder *finding.Folder, name string, member int, kind string, has *part.Name) {
-	folder.Unwon.Add(finding.Unwon{Name: name, At: []finding.Cause{{Member: member, Kind: kind}}})
-	row := make([]*part.Name, len(folder.Members))
-	row[member] = has
-	folder.Rows[name] = &join.Row{Name: name, At: row}
-}
 
 const (
 	lineOfFolder = "docs (Documents): NOT in step, 1 name is wrong; 1,204 names (4 deleted), 335.2 MB hashed on laptop, server\n"
@@ -112,11 +32,12 @@ var textsForAPerson = []struct {
     block 2 differs (1 of 3 blocks of 128 KiB; the first is block 0)
     the first of them: SHA-256 abcd0000.. recorded, 12000000.. on the disk
   as recorded on: laptop
-  to do: Syncthing won't repair it, and sends these bytes to all once another device fetches the
-         file from server. Before that, copy it from laptop to server with its time alone (cp
-         --preserve=timestamps, or rsync --inplace --times --ignore-times) while Syncthing is
-         stopped there. If instead the bytes on server are the right ones, 'touch' the file there
-         and let Syncthing scan: it sends them to all.
+  if nothing is done: it isn't known what happens: a program of 0.14.0 or before made the export.
+  to do: before Syncthing starts or scans on any of these devices, copy elsewhere what is to stay of
+         what stands on laptop, server.
+  to do: to have again what server recorded, copy elsewhere first what stands there, if it may be
+         right, and copy it from laptop to server with its time alone (cp --preserve=timestamps, or
+         rsync --inplace --times --ignore-times) while Syncthing is stopped there.
 ` + lastLine},
 	{"a file of other bytes where scans look at attributes", 2, func(folder *finding.Folder) {
 		folder.Members[1].About.ScansAttributes = true
@@ -127,11 +48,13 @@ a  (in docs, 300.0 kB)
     block 2 differs (1 of 3 blocks of 128 KiB; the first is block 0)
     the first of them: SHA-256 abcd0000.. recorded, 12000000.. on the disk
   as recorded on: laptop
-  to do: before Syncthing scans there (the scan may send these bytes to all), copy it from laptop to
-         server with its time alone, into the file that stands there (cp --preserve=timestamps, or
-         rsync --inplace --times --ignore-times) while Syncthing is stopped there: that file keeps
-         its owner and attributes. If instead the bytes on server are the right ones, 'touch' the
-         file there and let Syncthing scan: it sends them to all.
+  if nothing is done: it isn't known what happens: a program of 0.14.0 or before made the export.
+  to do: before Syncthing starts or scans on any of these devices, copy elsewhere what is to stay of
+         what stands on laptop, server.
+  to do: to have again what server recorded, copy elsewhere first what stands there, if it may be
+         right, and copy it from laptop to server with its time alone, into the file that stands
+         there (cp --preserve=timestamps, or rsync --inplace --times --ignore-times) while Syncthing
+         is stopped there: that file keeps its owner and attributes.
 ` + lastLine},
 	{"the same other bytes on two devices, under a name like an option", 3, func(folder *finding.Folder) {
 		fails(folder, "-rf", []*part.Name{file(1, 1), with(file(1, 1), rotten), with(file(1, 1), rotten)}, "StoreDiffers 2", "StoreDiffers 3")
@@ -146,16 +69,15 @@ a  (in docs, 300.0 kB)
     the first of them: SHA-256 abcd0000.. recorded, 12000000.. on the disk
   the same other bytes on: phone, server
   as recorded on: laptop
-  to do: Syncthing won't repair it, and sends these bytes to all once another device fetches the
-         file from phone. Before that, copy it from laptop to phone with its time alone (cp
-         --preserve=timestamps, or rsync --inplace --times --ignore-times) while Syncthing is
-         stopped there.
-  to do: Syncthing won't repair it, and sends these bytes to all once another device fetches the
-         file from server. Before that, copy it from laptop to server with its time alone (cp
-         --preserve=timestamps, or rsync --inplace --times --ignore-times) while Syncthing is
-         stopped there.
-  to do: if instead the bytes on phone, server are the right ones, which are the same, 'touch' the
-         file on phone alone and let Syncthing scan: it sends them to all.
+  if nothing is done: it isn't known what happens: a program of 0.14.0 or before made the export.
+  to do: before Syncthing starts or scans on any of these devices, copy elsewhere what is to stay of
+         what stands on laptop, phone, server.
+  to do: to have again what phone recorded, copy elsewhere first what stands there, if it may be
+         right, and copy it from laptop to phone with its time alone (cp --preserve=timestamps, or
+         rsync --inplace --times --ignore-times) while Syncthing is stopped there.
+  to do: to have again what server recorded, copy elsewhere first what stands there, if it may be
+         right, and copy it from laptop to server with its time alone (cp --preserve=timestamps, or
+         rsync --inplace --times --ignore-times) while Syncthing is stopped there.
 ` + lastLine},
 	{"a symlink, whose record has no time, that a device lacks", 2, func(folder *finding.Folder) {
 		link := &part.Name{Own: &part.Record{Type: 4, Target: "a", ModifiedBy: 1, Version: [][2]uint64{{1, 1}}, Sequence: 1}, Disk: &part.Node{Type: 4, Target: "a"}}
@@ -164,6 +86,9 @@ a  (in docs, 300.0 kB)
 link  (in docs)
   server: behind: doesn't have it yet
   as recorded on: laptop
+  if nothing is done: it isn't known what happens: a program of 0.14.0 or before made the export.
+  to do: before Syncthing starts or scans on any of these devices, copy elsewhere what is to stay of
+         what stands on laptop.
   to do: let Syncthing run on server and on laptop, and let them finish. If it stays so, see whether
          a device or the folder is paused, whether they are connected, whether a disk is full, and
          whether Syncthing's page lists 'Failed Items'.
@@ -176,6 +101,9 @@ link  (in docs)
 a  (in docs, 300.0 kB)
   server: behind: hasn't deleted it yet (since 2020-09-13 12:27:40 UTC)
   deleted on: laptop
+  if nothing is done: it isn't known what happens: a program of 0.14.0 or before made the export.
+  to do: before Syncthing starts or scans on any of these devices, copy elsewhere what is to stay of
+         what stands on server.
   to do: let Syncthing run on server and on laptop, and let them finish. If it stays so, see whether
          a device or the folder is paused, whether they are connected, whether a disk is full, and
          whether Syncthing's page lists 'Failed Items'; or 'Ignore Delete' is set for the folder on
@@ -187,10 +115,12 @@ a  (in docs, 300.0 kB)
 a  (in docs, 300.0 kB)
   server: missing on the disk
   as recorded on: laptop
-  to do: see that the folder's disk is mounted on server, before Syncthing starts there: a scan
-         takes it for deleted, and then all devices delete it. To keep it, first copy it from laptop
-         to server as it is (cp -a, or rsync -aI, as the user who runs Syncthing there) while
-         Syncthing is stopped there.
+  if nothing is done: it isn't known what happens: a program of 0.14.0 or before made the export.
+  to do: first see that the folder's disk is mounted on server: a scan there takes it for deleted.
+  to do: before Syncthing starts or scans on any of these devices, copy elsewhere what is to stay of
+         what stands on laptop.
+  to do: to have again what server recorded, copy it from laptop to server as it is (cp -a, or rsync
+         -aI, as the user who runs Syncthing there) while Syncthing is stopped there.
 ` + lastLine},
 	{"a device that took one of two changes, and lacks the other one", 2, func(folder *finding.Folder) {
 		fails(folder, "a", []*part.Name{file(1, 1), with(file(1, 2), func(one *part.Name) { one.Own.Version = [][2]uint64{{2, 1}} })}, "RecordDiffers 2",
@@ -199,10 +129,11 @@ a  (in docs, 300.0 kB)
 a  (in docs, 300.0 kB)
   server: in conflict: has one change of it, and lacks another
   as recorded on: laptop
-  to do: start Syncthing on all of these devices: it keeps that of laptop (both were modified at the
-         same time, so their versions decide), and the other one as a conflict copy. Where the
-         folder's 'Max Conflicts' is 0 Syncthing keeps no copy, and beyond that number it deletes
-         the oldest copies: save first what is to stay.
+  if nothing is done: it isn't known what happens: a program of 0.14.0 or before made the export.
+  to do: before Syncthing starts or scans on any of these devices, copy elsewhere what is to stay of
+         what stands on laptop, server.
+  to do: once what is to stay is saved, let Syncthing run on all of these devices, connected, until
+         it is idle. Then audit again.
 ` + lastLine},
 	{"a device that is behind, and what others still see of it", 3, func(folder *finding.Folder) {
 		old := with(file(1, 2), func(one *part.Name) { one.Own.ModifiedS = started - 60; one.Disk.ModifiedS = started - 60 })
@@ -213,6 +144,9 @@ a  (in docs, 300.0 kB)
   server: behind: hasn't taken what is newest (modified 2020-09-13 12:26:40 UTC)
   as recorded on: laptop, phone
   so phone can still take another version of it, until that is mended
+  if nothing is done: it isn't known what happens: a program of 0.14.0 or before made the export.
+  to do: before Syncthing starts or scans on any of these devices, copy elsewhere what is to stay of
+         what stands on laptop, server.
   to do: let Syncthing run on server and on one of laptop, phone, and let them finish. If it stays
          so, see whether a device or the folder is paused, whether they are connected, whether a
          disk is full, and whether Syncthing's page lists 'Failed Items'.
@@ -231,6 +165,9 @@ a  (in docs, 300.0 kB)
   server: behind: hasn't taken what is newest
   the first: 'photo 0' 'photo 1' 'photo 2', and 4 more (--lines has all)
   as recorded on: laptop
+  if nothing is done: it isn't known what happens: a program of 0.14.0 or before made the export.
+  to do: before Syncthing starts or scans on any of these devices, copy elsewhere what is to stay of
+         what stands on laptop.
   to do: let Syncthing run on server and on laptop, and let them finish. If it stays so, see whether
          a device or the folder is paused, whether they are connected, whether a disk is full, and
          whether Syncthing's page lists 'Failed Items'.
@@ -241,16 +178,21 @@ a  (in docs, 300.0 kB)
 	}, lineOfFolder + `
 added  (in docs, 300.0 kB)
   server: added on this receive-only device; no other has it (modified 2020-09-13 12:26:40 UTC)
-  to do: 'Revert Local Changes' on server deletes what was added there: copy elsewhere first what is
-         to stay. To have it everywhere, make the folder 'Send & Receive' there (that sends all
-         local changes of the folder, deletions too: put back first what is to stay).
+  if nothing is done: it isn't known what happens: a program of 0.14.0 or before made the export.
+  to do: before Syncthing starts or scans on any of these devices, copy elsewhere what is to stay of
+         what stands on server.
+  to do: 'Revert Local Changes' on server deletes what was added there, and writes over what was
+         changed, mostly without a copy: copy elsewhere first what is to stay.
 ` + lastLine},
 	{"a file that no scan has seen", 2, func(folder *finding.Folder) {
 		unwon(folder, "new", 0, finding.Unscanned, with(file(1, 1), func(one *part.Name) { one.Own = nil; one.Disk.ModifiedS = later }))
 	}, lineOfFolder + `
 new  (in docs, 300.0 kB)
   laptop: on the disk, and no scan has seen it (modified 2020-09-13 12:27:40 UTC)
-  to do: start Syncthing on laptop and 'Rescan': it then goes to all.
+  if nothing is done: it isn't known what happens: a program of 0.14.0 or before made the export.
+  to do: before Syncthing starts or scans on any of these devices, copy elsewhere what is to stay of
+         what stands on laptop.
+  to do: a scan on laptop takes it for new.
 ` + lastLine},
 	{"other bytes with another mode", 2, func(folder *finding.Folder) {
 		fails(folder, "a", []*part.Name{file(1, 1), with(file(1, 1), rotten)}, "StoreDiffers 2")
@@ -262,12 +204,14 @@ a  (in docs, 300.0 kB)
     the first of them: SHA-256 abcd0000.. recorded, 12000000.. on the disk
   permissions differ (they don't count for the verdict): laptop 0644; server 0644 recorded, 0600 on the disk
   as recorded on: laptop
-  to do: before Syncthing scans there (the scan sends these bytes to all), copy it from laptop to
-         server with its time alone (cp --preserve=timestamps, or rsync --inplace --times
-         --ignore-times) while Syncthing is stopped there. If instead the bytes on server are the
-         right ones, 'touch' the file there and let Syncthing scan: it sends them to all.
-  to do: on server, 'chmod 0644' it if that is the right mode, before Syncthing scans there: the
-         scan may send 0600 to all; or choose 'Ignore Permissions' for the folder.
+  if nothing is done: it isn't known what happens: a program of 0.14.0 or before made the export.
+  to do: before Syncthing starts or scans on any of these devices, copy elsewhere what is to stay of
+         what stands on laptop, server.
+  to do: on server, 'chmod 0644' it if that is the right mode, before Syncthing scans there: a scan
+         takes 0600 for a change; or choose 'Ignore Permissions' for the folder.
+  to do: to have again what server recorded, copy elsewhere first what stands there, if it may be
+         right, and copy it from laptop to server with its time alone (cp --preserve=timestamps, or
+         rsync --inplace --times --ignore-times) while Syncthing is stopped there.
 ` + lastLine},
 	{"permissions that differ", 2, func(folder *finding.Folder) {
 		folder.Permissions.Add(finding.Permissions{Name: "a", At: []finding.Bits{{Has: true, Index: 0o644, OnDisk: true, Disk: 0o600}, {Has: true, Index: 0o644}}})
@@ -275,8 +219,8 @@ a  (in docs, 300.0 kB)
 
 a  (in docs)
   permissions differ (they don't count for the verdict): laptop 0644 recorded, 0600 on the disk; server 0644
-  to do: on laptop, 'chmod 0644' it if that is the right mode, before Syncthing scans there: the
-         scan may send 0600 to all; or choose 'Ignore Permissions' for the folder.
+  to do: on laptop, 'chmod 0644' it if that is the right mode, before Syncthing scans there: a scan
+         takes 0600 for a change; or choose 'Ignore Permissions' for the folder.
 ` + lastLine},
 	{"permissions that differ everywhere", 2, func(folder *finding.Folder) {
 		for _, name := range []string{"1", "2", "3", "4", "5", "6"} {
@@ -288,7 +232,7 @@ a  (in docs)
   permissions differ (they don't count for the verdict): laptop 0644; server 0600
   the first: 1 2 3, and 3 more (--lines has all)
   to do: 'chmod' them to the same mode on laptop, server: where that changes a mode, the next scan
-         may send it to all; or choose 'Ignore Permissions' for the folder.
+         takes it for a change; or choose 'Ignore Permissions' for the folder.
 ` + lastLine},
 	{"what was left out, and which names weren't asked for", 2, func(folder *finding.Folder) {
 		folder.LeftOut = []*finding.LeftOut{{Name: "odd\xff", Names: 1, Bytes: 3000000, Why: []finding.Reason{{Member: 0, Kind: part.OddName, Why: "its name isn't UTF-8"}}}}

@@ -30,7 +30,7 @@ func tiedAdvice(one *Fault, file *File, at string, named labels) string {
 	} else {
 		told += ". To have what " + at + " has, " + file.anew(one.Recorded, []string{one.Device}, at, named)
 	}
-	return told + ". Where the device on which you do that only receives, first make the folder 'Send & Receive' there" + sendsAll
+	return told + ". Where the device on which you do that only receives, first make the folder 'Send & Receive' there (that sends all local changes of the folder, deletions too: put back first what is to stay)"
 }
 
 // anew says what gives a name a new version at one of these devices. Syncthing doesn't compare the time of a symlink or a directory.

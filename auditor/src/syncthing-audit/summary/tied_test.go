@@ -31,7 +31,7 @@ func TestOtherContentsUnderOneVersion(t *testing.T) {
 			fails(folder, "a", one.row, "RecordDiffers 2", "StoreDiffers 2", "ViewAhead 1")
 		})
 		text := printed(answer)
-		for _, has := range append(one.has, "server: has something else under the same version", "first make the folder 'Send & Receive' there"+sendsAll) {
+		for _, has := range append(one.has, "server: has something else under the same version", "first make the folder 'Send & Receive' there (that sends all local changes of the folder") {
 			if !strings.Contains(text, has) {
 				t.Errorf("%s: %q isn't in %s", one.why, has, text)
 			}
@@ -52,9 +52,9 @@ func TestATiedDeviceTakesNothing(t *testing.T) {
 		has, not string
 	}{
 		{"other bytes", with(file(2, 2), rotten), false, back, "takes what is newest"},
-		{"other bytes under another mode", with(file(2, 2), rotten), true, "before Syncthing scans there (the scan sends these bytes to all), " + back, "in conflict"},
-		{"another mode", file(2, 2), true, "the scan takes what stands there for a change, and sends it to all", "in conflict"},
-		{"another time", with(file(2, 2), touched), false, "start Syncthing on server and 'Rescan'", "in conflict"},
+		{"other bytes under another mode", with(file(2, 2), rotten), true, back, "in conflict"},
+		{"another mode", file(2, 2), true, "before Syncthing scans there: a scan takes 0600 for a change", "in conflict"},
+		{"another time", with(file(2, 2), touched), false, "a scan on server takes it for changed", "in conflict"},
 	} {
 		text := printed(answerOf(2, func(folder *finding.Folder) {
 			fails(folder, "a", []*part.Name{file(2, 1), one.at}, "RecordDiffers 2", "StoreDiffers 2")

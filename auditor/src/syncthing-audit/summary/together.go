@@ -38,13 +38,13 @@ func (f *File) readKey() string {
 	if len(f.Faults) == 0 || len(f.Permissions) > 0 || len(f.Follows) > 0 {
 		return ""
 	}
-	key := fmt.Sprint(f.Have, f.Same, f.Advice, isOfNobody(f))
+	key := fmt.Sprint(f.Have, f.Same, f.Foretold, f.Advice, isOfNobody(f))
 	for place := range f.Faults {
 		one := &f.Faults[place]
 		if !readTogether[one.Cause] || one.isSeen {
 			return ""
 		}
-		key += fmt.Sprint(" ", one.Device, one.Cause, one.Deletion, one.types(), one.damage, one.Recorded == nil, one.Due != nil && one.Due.Deleted)
+		key += fmt.Sprint(" ", one.Device, one.Cause, one.Deletion, one.types(), one.Damage, one.Recorded == nil, one.Due != nil && one.Due.Deleted)
 	}
 	return key
 }
@@ -76,6 +76,7 @@ func (p *printer) together(folder *Folder, all []*File) {
 	}
 	told := *all[0]
 	told.isMany = true
+	p.foretold(told.tell(p.named))
 	p.advice(adviceOf(&told, p.named))
 }
 

@@ -25,17 +25,6 @@ func (f *File) mayForget(device string) bool {
 	return !f.areWide[device] && !isFrom(f.runs[device], firstThatKeeps)
 }
 
-// toTouch gives on which of several devices with the same bytes the file is to be touched: on one that keeps owner and attributes, where
-// there is one.
-func (f *File) toTouch(devices []string) string {
-	for _, one := range devices {
-		if !f.mayForget(one) {
-			return one
-		}
-	}
-	return devices[0]
-}
-
 // lostByTouch says which devices lose the file's owner and attributes where it is touched on one of these devices: they take what is recorded.
 func (f *File) lostByTouch(devices []string, named labels) string {
 	forgetting, record := []string{}, " record no owners and attributes"

@@ -97,11 +97,18 @@ func (p *printer) notTold(s *Summary) {
 	if len(s.NotTold) == 0 {
 		return
 	}
+	overWire, older := s.notToldOverWire()
+	if len(overWire) > 0 {
+		p.line("not told: which other folders %s may share; over the wire a device tells those alone that it shares with the observer", p.named.all(overWire))
+	}
+	if len(older) == 0 {
+		return
+	}
 	parts, them := "its part", "it"
-	if len(s.NotTold) > 1 {
+	if len(older) > 1 {
 		parts, them = "their parts", "them"
 	}
-	p.line("not told: which other folders %s may share; an older syncthing-audit made %s", p.named.all(s.NotTold), parts)
+	p.line("not told: which other folders %s may share; an older syncthing-audit made %s", p.named.all(older), parts)
 	if !s.isByName {
 		p.advice([]string{"make " + them + " anew; or name with --folder which ones to audit"})
 	}

@@ -25,20 +25,27 @@ func unsureOf(from *finding.Folder) []Unsure {
 // whyUnsure says in words what may change a folder.
 func whyUnsure(one finding.Unsure) string {
 	switch one.Kind {
+	case finding.Waits:
+		return "no scan has seen what stands there: " + countsOfWaiting(one.Waits.Names)
 	case finding.ToIgnore:
 		return counted(one.Names, "directory", "directories") + " in its index that .stignore ignores by now: the next scan marks the records"
 	case finding.Linked:
-		return counted(one.Names, "name", "names") + " of files that have hard links elsewhere: whoever sets time or mode there sets them here, as " +
+		return counted(one.Names, "name stands for a file that has a name elsewhere, too (a hard link)",
+			"names stand for files that have names elsewhere, too (hard links)") + ": whoever sets time or mode there sets them here, as " +
 			"Syncthing does for a folder that has such a link"
+	case finding.OverWire:
+		return whyOverWire(one)
 	}
 	return one.Why
 }
 
 // whatToDo says what to do about what may change a folder.
 var whatToDo = map[string]string{
+	finding.Waits:    "A scan takes that for changes, and sends them to all. Do first what stands above for that device",
 	finding.Busy:     "What a scan found may wait in its memory, and go to all devices later. Audit again once it is idle, or with a longer --still",
 	finding.ToIgnore: "Have Syncthing scan the folder, and audit again",
 	finding.Linked:   "Bytes stay in step; what the times and modes become isn't known. A copy in place of the link ends that",
+	finding.OverWire: "An audit of the device itself sees that: its part, made while Syncthing is stopped there, or 'run'",
 }
 
 // unsure prints what may change a folder in step.

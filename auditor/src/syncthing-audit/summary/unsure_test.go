@@ -19,10 +19,14 @@ func TestWhatMayChangeAFirmFolder(t *testing.T) {
 			folder.Members[1].Head.Look = &part.Look{}
 			folder.Members[1].About.Rest = &part.Rest{State: "scanning"}
 		}, "docs (Documents) on server: Syncthing was never seen idle between the looks: it was 'scanning'. What a scan found may wait"},
+		finding.Waits: {func(folder *finding.Folder) {
+			waits(folder, "b", 1, []int{0}, noBytes)
+			waits(folder, "c", 1, []int{0}, absent)
+		}, "docs (Documents) on server: no scan has seen what stands there: 1 is MISSING, 1 is EMPTY. A scan takes that for changes"},
 		finding.ToIgnore: {func(folder *finding.Folder) { folder.Members[1].ToIgnore = 2 },
 			"docs (Documents) on server: 2 directories in its index that .stignore ignores by now: the next scan marks the records. Have Syncthing scan"},
 		finding.Linked: {func(folder *finding.Folder) { folder.Members[1].Linked = &part.Count{Names: 1, Bytes: 5} },
-			"docs (Documents) on server: 1 name of files that have hard links elsewhere: "},
+			"docs (Documents) on server: 1 name stands for a file that has a name elsewhere, too (a hard link): whoever"},
 	} {
 		answer := answerOf(2, func(folder *finding.Folder) {
 			folder.Firmness = finding.Firmness{Asked: true}
@@ -46,6 +50,10 @@ func TestWhatMayChangeAFirmFolder(t *testing.T) {
 	}
 	calm := answerOf(2, func(folder *finding.Folder) {
 		folder.Firmness = finding.Firmness{Asked: true}
+		folder.Live, folder.Members[0].About.Kind = &finding.Live{Timed: true}, receiveOnly
+		waits(folder, "b", 0, []int{1}, noBytes)                                    // it sends nothing
+		waits(folder, "c", 1, nil, func(one *part.Name) { one.Own = nil })          // it takes nothing away
+		waits(folder, "d", 1, nil, func(one *part.Name) { one.Own.Deleted = true }) // nor does this
 		folder.Members[1].Linked = &part.Count{}
 	})
 	if text := printed(calm); strings.Contains(text, "known") || Of(calm).Firm != finding.IsFirm {

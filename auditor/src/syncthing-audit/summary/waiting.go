@@ -6,6 +6,7 @@ import (
 	"strings"
 
 	"golang.org/x/exp/slices"
+	"syncthing-audit/damage"
 	"syncthing-audit/finding"
 )
 
@@ -14,17 +15,15 @@ type waiting struct {
 	names   map[string]int64 // by how they wait
 	from    map[string]int64 // how many stand as recorded on other devices
 	nowhere int64
+	sent    int64 // how many wait in all, but for what is new
 	folders []string
 }
 
 // noteWaiting notes what waits for a scan. A start of Syncthing makes one.
 func (a *actions) noteWaiting(folder *finding.Folder) {
-	if folder.Live == nil {
-		return
-	}
 	for place, member := range folder.Members {
-		found := folder.Live.Waiting[place]
-		if found == nil || kindOf(member) == receiveOnly || !found.IsToMakeSafe() {
+		found := folder.SendsAfterScan(place)
+		if found == nil {
 			continue
 		}
 		to := a.waits[member.Head.Device]
@@ -39,6 +38,7 @@ func (a *actions) noteWaiting(folder *finding.Folder) {
 			to.from[folder.Members[other].Head.Device] += count
 		}
 		to.nowhere += found.Nowhere
+		to.sent += found.Sent()
 		to.folders = append(to.folders, folder.ID)
 	}
 }
@@ -48,32 +48,27 @@ func (a *actions) isWaiting(device string) bool { return a != nil && a.waits[dev
 
 // wordsOfWaiting say how many names wait so.
 var wordsOfWaiting = map[string][2]string{
-	finding.WaitsMissing: {"is MISSING", "are MISSING"},
-	finding.WaitsEmptied: {"is EMPTY", "are EMPTY"},
-	finding.WaitsCut:     {"is CUT SHORT", "are CUT SHORT"},
-	finding.WaitsLonger:  {"is longer under the recorded time", "are longer under the recorded time"},
-	finding.WaitsUnknown: {"isn't as recorded (no details were kept)", "aren't as recorded (no details were kept)"},
-	finding.WaitsChanged: {"is changed", "are changed"},
-	finding.WaitsBack:    {"is back though deleted", "are back though deleted"},
+	finding.WaitsMissing:     {"is MISSING", "are MISSING"},
+	string(damage.Emptied):   {"is EMPTY", "are EMPTY"},
+	string(damage.Zeros):     {"is all ZEROS", "are all ZEROS"},
+	string(damage.Cut):       {"is CUT SHORT", "are CUT SHORT"},
+	string(damage.ZeroBlock): {"has a block of ZEROS", "have a block of ZEROS"},
+	string(damage.OverZeros): {"isn't the recorded zeros under the recorded time", "aren't the recorded zeros under the recorded time"},
+	string(damage.Longer):    {"is longer under the recorded time", "are longer under the recorded time"},
+	finding.WaitsUnknown:     {"isn't as recorded (no details were kept)", "aren't as recorded (no details were kept)"},
+	finding.WaitsChanged:     {"is changed", "are changed"},
+	finding.WaitsBack:        {"is back though deleted", "are back though deleted"},
 }
 
-// counts says how many names wait how.
-func (w *waiting) counts() string {
+// countsOfWaiting say how many names wait how.
+func countsOfWaiting(names map[string]int64) string {
 	words := []string{}
 	for _, kind := range finding.KindsOfWaiting {
-		if count := w.names[kind]; count > 0 && kind != finding.WaitsNew {
-			words = append(words, thousands(count)+" "+wordsOfWaiting[kind][least(count)])
+		if count := names[kind]; count > 0 && kind != finding.WaitsNew {
+			words = append(words, counted(count, wordsOfWaiting[kind][0], wordsOfWaiting[kind][1]))
 		}
 	}
 	return strings.Join(words, ", ")
-}
-
-// least gives 0 for one, and 1 for many.
-func least(count int64) int {
-	if count == 1 {
-		return 0
-	}
-	return 1
 }
 
 // sources says from which devices what is recorded can be copied.
@@ -95,18 +90,26 @@ func (w *waiting) sources(named labels) string {
 	return " As recorded: " + strings.Join(words, ", ") + "."
 }
 
-// waiting says, above all entries, on which devices a start or a scan would send what no scan has seen.
-func (p *printer) waiting(s *Summary) {
-	for _, one := range s.Devices {
-		waits := s.actions.waits[one.ID]
-		if waits == nil {
-			continue
-		}
-		p.running("first, on "+p.named.of(one.ID)+":", "before Syncthing starts or scans there, also for an entry below, see which names no scan has seen yet ('in motion in "+
-			strings.Join(waits.folders, "', 'in motion in ")+"' below): "+waits.counts()+". A scan deletes on all devices what is missing there, and sends to all what "+
-			"stands there. As Syncthing starts, it scans all folders. So copy back first what is to stay as it is recorded, while Syncthing is stopped there."+
-			waits.sources(p.named))
+// firstWaiting says of a device that a start or a scan there would send what no scan has seen.
+func (s *Summary) firstWaiting(device string, named labels) []First {
+	waits := s.actions.waits[device]
+	if waits == nil {
+		return nil
 	}
+	return []First{{isUnscanned, []string{device}, waits.sent, "first, on " + named.of(device) + ": before Syncthing starts or scans there, also for an entry below, " +
+		"see which names no scan has seen yet ('in motion in " + strings.Join(waits.folders, "', 'in motion in ") + "' below): " + countsOfWaiting(waits.names) +
+		". A scan deletes on all devices what is missing there, and sends to all what stands there. As Syncthing starts, it scans all folders. So copy back first " +
+		"what is to stay as it is recorded, while Syncthing is stopped there." + waits.keep() + waits.sources(named)}}
+}
+
+// keep says of what is to be kept where the record may be the damage: nobody is to copy the recorded bytes over others that were put back.
+func (w *waiting) keep() string {
+	for _, kind := range damage.Kinds {
+		if kind.MayBeOfRecord() && w.names[string(kind)] > 0 {
+			return " Of what is longer, or isn't the recorded zeros, first keep a copy outside the folder: what was recorded may be the damage."
+		}
+	}
+	return ""
 }
 
 // waitsAdvice says that what stands first of a device comes before each start and each scan there, where this name's entry tells or implies one.
@@ -139,7 +142,7 @@ func (f *File) actsOn() []string {
 func (m *Moving) rankOf() int {
 	rank := len(finding.KindsOfWaiting)
 	for _, at := range m.Devices {
-		if place := slices.Index(finding.KindsOfWaiting, at.waits); place >= 0 && place < rank {
+		if place := slices.Index(finding.KindsOfWaiting, at.Waits); place >= 0 && place < rank {
 			rank = place
 		}
 	}
@@ -155,8 +158,8 @@ func (l *Live) worst() []Moving {
 
 // wordsOf says how a name waits for a scan on a device, and where what is recorded stands.
 func (p *printer) wordsOfWaiting(at Moved) string {
-	told := ""
-	switch at.waits {
+	told := wordsOfDamaged(at)
+	switch at.Waits {
 	case finding.WaitsUnknown:
 		return wordsOfMoved["unscanned"] + " (no details were kept)"
 	case finding.WaitsNew:
@@ -165,19 +168,28 @@ func (p *printer) wordsOfWaiting(at Moved) string {
 		return "on the disk, though it is deleted by its record"
 	case finding.WaitsMissing:
 		told = "MISSING" + recordedSize(at)
-	case finding.WaitsEmptied:
-		told = "EMPTY: " + sizes(at)
-	case finding.WaitsCut:
-		told = "CUT SHORT: " + sizes(at) + ", under the recorded time"
-	case finding.WaitsLonger:
-		told = "longer: " + sizes(at) + ", under the recorded time"
-	default:
+	case finding.WaitsChanged:
 		told = "changed on the disk since the last scan" + p.changeOf(at)
 	}
-	if len(at.have) == 0 {
+	if len(at.Have) == 0 {
 		return told + "; as recorded on no other audited device"
 	}
-	return told + "; as recorded on " + p.named.all(at.have)
+	return told + "; as recorded on " + p.named.all(at.Have)
+}
+
+// wordsOfDamaged say of a file that waits why it looks damaged.
+func wordsOfDamaged(at Moved) string {
+	switch kind := damage.Kind(at.Waits); kind {
+	case damage.Emptied:
+		return "EMPTY: " + sizes(at)
+	case damage.Cut:
+		return "CUT SHORT: " + sizes(at) + at.time()
+	case damage.Longer:
+		return "longer: " + sizes(at) + at.time()
+	case damage.Zeros, damage.ZeroBlock, damage.OverZeros:
+		return "changed on the disk: " + wordsOfDamage[kind] + ": " + sizes(at)
+	}
+	return ""
 }
 
 func sizes(at Moved) string {
@@ -205,9 +217,6 @@ func (p *printer) changeOf(at Moved) string {
 	told := ": the size is as recorded, the time isn't"
 	if was.Size != is.Size {
 		told = ": " + sizes(at)
-	}
-	if why := looksDamaged(at.as); why != "" {
-		told += ": this looks like damage: " + why
 	}
 	return told + " (modified " + p.when(*is.Modified) + ")"
 }

@@ -101,3 +101,49 @@ func waitingMore(live *finding.Live) *finding.Live {
 	live.AddMoving(finding.Moving{Name: "z", At: []finding.Moved{{Member: 0, Why: []string{part.MovedDisk}}}})
 	return live
 }
+
+// The line of a folder says what no scan has seen, and doesn't call it firm.
+func TestTheHeadTellsWhatNoScanHasSeen(t *testing.T) {
+	text := printed(answerOf(3, func(folder *finding.Folder) {
+		folder.Live = &finding.Live{Timed: true, Seconds: 10}
+		waits(folder, "b", 1, []int{0, 2}, noBytes)
+		waits(folder, "c", 2, []int{0, 1}, absent)
+	}))
+	const head = "docs (Documents): in step as far as audited, not known to be firm; still for 10 s: 1,204 names (4 deleted), 335.2 MB hashed on laptop, phone, server; " +
+		"in motion: 2, NOT audited, of which no scan has seen: 1 is MISSING, 1 is EMPTY first, on"
+	if !strings.HasPrefix(text, head) {
+		t.Error(text)
+	}
+}
+
+// Where a scan is under way, nothing that is done on that device holds back what it found: so what is to stay is saved on the others, above all else.
+func TestAScanUnderWayComesFirst(t *testing.T) {
+	for state, isFirst := range map[string]bool{"scanning": true, "syncing": true, part.RestIdle: false, part.RestPaused: false, part.RestStopped: false, part.RestUnasked: false} {
+		text := printed(answerOf(2, func(folder *finding.Folder) {
+			fails(folder, "a", []*part.Name{file(1, 1), with(file(1, 1), rotten)}, "StoreDiffers 2")
+			for place := range folder.Members {
+				folder.Members[place].Head.Look = &part.Look{}
+				folder.Members[place].About.Rest = &part.Rest{State: part.RestIdle}
+			}
+			folder.Members[1].About.Rest = &part.Rest{State: state}
+		}))
+		place := strings.Index(text, "first, on all devices but server: copy to a place outside the folder what is to stay.")
+		if (place >= 0) != isFirst || isFirst && place > strings.Index(text, "a (in docs") {
+			t.Errorf("%s: %s", state, text)
+		}
+	}
+}
+
+// What is longer than recorded may be what was put back: a copy of it is kept before anything is copied over it.
+func TestWhatIsLongerIsKept(t *testing.T) {
+	longer := func(one *part.Name) { one.Disk.Size = 400000 }
+	for _, one := range []struct {
+		change func(*part.Name)
+		kept   bool
+	}{{longer, true}, {noBytes, false}} {
+		text := printed(answerOf(2, func(folder *finding.Folder) { waits(folder, "b", 1, []int{0}, one.change) }))
+		if strings.Contains(text, "Of what is longer, or isn't the recorded zeros, first keep a copy outside the folder: what was recorded may be the damage. As recorded: 1 on laptop") != one.kept {
+			t.Error(text)
+		}
+	}
+}

@@ -3,10 +3,11 @@ package wire
 import (
 	"context"
 	"crypto/sha256"
-	"sort"
 	"sync"
 
+	"github.com/syncthing/syncthing/lib/protocol"
 	"syncthing-audit/device"
+	"syncthing-audit/disk"
 	"syncthing-audit/limits"
 	"syncthing-audit/part"
 	"syncthing-audit/request"
@@ -28,28 +29,43 @@ const (
 	NotKnown State = "not known" // the device answers, and not so that its length is known
 )
 
-// Found is what the observer finds of a name.
+// Found is what the observer finds of a name. Of what isn't the same, differs or is present there is its state alone.
 type Found struct {
-	State  State
-	Size   int64      // how many bytes the file has; of one that is the same or differs
-	Blocks [][32]byte // hashes of as many of the record's blocks as the file has bytes for; the last one may be cut
-	Differ []int      // which blocks of the record aren't there so, from 0
+	State     State
+	Size      int64      // how many bytes the file has
+	BlockSize int64      // by the record or, without one of a file, the one for the size
+	Blocks    [][32]byte // hashes of the file's blocks
+	Unread    int64      // bytes at the end of a file that is very much longer than its record, which weren't read
+	Differ    *part.Differ
 }
 
-// Bytes asks a device for the bytes of all recorded files, and calls take with what is found of each, in the order of names. Where a record
-// has no file, or isn't one that a document has, it asks whether there is one. Names that no document has aren't asked for.
-func (c *Connection) Bytes(ctx context.Context, index *Index, take func(name string, found Found) error) error {
-	names := make([]string, 0, len(index.Entries))
-	for name, entry := range index.Entries {
-		if entry.Record != nil || limits.CheckName(name) == nil {
-			names = append(names, name)
-		}
-	}
-	sort.Strings(names)
+// Bytes asks a device for the bytes of all recorded files that are wanted, and calls take with what is found of each, in the order of names. Where a
+// record has no file, or isn't one that a document has, it asks whether there is one. Names that no document has aren't asked for.
+func (c *Connection) Bytes(ctx context.Context, index *Index, isWanted func(name string) bool, take func(entry device.Entry, found Found) error) error {
 	ctx, cancel := context.WithCancel(ctx)
 	defer cancel()
 	asker := &asker{connection: c, room: newRoom()}
-	return asker.all(ctx, index, names, take)
+	results := make(chan looking, mostRequests)
+	failed := make(chan error, 1)
+	go func() {
+		defer close(results)
+		failed <- index.Each(func(entry device.Entry) error {
+			if !isWanted(entry.Name) || entry.Record == nil && limits.CheckName(entry.Name) != nil {
+				return nil
+			}
+			return asker.begin(ctx, entry, results)
+		})
+	}()
+	for result := range results {
+		seen := <-result.seen
+		if seen.err != nil {
+			return seen.err
+		}
+		if err := take(result.entry, seen.found); err != nil {
+			return err
+		}
+	}
+	return <-failed
 }
 
 // asker asks a device, with as many requests at once as there is room for.
@@ -64,78 +80,99 @@ type looked struct {
 	err   error
 }
 
-// all looks at names, several at once, and gives what is found in their order. Few wait for their turn, so results take little room.
-func (a *asker) all(ctx context.Context, index *Index, names []string, take func(string, Found) error) error {
-	results := make(chan chan looked, mostRequests)
-	go func() {
-		defer close(results)
-		for _, name := range names {
-			result := make(chan looked, 1)
-			select {
-			case results <- result:
-			case <-ctx.Done():
-				return
-			}
-			go func(entry device.Entry) {
-				found, err := a.look(ctx, entry)
-				result <- looked{found, err}
-			}(index.Entries[name])
-		}
-	}()
-	place := 0
-	for result := range results {
-		one := <-result
-		if one.err != nil {
-			return one.err
-		}
-		if err := take(names[place], one.found); err != nil {
-			return err
-		}
-		place++
+// looking is a name that is looked at.
+type looking struct {
+	entry device.Entry
+	seen  chan looked
+}
+
+// begin begins to look at a name, once few wait for their turn: so what is found takes little room.
+func (a *asker) begin(ctx context.Context, entry device.Entry, results chan<- looking) error {
+	result := looking{entry, make(chan looked, 1)}
+	select {
+	case results <- result:
+	case <-ctx.Done():
+		return ctx.Err()
 	}
-	return ctx.Err()
+	go func() {
+		found, err := a.look(ctx, entry)
+		result.seen <- looked{found, err}
+	}()
+	return nil
 }
 
 // look finds what stands where a file is recorded: first its length, since bytes behind a file's end are made up.
 func (a *asker) look(ctx context.Context, entry device.Entry) (Found, error) {
 	if entry.Record == nil || entry.Record.Deleted || entry.Record.Content == nil {
-		state, err := a.probe(ctx, entry.Name)
-		return Found{State: state}, err
+		return a.lookWhereNone(ctx, entry.Name)
 	}
-	size, state, err := a.length(ctx, entry.Name, entry.Record.Content.Size)
-	if err != nil || state != Same {
-		return Found{State: state}, err
-	}
-	found, err := a.blocks(ctx, entry, size)
+	content := entry.Record.Content
+	found, err := a.read(ctx, entry.Name, content.Size, content.BlockSize)
 	if err != nil || found.State != Same {
 		return found, err
 	}
-	again, state, err := a.length(ctx, entry.Name, size)
-	if err == nil && (state != Same || again != size) {
-		return Found{State: NotKnown}, nil // it changed while it was read
+	if found.Unread > 0 {
+		found.Differ = disk.CompareBegin(entry.Blocks, found.Blocks, part.CountOfBlocks(found.Size, content.BlockSize))
+	} else {
+		found.Differ = disk.Compare(entry.Blocks, found.Blocks)
 	}
-	if len(found.Differ) > 0 || size != entry.Record.Content.Size {
+	if found.Differ != nil || found.Size != content.Size {
 		found.State = Differs
+	}
+	return found, nil
+}
+
+// lookWhereNone finds what stands where no file is recorded.
+func (a *asker) lookWhereNone(ctx context.Context, name string) (Found, error) {
+	state, err := a.probe(ctx, name)
+	if err != nil || state != Present {
+		return Found{State: state}, err
+	}
+	found, err := a.read(ctx, name, 0, 0)
+	if err == nil && found.State == Same {
+		found.State = Present
 	}
 	return found, err
 }
 
-// blocks asks for a file's bytes, as far as the record goes.
-func (a *asker) blocks(ctx context.Context, entry device.Entry, size int64) (Found, error) {
-	content := entry.Record.Content
-	made := Found{State: Same, Size: size}
-	most := min(size, content.Size)
+// read finds a file's length, about the recorded one, and then its bytes, in blocks of this size or, without one, of the one for its length.
+func (a *asker) read(ctx context.Context, name string, recorded, blockSize int64) (Found, error) {
+	size, state, err := a.length(ctx, name, recorded)
+	if err != nil || state != Same {
+		return Found{State: state}, err
+	}
+	if blockSize == 0 {
+		blockSize = int64(protocol.BlockSize(size))
+	}
+	toRead := size
+	if size-recorded > disk.MostBeyond {
+		toRead = recorded
+	}
+	found, err := a.blocks(ctx, name, toRead, blockSize)
+	if err != nil || found.State != Same {
+		return found, err
+	}
+	again, state, err := a.length(ctx, name, size)
+	if err == nil && (state != Same || again != size) {
+		return Found{State: NotKnown}, nil // it changed while it was read
+	}
+	found.Size, found.Unread = size, size-toRead
+	return found, err
+}
+
+// blocks asks for so many of a file's bytes.
+func (a *asker) blocks(ctx context.Context, name string, most, blockSize int64) (Found, error) {
+	made := Found{State: Same, BlockSize: blockSize}
 	if most == 0 { // no byte is to be asked for
 		made.Blocks = [][32]byte{sha256.Sum256(nil)}
-		made.Differ = differ(entry.Blocks, made.Blocks)
 		return made, nil
 	}
-	made.Blocks = make([][32]byte, part.CountOfBlocks(most, content.BlockSize))
+	made.Blocks = make([][32]byte, part.CountOfBlocks(most, blockSize))
 	states, errs := make([]State, len(made.Blocks)), make([]error, len(made.Blocks))
 	var all sync.WaitGroup
 	for place := range made.Blocks {
-		offset := int64(place) * content.BlockSize
-		asked := request.ForBlock(entry.Name, offset, int32(min(content.BlockSize, most-offset)))
+		offset := int64(place) * blockSize
+		asked := request.ForBlock(name, offset, int32(min(blockSize, most-offset)))
 		all.Add(1)
 		a.room.enter(asked) // here, so that no more wait of a large file than there is room for
 		go func(place int) {
@@ -152,19 +189,7 @@ func (a *asker) blocks(ctx context.Context, entry device.Entry, size int64) (Fou
 			return Found{State: states[place]}, errs[place]
 		}
 	}
-	made.Differ = differ(entry.Blocks, made.Blocks)
 	return made, nil
-}
-
-// differ gives the blocks of a record that aren't there so.
-func differ(recorded, found [][32]byte) []int {
-	var made []int
-	for place := range recorded {
-		if place >= len(found) || recorded[place] != found[place] {
-			made = append(made, place)
-		}
-	}
-	return made
 }
 
 // length finds how many bytes a file has: those that are recorded, mostly.
@@ -204,13 +229,14 @@ func (a *asker) above(ctx context.Context, name string, low int64) (int64, int64
 		}
 		return 0, 0, state, err
 	}
-	for step := int64(1); ; step *= 4 {
+	for step := int64(1); low+step < farBehind; step *= 4 {
 		high := low + step
 		if isWithin, state, err = a.upTo(ctx, name, high); err != nil || state != Same || isWithin {
 			return low, high, state, err
 		}
 		low = high
 	}
+	return low, farBehind, Same, nil
 }
 
 // probe says whether a regular file stands at a name, by its first byte, which is made up if the file is empty.

@@ -9,6 +9,8 @@ import (
 	"time"
 
 	"github.com/syncthing/syncthing/lib/protocol"
+	entries "syncthing-audit/device"
+	"syncthing-audit/part"
 	"syncthing-audit/request"
 )
 
@@ -48,7 +50,8 @@ func look(t *testing.T, recorded map[string]string, change func(*fake)) (map[str
 		t.Fatal(err)
 	}
 	found, last := map[string]Found{}, ""
-	err = connection.Bytes(context.Background(), index, func(name string, one Found) error {
+	err = connection.Bytes(context.Background(), index, all, func(entry entries.Entry, one Found) error {
+		name := entry.Name
 		if name <= last {
 			t.Errorf("%s behind %s", name, last)
 		}
@@ -65,6 +68,9 @@ func look(t *testing.T, recorded map[string]string, change func(*fake)) (map[str
 }
 
 const block = protocol.MinBlockSize
+
+// all is of each name.
+func all(string) bool { return true }
 
 // Each fault is found, with the length that the file has; and no request had a recorded hash where other bytes stand.
 func TestFaults(t *testing.T) {
@@ -93,15 +99,15 @@ func TestFaults(t *testing.T) {
 		size   int64
 		differ []int
 	}{
-		"same": {Same, 500000, nil}, "one": {Same, 1, nil}, "one grown": {Differs, 2, nil}, "empty": {Same, 0, nil}, "empty grown": {Differs, 1, nil},
+		"same": {Same, 500000, nil}, "one": {Same, 1, nil}, "one grown": {Differs, 2, []int{0}}, "empty": {Same, 0, nil}, "empty grown": {Differs, 1, []int{0}},
 		"rot": {Differs, 500000, []int{1}}, "rot of one": {Differs, 1, []int{0}}, "missing": {Missing, 0, nil}, "missing empty": {Missing, 0, nil},
 		"ignored": {Ignored, 0, nil}, "truncated": {Differs, 300000, []int{2, 3}}, "cut at a block": {Differs, 2 * block, []int{2, 3}},
-		"grown": {Differs, 500001, nil}, "grown much": {Differs, 500004, nil}, "emptied": {Differs, 0, []int{0, 1, 2, 3}},
-		"deleted": {Missing, 0, nil}, "deleted and there": {Present, 0, nil},
+		"grown": {Differs, 500001, []int{3}}, "grown much": {Differs, 500004, []int{0, 1, 2, 3}}, "emptied": {Differs, 0, []int{0, 1, 2, 3}},
+		"deleted": {Missing, 0, nil}, "deleted and there": {Present, 1, nil},
 	}
 	for name, one := range want {
 		got := found[name]
-		if got.State != one.state || got.Size != one.size || !equal(got.Differ, one.differ) {
+		if got.State != one.state || got.Size != one.size || !equal(blocksIn(got.Differ), one.differ) {
 			t.Errorf("%s: %s, %d bytes, blocks %v differ, in place of %v", name, got.State, got.Size, got.Differ, one)
 		}
 	}
@@ -113,6 +119,19 @@ func TestFaults(t *testing.T) {
 			t.Errorf("the observer sent a message of kind %d", kind)
 		}
 	}
+}
+
+// blocksIn gives the blocks that differ, one by one.
+func blocksIn(differ *part.Differ) []int {
+	var made []int
+	if differ != nil {
+		for _, one := range differ.Ranges {
+			for block := one[0]; block <= one[1]; block++ {
+				made = append(made, int(block))
+			}
+		}
+	}
+	return made
 }
 
 func equal(a, b []int) bool {

@@ -163,8 +163,10 @@ func badly(what string, err error) error {
 // what came since.
 func (o *Observer) answer(folder string, device protocol.DeviceID, kept *Index) []byte {
 	other := message.AppendText(nil, deviceID, device[:])
-	other = message.AppendNumber(other, deviceSequence, uint64(kept.Highest))
-	other = message.AppendNumber(other, deviceIndexID, kept.ID)
+	if kept.Highest > 0 {
+		other = message.AppendNumber(other, deviceSequence, uint64(kept.Highest))
+		other = message.AppendNumber(other, deviceIndexID, kept.ID)
+	}
 	own := message.AppendText(nil, deviceID, o.ID[:])
 	own = message.AppendNumber(own, deviceIndexID, o.indexID(folder))
 	made := message.AppendText(nil, folderID, []byte(folder))

@@ -1,3 +1,5 @@
+// Package wire asks running devices over Syncthing's own protocol, as a device that keeps no files and sends no record: for their indexes, and for what
+// bytes stand on their disks.
 package wire
 
 import (
@@ -45,20 +47,23 @@ func (o *Observer) Dial(ctx context.Context, address string, id protocol.DeviceI
 		return nil, fmt.Errorf("%w: %v", Unreached, err)
 	}
 	stream := tls.Client(raw, o.tls())
-	return o.begin(ctx, stream, id, folder, kept, limits)
+	return o.begin(ctx, stream, folder, limits, func(found protocol.DeviceID) (*Index, bool) { return kept, found == id })
 }
 
-// Accept takes a connection that a device opened, as Dial does.
-func (o *Observer) Accept(ctx context.Context, raw net.Conn, id protocol.DeviceID, folder string, kept *Index, limits Limits) (*Connection, error) {
+// Accept takes a connection that a device opened, as Dial does. Wanted says which devices are wanted, and what was kept of each.
+func (o *Observer) Accept(ctx context.Context, raw net.Conn, folder string, limits Limits, wanted Wanted) (*Connection, error) {
 	ctx, cancel := context.WithTimeout(ctx, limits.Handshake)
 	defer cancel()
-	return o.begin(ctx, tls.Server(raw, o.tls()), id, folder, kept, limits)
+	return o.begin(ctx, tls.Server(raw, o.tls()), folder, limits, wanted)
 }
 
+// Wanted says of a device whether it is wanted, and which index of it was kept.
+type Wanted func(protocol.DeviceID) (kept *Index, is bool)
+
 // begin begins a connection up to the observer's ClusterConfig.
-func (o *Observer) begin(ctx context.Context, stream *tls.Conn, id protocol.DeviceID, folder string, kept *Index, limits Limits) (*Connection, error) {
-	made := &Connection{Device: id, stream: stream, limits: limits, waiting: map[int32]chan response{}, news: make(chan struct{}, 1), ended: make(chan struct{})}
-	err := made.introduce(ctx)
+func (o *Observer) begin(ctx context.Context, stream *tls.Conn, folder string, limits Limits, wanted Wanted) (*Connection, error) {
+	made := &Connection{stream: stream, limits: limits, waiting: map[int32]chan response{}, news: make(chan struct{}, 1), ended: make(chan struct{})}
+	kept, err := made.introduce(ctx, wanted)
 	if err == nil {
 		err = o.agree(made, folder, kept)
 	}
@@ -72,28 +77,30 @@ func (o *Observer) begin(ctx context.Context, stream *tls.Conn, id protocol.Devi
 	return made, nil
 }
 
-// introduce does what goes before all messages: TLS with the right device, and both Hellos.
-func (c *Connection) introduce(ctx context.Context) error {
+// introduce does what goes before all messages: TLS with a device that is wanted, and both Hellos. It gives what was kept of the device's index.
+func (c *Connection) introduce(ctx context.Context, wanted Wanted) (*Index, error) {
 	end, _ := ctx.Deadline()
 	if err := c.stream.SetDeadline(end); err != nil {
-		return fmt.Errorf("%w: %v", Unreached, err)
+		return nil, fmt.Errorf("%w: %v", Unreached, err)
 	}
 	if err := c.stream.HandshakeContext(ctx); err != nil {
-		return fmt.Errorf("%w: %v", NotSyncthing, err)
+		return nil, fmt.Errorf("%w: %v", NotSyncthing, err)
 	}
 	certificates := c.stream.ConnectionState().PeerCertificates
 	if len(certificates) != 1 {
-		return fmt.Errorf("%w: it shows %d certificates", NotSyncthing, len(certificates))
+		return nil, fmt.Errorf("%w: it shows %d certificates", NotSyncthing, len(certificates))
 	}
-	if id := protocol.NewDeviceID(certificates[0].Raw); id != c.Device {
-		return fmt.Errorf("%w: %s", AnotherDevice, id)
+	c.Device = protocol.NewDeviceID(certificates[0].Raw)
+	kept, isWanted := wanted(c.Device)
+	if !isWanted {
+		return nil, fmt.Errorf("%w: %s", AnotherDevice, c.Device)
 	}
 	if err := writeHello(c.stream); err != nil {
-		return fmt.Errorf("%w: %v", Closed, err)
+		return nil, fmt.Errorf("%w: %v", Closed, err)
 	}
 	said, err := readHello(c.stream, c.limits.Hello)
 	c.Hello = said
-	return err
+	return kept, err
 }
 
 // agree hears the device's ClusterConfig, and answers it. A device that doesn't share the folder with the observer, or has it paused or
@@ -114,15 +121,16 @@ func (o *Observer) agree(c *Connection, id string, kept *Index) error {
 	if err != nil {
 		return err
 	}
-	if kept == nil || kept.ID != own.IndexID || kept.Highest > own.Sequence {
+	if kept == nil {
 		kept = NewIndex(own.IndexID)
 	}
-	c.Folder, c.taker = *folder, taker{folder: id, limits: &c.limits, index: kept}
-	announced := kept
-	if kept.Highest == 0 {
-		announced = NewIndex(0)
+	if kept.ID != own.IndexID || kept.Highest > own.Sequence {
+		if err := kept.begin(own.IndexID); err != nil {
+			return err
+		}
 	}
-	return c.send(kindClusterConfig, o.answer(id, c.Device, announced))
+	c.Folder, c.taker = *folder, taker{folder: id, limits: &c.limits, index: kept}
+	return c.send(kindClusterConfig, o.answer(id, c.Device, kept))
 }
 
 // sharedWith gives what the device says of its own index, if it shares the folder with the observer and tells of it.

@@ -13,6 +13,7 @@ import (
 
 	"github.com/syncthing/syncthing/lib/protocol"
 	"syncthing-audit/message"
+	"syncthing-audit/part"
 	"syncthing-audit/request"
 )
 
@@ -45,16 +46,26 @@ func TestIndex(t *testing.T) {
 	if err != nil {
 		t.Fatal(err)
 	}
-	if index.ID != 42 || index.Highest != 4 || len(index.Entries) != 3 {
-		t.Errorf("%d, %d, %v", index.ID, index.Highest, index.Entries)
+	if count, err := index.Count(); err != nil || index.ID != 42 || index.Highest != 4 || count != 3 {
+		t.Errorf("%d, %d, %d names, %v", index.ID, index.Highest, count, err)
 	}
-	if a, b := index.Entries["a"].Record, index.Entries["b"].Record; a.Content.Size != 1000 || !b.Deleted || b.Sequence != 3 {
+	if a, b := recordIn(t, index, "a"), recordIn(t, index, "b"); a.Content.Size != 1000 || !b.Deleted || b.Sequence != 3 {
 		t.Errorf("%v %v", a, b)
 	}
 	if known, is := connection.Folder.Of(protocol.DeviceID{1}); !is || known.IndexID != 99 || known.Sequence != 5 {
 		t.Errorf("of the other device: %v", known)
 	}
 	checkAnswer(t, observer, device, <-answered, 0, 0)
+}
+
+// recordIn gives the record of a name in an index.
+func recordIn(t *testing.T, index *Index, name string) *part.Record {
+	t.Helper()
+	entry, is, err := index.Get(name)
+	if err != nil || !is || entry.Record == nil {
+		t.Fatal(name, entry, is, err)
+	}
+	return entry.Record
 }
 
 // checkAnswer checks that a ClusterConfig names the one folder with the two devices, and nothing that a device would take over.
@@ -111,8 +122,9 @@ func TestDeltas(t *testing.T) {
 			f.serve()
 		})
 		kept := NewIndex(42)
-		kept.Highest = 2
-		kept.Entries["old"] = kept.Entries["none"]
+		if err := (&taker{folder: "docs", limits: &Usual, index: kept}).take(indexOf("docs", file{name: "old", sequence: 2}), true); err != nil {
+			t.Fatal(err)
+		}
 		connection, err := dial(observer, device, kept, short())
 		if err != nil {
 			t.Fatal(one.why, err)
@@ -121,8 +133,8 @@ func TestDeltas(t *testing.T) {
 		if err != nil {
 			t.Fatal(one.why, err)
 		}
-		if len(index.Entries) != one.names || index.Highest != int64(one.sequence) {
-			t.Errorf("%s: %v", one.why, index)
+		if count, err := index.Count(); err != nil || count != int64(one.names) || index.Highest != int64(one.sequence) {
+			t.Errorf("%s: %d names, %v", one.why, count, err)
 		}
 		checkAnswer(t, observer, device, <-answered, one.announced, one.highest)
 		connection.Close()

@@ -76,6 +76,7 @@ type fake struct {
 	ignored  map[string]bool
 	noWeak   bool              // it knows no weak hashes
 	after    func(request int) // called before each request is answered
+	lie      func(offset int64, request int) (code uint64)
 	script   func(*fake)
 	mutex    sync.Mutex
 	rescans  []string // names that were asked for with a recorded hash
@@ -203,6 +204,9 @@ func (f *fake) give(name string, offset int64, size int, hash []byte, weak uint3
 	defer f.mutex.Unlock()
 	if f.requests++; f.after != nil {
 		f.after(f.requests)
+	}
+	if f.lie != nil {
+		return make([]byte, size), f.lie(offset, f.requests)
 	}
 	if f.ignored[name] {
 		return nil, codeInvalidFile

@@ -3,20 +3,10 @@ package wire
 import (
 	"fmt"
 
+	"github.com/syndtr/goleveldb/leveldb"
 	"google.golang.org/protobuf/encoding/protowire"
-	"syncthing-audit/device"
 	"syncthing-audit/message"
 )
-
-// Index is a device's own index of a folder, as it told it: of each name the newest record.
-type Index struct {
-	ID      uint64
-	Highest int64 // the highest sequence; all up to there is had
-	Entries map[string]device.Entry
-}
-
-// NewIndex gives an index of which nothing is had.
-func NewIndex(id uint64) *Index { return &Index{ID: id, Entries: map[string]device.Entry{}} }
 
 // The numbers of the fields of an Index and of an Index Update.
 const (
@@ -42,28 +32,23 @@ func (t *taker) take(text []byte, isUpdate bool) error {
 	if is, err := isFolder(text, t.folder); err != nil || !is {
 		return badlyIf("its index", err)
 	}
-	highest := int64(0)
-	if isUpdate {
-		highest = t.index.Highest
+	batch, highest := new(leveldb.Batch), t.index.Highest
+	if !isUpdate {
+		highest = 0
+		if err := t.index.clear(batch); err != nil {
+			return err
+		}
 	}
-	entries, highest, err := t.entriesOf(text, highest)
+	highest, err := t.read(text, highest, batch)
 	if err != nil {
 		return badlyIf("its index", err)
 	}
-	if !isUpdate {
-		t.index.Entries = make(map[string]device.Entry, len(entries))
-	}
-	for _, entry := range entries {
-		t.index.Entries[entry.Name] = entry
-	}
-	t.index.Highest = highest
-	return nil
+	return t.index.write(batch, highest)
 }
 
-// entriesOf reads the records of a message. Their sequences rise, from what was had on: a device sends its records in that order, so that
+// read puts the records of a message into a batch. Their sequences rise, from what was had on: a device sends its records in that order, so that
 // all up to the highest one is had.
-func (t *taker) entriesOf(text []byte, highest int64) ([]device.Entry, int64, error) {
-	var made []device.Entry
+func (t *taker) read(text []byte, highest int64, to *leveldb.Batch) (int64, error) {
 	err := message.Each(text, func(field message.Field) error {
 		if field.Number != indexFile {
 			return nil
@@ -79,10 +64,10 @@ func (t *taker) entriesOf(text []byte, highest int64) ([]device.Entry, int64, er
 			return fmt.Errorf("%w: %d behind %d", SequenceFalls, entry.Sequence, highest)
 		}
 		highest = entry.Sequence
-		made = append(made, device.WireEntry(entry))
+		to.Put(keyOf(entry.Name), field.Text)
 		return nil
 	})
-	return made, highest, err
+	return highest, err
 }
 
 // badlyIf does the same as badly where there is an error.

@@ -8,6 +8,7 @@ import (
 
 	"github.com/syncthing/syncthing/lib/protocol"
 	"syncthing-audit/adapt"
+	"syncthing-audit/hang"
 )
 
 // A record that Syncthing's own package writes is read as that reads it. 1.29 writes none where another program may: there the tests on real
@@ -55,6 +56,7 @@ func randomEntry() protocol.FileInfo {
 func FuzzRecord(f *testing.F) {
 	f.Add(file{name: "a", data: "text", sequence: 1}.text())
 	f.Fuzz(func(t *testing.T, text []byte) {
+		defer hang.Watch()()
 		if entry, err := entryIn(text, 100); err == nil && len(entry.Name) > 100 {
 			t.Error(entry.Name)
 		}

@@ -4,11 +4,9 @@ import (
 	"context"
 	"fmt"
 	"time"
-
-	"syncthing-audit/device"
 )
 
-// Index waits until all of the device's index is had that it said it has, and gives a copy.
+// Index waits until all of the device's index is had that it said it has, and gives the index as it is then.
 func (c *Connection) Index(ctx context.Context) (*Index, error) {
 	due, _ := c.Folder.Of(c.Device)
 	for {
@@ -33,14 +31,14 @@ func (c *Connection) Index(ctx context.Context) (*Index, error) {
 	}
 }
 
-// state gives a copy of the index if it goes up to a sequence, when a part of it came last, and why no more comes.
+// state gives the index as it is now if it goes up to a sequence, when a part of it came last, and why no more comes.
 func (c *Connection) state(due int64) (*Index, time.Time, error) {
 	c.mutex.Lock()
 	defer c.mutex.Unlock()
 	if had := c.taker.index; had.Highest >= due {
-		made := &Index{ID: had.ID, Highest: had.Highest, Entries: make(map[string]device.Entry, len(had.Entries))}
-		for name, entry := range had.Entries {
-			made.Entries[name] = entry
+		made, err := had.snapshot()
+		if err != nil {
+			return nil, c.heard, err
 		}
 		return made, c.heard, nil
 	}

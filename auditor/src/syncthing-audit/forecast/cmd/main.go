@@ -19,10 +19,14 @@ func main() {
 	group := flag.String("group", "", "only the names that hang together with this one, and their world")
 	captured := flag.String("world", "", "a world that --group wrote, in place of parts")
 	seed := flag.Int64("plans", 0, "a plan for a goal drawn with this seed, too, for each group of names")
+	act := flag.String("choose", "", "what is chosen for the whole folder on a device: revert, override or send-and-receive")
+	device := flag.Int("device", 0, "that device's place")
 	flag.Parse()
 	budget := forecast.Budget{States: *states, Walks: *walks, Total: forecast.Usual.Total}
 	world, err := worldOf(*captured, *folder, flag.Args())
-	if err == nil {
+	if err == nil && *act != "" {
+		err = json.NewEncoder(os.Stdout).Encode(map[string]interface{}{"answers": chosen(world, budget, *act, *device)})
+	} else if err == nil {
 		err = json.NewEncoder(os.Stdout).Encode(told(world, *group, budget, *seed))
 	}
 	if err != nil {
@@ -41,6 +45,19 @@ func told(world forecast.World, group string, budget forecast.Budget, seed int64
 	made["answers"] = forecast.New(budget).Of(world)
 	if seed != 0 {
 		made["plans"] = plans(world, seed)
+	}
+	return made
+}
+
+// chosen gives what comes of a choice for each group of names.
+func chosen(world forecast.World, budget forecast.Budget, act string, device int) []forecast.Answer {
+	forecaster, commands := forecast.New(budget), []forecast.Command{{Device: device, IsOverride: act == "override"}}
+	if act == "send-and-receive" {
+		world.Devices[device].Kind, commands = forecast.SendReceive, nil
+	}
+	var made []forecast.Answer
+	for _, group := range world.Groups() {
+		made = append(made, forecaster.OfGroup(group.Devices, group.Names, commands...))
 	}
 	return made
 }

@@ -12,7 +12,7 @@ import (
 
 // World makes a world of parts of one folder. Devices stand in the order of the parts.
 func World(parts []part.Stream, folder string) (forecast.World, error) {
-	r := reader{folder: folder, count: len(parts), names: map[string]*forecast.Name{}, places: map[string]int{}, same: map[forecast.Content]forecast.Content{}}
+	r := newReader(folder, len(parts))
 	for place, one := range parts {
 		r.places[one.Head().Device] = place
 	}
@@ -39,6 +39,10 @@ type reader struct {
 	world  forecast.World
 }
 
+func newReader(folder string, count int) reader {
+	return reader{folder: folder, count: count, names: map[string]*forecast.Name{}, places: map[string]int{}, same: map[forecast.Content]forecast.Content{}}
+}
+
 var kinds = map[string]forecast.Kind{"send-receive": forecast.SendReceive, "send-only": forecast.SendOnly, "receive-only": forecast.ReceiveOnly}
 
 // usualMaxConflicts is Syncthing's default.
@@ -53,8 +57,12 @@ func (r *reader) device(head *part.Head) (forecast.Device, error) {
 	if !is {
 		return forecast.Device{}, fmt.Errorf("the model knows no folder of kind %q", folder.Kind)
 	}
-	return forecast.Device{Kind: kind, Release: forecast.ReleaseOf(head.Runs), Number: head.Number(), IgnorePermissions: folder.IgnoresPermissions,
-		MaxConflicts: usualMaxConflicts, TimeWindow: folder.TimeWindow * 1e9}, nil
+	made := forecast.Device{Kind: kind, Release: forecast.ReleaseOf(head.Runs), Number: head.Number(), IgnorePermissions: folder.IgnoresPermissions,
+		MaxConflicts: usualMaxConflicts, TimeWindow: folder.TimeWindow * 1e9}
+	if folder.Options != nil {
+		made.MaxConflicts, made.IgnoreDelete = folder.Options.MaxConflicts, folder.Options.IgnoresDeletions
+	}
+	return made, nil
 }
 
 // take takes the names of one part.

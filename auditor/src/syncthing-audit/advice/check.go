@@ -1,0 +1,59 @@
+package advice
+
+import "syncthing-audit/forecast"
+
+// Check gives the plan of these steps if each of its ends is the goal, and it is safe from the top; nothing if not.
+func (s Search) Check(world forecast.World, goal Goal, steps []Step) *Plan {
+	t := task{Search: s, world: world, goal: goal, before: onDisks(&world), unavoidable: contents{}}
+	t.before.lostIn(s.answer(world).Ends, t.unavoidable)
+	for _, step := range steps {
+		if !t.mayTake(step) {
+			return nil
+		}
+	}
+	made := t.leads(steps)
+	if made == nil || !t.isSafe(steps, made.Lost) {
+		return nil
+	}
+	return made
+}
+
+// mayTake says whether there is what a step touches or copies.
+func (t *task) mayTake(step Step) bool {
+	switch step.Act {
+	case Touch:
+		return t.world.At(step.Device, step.Name) != nil
+	case Copy:
+		return t.world.At(step.From, step.Name) != nil && t.world.HasRoom(step.Device, step.Name)
+	}
+	return true
+}
+
+// Together gives the plan of these steps if each of its ends is all these goals, and it is safe from the top. Else it gives the goals that aren't
+// reached at some end; none where it is for another reason.
+func (s Search) Together(world forecast.World, goals []Goal, steps []Step) (*Plan, []Goal) {
+	t := task{Search: s, world: world, before: onDisks(&world), unavoidable: contents{}}
+	made := t.comesOf(steps)
+	if made == nil {
+		return nil, nil
+	}
+	var missed []Goal
+	for _, goal := range goals {
+		if !goal.isReachedAtAll(made.Answer.Ends) {
+			missed = append(missed, goal)
+		}
+	}
+	if len(missed) > 0 {
+		return nil, missed
+	}
+	t.before.lostIn(s.answer(world).Ends, t.unavoidable)
+	if !t.isSafe(steps, made.Lost) {
+		return nil, nil
+	}
+	for _, content := range made.Lost {
+		if !t.unavoidable[content] {
+			made.Costs = append(made.Costs, content)
+		}
+	}
+	return made, nil
+}

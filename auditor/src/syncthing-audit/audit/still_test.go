@@ -1,0 +1,36 @@
+package audit
+
+import (
+	"strings"
+	"testing"
+
+	"syncthing-audit/finding"
+	"syncthing-audit/join"
+	"syncthing-audit/part"
+)
+
+// Where all names are in motion nobody is told to look again without a word of what is missing or emptied, and of who has it.
+func TestNothingIsStillTellsWhatNoScanHasSeen(t *testing.T) {
+	folder := &finding.Folder{ID: "docs", Live: &finding.Live{}}
+	for _, name := range []string{"laptop", "server"} {
+		head := &part.Head{Name: name, Device: strings.ToUpper(name) + "-REST", Folders: []part.Folder{{ID: "docs", Kind: "send-receive"}}}
+		folder.Members = append(folder.Members, join.Member{Device: &join.Device{Head: head}, About: &head.Folders[0]})
+	}
+	if told := nothingIsStill(2, []*finding.Folder{folder, {ID: "other"}}).Error(); told != "refused: there is nothing to audit: all of 2 names are in motion: look again" {
+		t.Error(told)
+	}
+	for _, at := range []*part.Name{{Own: &part.Record{Content: &part.Content{Size: 9}}, Disk: &part.Node{}}, {Own: record}} {
+		folder.Live.AddMoving(finding.Moving{At: []finding.Moved{{Member: 1, Waits: finding.KindOfWaiting(at), As: at, Have: []int{0}}}})
+	}
+	const want = "look again. Before that, on server (SERVER-): no scan of folder docs has seen 1 missing, 1 emptied there. A scan deletes on all devices what is missing, " +
+		"and sends what stands there to all, so first copy back what is to stay as it is recorded (2 on laptop (LAPTOP-))"
+	if told := nothingIsStill(2, []*finding.Folder{folder}).Error(); !strings.HasSuffix(told, want) {
+		t.Error(told)
+	}
+	folder.Members[1].About.Kind = receiveOnly
+	if told := nothingIsStill(2, []*finding.Folder{folder}).Error(); !strings.HasSuffix(told, "look again") {
+		t.Error(told)
+	}
+}
+
+const receiveOnly = "receive-only"

@@ -1,0 +1,115 @@
+package main
+
+import (
+	"math/rand"
+	"path/filepath"
+	"testing"
+
+	"syncthing-audit/device"
+	"syncthing-audit/finding"
+	"syncthing-audit/outlook"
+	"syncthing-audit/part"
+)
+
+// drawChain draws a folder whose names' records lead up to one on some device, but for what goes wrong in some rounds.
+func drawChain(t *testing.T, random *rand.Rand, names int) []*drawn {
+	devices := drawDevices(t, random)
+	for _, one := range devices {
+		one.about.Options, one.runs = &part.Options{MaxConflicts: -1}, "v1.19.2"
+		for place := range one.about.Views {
+			one.about.Views[place].Max = 10*int64(random.Intn(names+1)) + 9
+		}
+	}
+	for number := 0; number < names; number++ {
+		drawChained(t, random, devices, string(rune('a'+number)), 10*int64(number+1))
+	}
+	return devices
+}
+
+// drawChained draws what the devices have of a name: each an own record of its chain, and of each other device its own record or, where
+// the device hasn't heard so far of its index, an older one.
+func drawChained(t *testing.T, random *rand.Rand, devices []*drawn, name string, sequence int64) {
+	chain := []device.Entry{}
+	for length := 1; length <= 3; length++ {
+		next := drawRecord(random, sequence)
+		for next.Record.Content == nil && !next.Record.Deleted {
+			next = drawRecord(random, sequence)
+		}
+		next.Name, next.Record.Invalid = name, random.Intn(60) == 0
+		counter := uint64(1000) // another device's, so that the change is nobody's own here
+		if random.Intn(8) == 0 {
+			counter = 1
+		}
+		next.Record.Version = [][2]uint64{{counter, uint64(length)}, {2000, 1}}
+		if random.Intn(20) == 0 {
+			next.Record.Version[1][1] = uint64(5 - length)
+		}
+		chain = append(chain, next)
+	}
+	owns := map[string]int{}
+	for _, one := range devices {
+		owns[one.id] = random.Intn(len(chain)+1) - 1
+		if place := owns[one.id]; place >= 0 {
+			one.own = append(one.own, chain[place])
+			putNode(t, filepath.Join(one.path, name), chain[place], random.Intn(40) == 0)
+		}
+	}
+	for _, one := range devices {
+		for _, view := range one.about.Views {
+			place := owns[view.Device]
+			if sequence > view.Max {
+				place = random.Intn(place+2) - 1
+			}
+			if place < 0 {
+				continue
+			}
+			seen := chain[place]
+			if record := *seen.Record; sequence > view.Max {
+				record.Sequence = sequence / 10
+				seen.Record = &record
+			}
+			one.views[view.Device] = append(one.views[view.Device], seen)
+		}
+	}
+}
+
+// What is proved and what the model of Syncthing foretells go together: of a folder whose records lead to one end the model foretells
+// no loss, no conflict copy, and no other end. So it is in many rounds; and each reason that hinders a folder is seen in some.
+func TestWhatConvergesComesRight(t *testing.T) {
+	seen, rounds := map[string]int{}, int64(100)
+	isSlow := auditor().Path == "../../test/"+standIn
+	if isSlow {
+		rounds = 6
+	}
+	for seed := int64(1); seed <= rounds; seed++ {
+		answer := answerOfDrawn(t, drawChain(t, rand.New(rand.NewSource(seed)), 2), false)
+		folder := answer.Folders[0]
+		if !folder.HasFailures() {
+			continue
+		}
+		how := answer.HowConverging(folder)
+		seen[string(how)]++
+		if folder.Convergence.First != nil {
+			seen[folder.Convergence.First.Reason]++
+		}
+		if how != finding.Converges {
+			continue
+		}
+		told := folder.Outlook
+		if told == nil || told.Names == 0 {
+			t.Errorf("seed %d: the folder converges, and nothing is foretold: %+v", seed, told)
+			continue
+		}
+		for _, fate := range []outlook.Fate{outlook.Lost, outlook.Depends, outlook.Stays, outlook.Changed} {
+			if told.Count[fate] > 0 {
+				t.Errorf("seed %d: the folder converges, and the model foretells %q: %+v", seed, fate, told.Listed)
+			}
+		}
+		if told.Count[outlook.Unknown] == 0 {
+			seen["foretold"]++
+		}
+	}
+	if seen["foretold"] == 0 || !isSlow && (seen["WouldCopy"] == 0 || seen["NothingPrevails"] == 0 || seen["StoreUnclean"] == 0) {
+		t.Error(seen)
+	}
+}

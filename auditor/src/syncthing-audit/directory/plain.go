@@ -1,0 +1,72 @@
+package directory
+
+import (
+	"os"
+	"path/filepath"
+	"time"
+)
+
+// Plain is a directory as the system has it. Names are those that go over the wire: with slashes, and composed where the system takes them apart.
+type Plain struct{ root string }
+
+// Open gives the directory at a path.
+func Open(path string) (*Plain, error) {
+	whole, err := filepath.Abs(path)
+	if err != nil {
+		return nil, err
+	}
+	made := &Plain{rootOf(whole)}
+	about, err := os.Stat(made.root)
+	if err == nil && !about.IsDir() {
+		err = &os.PathError{Op: "open", Path: path, Err: errNoDirectory}
+	}
+	return made, err
+}
+
+// URI gives the directory's path.
+func (p *Plain) URI() string { return p.root }
+
+// DirNames gives the names in a directory.
+func (p *Plain) DirNames(name string) ([]string, error) {
+	opened, err := openDirectory(p.path(name), name == ".")
+	if err != nil {
+		return nil, err
+	}
+	defer opened.Close()
+	names, err := opened.Readdirnames(-1)
+	for place := range names {
+		names[place] = onWire(names[place])
+	}
+	return names, err
+}
+
+// Lstat says what stands under a name.
+func (p *Plain) Lstat(name string) (Info, error) {
+	about, err := p.About(name)
+	if err != nil {
+		return nil, err
+	}
+	return plainInfo{about}, nil
+}
+
+// About gives what the system says of a name.
+func (p *Plain) About(name string) (os.FileInfo, error) { return os.Lstat(p.path(name)) }
+
+// ReadSymlink gives a symlink's target.
+func (p *Plain) ReadSymlink(name string) (string, error) { return os.Readlink(p.path(name)) }
+
+type plainInfo struct{ about os.FileInfo }
+
+func (p plainInfo) IsDir() bool        { return p.about.IsDir() }
+func (p plainInfo) IsRegular() bool    { return p.about.Mode().IsRegular() }
+func (p plainInfo) IsSymlink() bool    { return p.about.Mode()&os.ModeSymlink != 0 }
+func (p plainInfo) Size() int64        { return p.about.Size() }
+func (p plainInfo) ModTime() time.Time { return p.about.ModTime() }
+
+// Permissions gives the permissions as Syncthing records them; 0 where the system has none such.
+func (p plainInfo) Permissions() uint32 {
+	if !HasPermissions {
+		return 0
+	}
+	return uint32(p.about.Mode().Perm())
+}

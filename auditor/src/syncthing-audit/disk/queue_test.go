@@ -1,0 +1,90 @@
+package disk
+
+import (
+	"io"
+	"os"
+	"path/filepath"
+	"strings"
+	"testing"
+	"time"
+
+	"github.com/syncthing/syncthing/lib/fs"
+	"github.com/syncthing/syncthing/lib/protocol"
+	"syncthing-audit/adapt"
+	"syncthing-audit/part"
+)
+
+// reserved tries to take room of a queue, and says whether that is given at once.
+func reserved(q *Queue, weight int) (isGiven bool, later chan bool) {
+	later = make(chan bool, 1)
+	go func() { later <- q.Reserve(weight) }()
+	select {
+	case is := <-later:
+		return is, nil
+	case <-time.After(50 * time.Millisecond):
+		return false, later
+	}
+}
+
+// A queue has room for so much and no more, but one name that is heavier goes into an empty one. Who waits goes on once a name is taken.
+func TestTheRoomOfAQueue(t *testing.T) {
+	q := NewQueue()
+	for _, weight := range []int{5, MostWaiting - 7, 2} {
+		if is, _ := reserved(q, weight); !is {
+			t.Fatalf("no room for %d beside %d", weight, q.weight)
+		}
+		q.Put(&Pending{Weight: weight})
+	}
+	is, later := reserved(q, 5)
+	if is {
+		t.Fatalf("room for more than there is: %d", q.weight)
+	}
+	if next, err := q.Next(); err != nil || next.Weight != 5 || !<-later || q.weight != MostWaiting {
+		t.Errorf("%+v, %v, %d", next, err, q.weight)
+	}
+	heavy := NewQueue()
+	if is, _ := reserved(heavy, 2*MostWaiting); !is {
+		t.Error("no room for a heavy name")
+	}
+	_, later = reserved(heavy, 1)
+	go heavy.End(nil)
+	heavy.Stop()
+	if <-later {
+		t.Error("a name is wanted of a queue that was stopped")
+	}
+	if next, err := heavy.Next(); next != nil || err != nil {
+		t.Errorf("%+v, %v", next, err)
+	}
+	failed := NewQueue()
+	failed.Put(&Pending{})
+	failed.End(io.ErrUnexpectedEOF)
+	first, none := failed.Next()
+	if second, err := failed.Next(); first == nil || none != nil || second != nil || err != io.ErrUnexpectedEOF {
+		t.Errorf("%+v, %v, %+v, %v", first, none, second, err)
+	}
+}
+
+// What keeps a file from being hashed is told by its kind.
+func TestFilesThatAreNotHashed(t *testing.T) {
+	pool := NewPool(1)
+	defer pool.Close()
+	path := filepath.Join(t.TempDir(), "a")
+	if err := os.WriteFile(path, []byte("hello"), 0o600); err != nil {
+		t.Fatal(err)
+	}
+	for kind, name := range map[string]string{part.Changing: "b", part.Unreadable: strings.Repeat("x", 300), "": "mem"} {
+		line := &part.Name{Name: part.Bytes(name), Disk: &part.Node{Size: 5}}
+		file := File{Disk: adapt.Directory(fs.NewFilesystem(fs.FilesystemTypeBasic, filepath.Dir(path))), Name: name, Node: line.Disk, BlockSizes: []int64{protocol.MinBlockSize}}
+		if kind == "" { // the first bytes of a process can't be read
+			file.Disk, file.Stamp = adapt.Directory(fs.NewFilesystem(fs.FilesystemTypeBasic, "/proc/self")), Stamp("/proc/self/mem")
+		}
+		told := (&Pending{Line: line, Job: pool.Begin(file)}).Finish()
+		if kind == "" {
+			if told.Disk.Lost == "" || len(told.Out) > 0 || len(told.Disk.Contents) != 1 {
+				t.Errorf("%+v, %+v", told, told.Disk)
+			}
+		} else if len(told.Out) != 1 || told.Out[0].Kind != kind || told.Out[0].Bytes != 5 || told.Disk.Contents != nil {
+			t.Errorf("%s: %+v", kind, told.Out)
+		}
+	}
+}

@@ -1,0 +1,79 @@
+package finding
+
+import (
+	"golang.org/x/exp/slices"
+	"syncthing-audit/join"
+)
+
+// ConvergeReasons are why a folder doesn't come right by itself, in the order in which they are told.
+var ConvergeReasons = []string{"NothingPrevails", "Concurrent", "ContentDiffers", "LocalOnly", "StoreUnclean", "StoreDiffers", "SendOnly", "WouldCopy"}
+
+// Convergence is what syncaudit says of a folder that isn't firm: whether it comes right by itself.
+type Convergence struct {
+	Asked bool     // of each document that isn't firm; not where the program is too old to know what that is
+	First *Failure // what one document of all would have told to hinder it; nothing where it converges
+	Pairs *int64   // how many pairs of a name and a device aren't yet at what prevails; nothing where the program didn't tell
+}
+
+// Converging says how it stands with a folder that isn't in step, in a word.
+type Converging string
+
+// How it stands with it. The folder converges if each of its documents does, or is firm.
+const (
+	Converges        Converging = "converging"
+	NotConverging    Converging = "not-converging"
+	ConvergeNotAsked Converging = "not-asked"
+	ConvergeNotKnown Converging = "not-known" // what was asked for converges, and something wasn't audited or may change without a record
+)
+
+// IsConvergeReason says whether a reason is one of ConvergeReasons.
+func IsConvergeReason(reason string) bool { return slices.Contains(ConvergeReasons, reason) }
+
+// Take takes what syncaudit says of a further document: the first hindrance of both is kept.
+func (c *Convergence) Take(next Convergence) {
+	c.Asked = c.Asked && next.Asked
+	if next.Pairs != nil {
+		sum := *next.Pairs
+		if c.Pairs != nil {
+			sum += *c.Pairs
+		}
+		c.Pairs = &sum
+	}
+	if c.First == nil || next.First != nil && isBefore(next.First, c.First, ConvergeReasons) {
+		c.First = next.First
+	}
+}
+
+// HowConverging says how it stands with a folder; nothing if it is in step. What no document has hinders it, too: a name
+// without a winner, and one that a disk fails to give.
+func (a *Answer) HowConverging(folder *Folder) Converging {
+	switch {
+	case !folder.HasFailures():
+		return ""
+	case folder.Convergence.First != nil || folder.Unwon.Len() > 0 || folder.Damaged.Len() > 0:
+		return NotConverging
+	case !folder.Convergence.Asked:
+		return ConvergeNotAsked
+	case !a.IsWhole(folder) || a.IsPart(folder) || folder.mayGetOtherRecords():
+		return ConvergeNotKnown
+	}
+	return Converges
+}
+
+// mayGetOtherRecords says whether something that no document tells may bring records to the folder beside those that it has: an index
+// that is to be repaired, a scan that records owners or attributes, other permissions on a disk, which a scan records as a change, or
+// something else of Syncthing that writes into the folder's directory.
+func (f *Folder) mayGetOtherRecords() bool {
+	return f.hasOtherPermissions() || slices.IndexFunc(f.Members, func(member join.Member) bool {
+		return member.Device != nil && member.About != nil && (member.Head.ToRepair || member.About.ScansAttributes || len(member.About.Writers) > 0)
+	}) >= 0
+}
+
+// hasOtherPermissions says whether a name has other permissions on a disk than its device recorded.
+func (f *Folder) hasOtherPermissions() bool {
+	found := false
+	f.Permissions.Each(func(name *Permissions) {
+		found = found || slices.IndexFunc(name.At, func(bits Bits) bool { return bits.OnDisk && bits.Disk != bits.Index }) >= 0
+	})
+	return found
+}

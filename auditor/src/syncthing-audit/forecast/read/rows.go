@@ -1,0 +1,236 @@
+package read
+
+import (
+	"strings"
+
+	"syncthing-audit/damage"
+	"syncthing-audit/forecast"
+	"syncthing-audit/join"
+	"syncthing-audit/part"
+)
+
+// MostCells limits of how many names a world is made: each name counts for every device and every view of one. There is room for some 20,000
+// names of three devices. Names beyond are counted.
+const MostCells = 300000
+
+// Rows makes a world of the rows of a folder: of the names that aren't at rest, and of what hangs together with them. Rows come rising by name.
+type Rows struct {
+	reader
+	members []join.Member
+	viewed  [][]int // of each member's views: of which member each is, or -1
+
+	All     []Unknown      // why it isn't known what comes of any name
+	Unknown map[string]Why // of a name of the world: why that isn't known
+	Count   map[Why]int64  // of names beside the world
+	Calm    map[string]bool
+	Damage  map[string][]damage.Kind // of names of the world that look damaged somewhere: how, at each device
+	room    int
+	risky   map[string]bool // names of the world that may be something else than a directory somewhere
+	copies  map[string]int  // conflict copies that are at rest, by what they are copies of
+	bytes   filter          // of names that are at rest
+	out     map[string]bool // names that aren't told as a whole
+}
+
+// NewRows begins with a folder.
+func NewRows(folder *join.Folder) *Rows {
+	made := &Rows{reader: newReader(folder.ID, len(folder.Members)), members: folder.Members, All: unknownOf(folder.Members), Unknown: map[string]Why{},
+		Count: map[Why]int64{}, Calm: map[string]bool{}, Damage: map[string][]damage.Kind{}, room: MostCells, risky: map[string]bool{}, copies: map[string]int{}, out: map[string]bool{}}
+	for member, one := range folder.Members {
+		made.places[one.Head.Device] = member
+		device, err := made.device(one.Head)
+		if err != nil {
+			made.All = append(made.All, Unknown{Untold, []int{member}})
+		}
+		device.Apart = apartFrom(folder.Members, member)
+		made.world.Devices = append(made.world.Devices, device)
+		views := make([]int, len(one.About.Views))
+		for place, view := range one.About.Views {
+			if views[place] = memberOf(folder.Members, view.Device); views[place] >= 0 && device.Apart.Has(views[place]) {
+				views[place] = -1
+			}
+		}
+		made.viewed = append(made.viewed, views)
+	}
+	return made
+}
+
+// Take takes a row.
+func (r *Rows) Take(row *join.Row) {
+	isBelow := isBelow(r.risky, row.Name)
+	if !isBelow && isOutside(row) {
+		return
+	}
+	isCalm := !hasOuts(row) && r.isAtRest(row)
+	if isCalm && !isBelow {
+		r.pass(row)
+		return
+	}
+	why := r.unknownAt(row)
+	r.noteOut(row)
+	switch {
+	case len(r.All) > 0:
+		r.Count[r.All[0].Why]++
+	case why == LeftOut:
+		r.Count[LeftOut]++
+		r.eachAbove(row.Name)
+	case r.room < r.cells():
+		r.Count[TooMany]++
+	default:
+		r.keep(row, why, isCalm)
+	}
+}
+
+// noteOut notes a name of which a device doesn't tell all: what is below it isn't known, either.
+func (r *Rows) noteOut(row *join.Row) {
+	for _, at := range row.At {
+		if at != nil && len(at.Out) > 0 {
+			r.out[strings.TrimSuffix(row.Name, "/")] = true
+		}
+	}
+}
+
+// eachAbove notes what is above a name that is left out: something is below it that nobody knows.
+func (r *Rows) eachAbove(name string) {
+	for above := upper(name); above != ""; above = upper(above) {
+		if r.risky[above] {
+			r.Unknown[above] = LeftOut
+		}
+	}
+}
+
+// upper gives the directory above a name; nothing where it is in the folder itself.
+func upper(name string) string {
+	if at := strings.LastIndexByte(name, '/'); at > 0 {
+		return name[:at]
+	}
+	return ""
+}
+
+func (r *Rows) cells() int { return len(r.members) * (len(r.members) + 2) }
+
+func (r *Rows) keep(row *join.Row, why Why, isCalm bool) {
+	r.room -= r.cells()
+	for member, at := range row.At {
+		if at != nil {
+			r.takeName(member, at, r.members[member].About.Views)
+			r.noteDamage(row, member)
+		}
+	}
+	if why != "" {
+		r.Unknown[row.Name] = why
+	}
+	if isCalm {
+		r.Calm[row.Name] = true
+	}
+	if why != "" || !isDirectoryAnyway(row) {
+		r.risky[row.Name] = true
+	}
+}
+
+func (r *Rows) noteDamage(row *join.Row, member int) {
+	kind := damage.Of(row.At[member].Own, row.At[member].Disk)
+	if kind == damage.None {
+		return
+	}
+	if r.Damage[row.Name] == nil {
+		r.Damage[row.Name] = make([]damage.Kind, len(r.members))
+	}
+	r.Damage[row.Name][member] = kind
+}
+
+// pass notes what of a name that is at rest may matter to others.
+func (r *Rows) pass(row *join.Row) {
+	if root := forecast.RootOfCopy(row.Name); root != "" {
+		r.copies[root]++
+	}
+	if due := anyOwn(row); due != nil && due.Content != nil && due.Content.Size > 0 {
+		r.bytes.add(due.Content)
+	}
+}
+
+// isBelow says whether one of these is above a name.
+func isBelow(names map[string]bool, name string) bool {
+	if len(names) == 0 {
+		return false
+	}
+	for above := upper(name); above != ""; above = upper(above) {
+		if names[above] {
+			return true
+		}
+	}
+	return false
+}
+
+// isDirectoryAnyway says whether a name is a directory for all who have anything of it, and stands on all disks: nothing makes anything else
+// of it.
+func isDirectoryAnyway(row *join.Row) bool {
+	const directory = 1
+	is := func(record *part.Record) bool { return record.Type == directory && !record.Deleted }
+	for _, at := range row.At {
+		if at == nil || at.Disk == nil || at.Disk.Type != directory || at.Own != nil && !is(at.Own) {
+			return false
+		}
+		for _, seen := range at.Views {
+			if !is(seen.Record) {
+				return false
+			}
+		}
+	}
+	return true
+}
+
+// hasOuts says whether something of a name isn't known at a device.
+func hasOuts(row *join.Row) bool {
+	if len(row.Later) > 0 {
+		return true
+	}
+	for _, at := range row.At {
+		if at != nil && (len(at.Out)+len(at.Moved) > 0 || at.IsDamaged() || at.Disk != nil && at.Disk.Unread > 0) {
+			return true
+		}
+	}
+	return false
+}
+
+// isOutside says whether all who have a name ignore it, and no index has it.
+func isOutside(row *join.Row) bool {
+	for _, at := range row.At {
+		if at != nil && (at.Own != nil || len(at.Views) > 0 || !at.IsIgnored()) {
+			return false
+		}
+	}
+	return true
+}
+
+// World gives the world, once all rows were taken.
+func (r *Rows) World() forecast.World {
+	if len(r.All) > 0 {
+		return forecast.World{Devices: r.world.Devices}
+	}
+	r.finish()
+	for _, name := range r.world.Names {
+		if _, is := r.Unknown[name.Name]; !is && r.mayDropCopies(name.Name) {
+			r.Unknown[name.Name] = Copies
+		}
+	}
+	return r.world
+}
+
+// mayDropCopies says whether a name may come to have more conflict copies than a device keeps.
+func (r *Rows) mayDropCopies(name string) bool {
+	for _, device := range r.world.Devices {
+		if r.copies[name] > 0 && device.MaxConflicts >= 0 && r.copies[name]+len(r.members) > device.MaxConflicts {
+			return true
+		}
+	}
+	return false
+}
+
+// HasTwin says whether a name beside the world may have the bytes of one of these.
+func (r *Rows) HasTwin(names []forecast.Name) bool {
+	found := false
+	for place := range names {
+		names[place].EachContent(func(content forecast.Content) { found = found || r.bytes.has(content) })
+	}
+	return found
+}

@@ -1,0 +1,319 @@
+package read
+
+import (
+	"encoding/binary"
+	"testing"
+
+	"github.com/syncthing/syncthing/lib/protocol"
+	"syncthing-audit/choice"
+	"syncthing-audit/forecast"
+	"syncthing-audit/join"
+	"syncthing-audit/part"
+)
+
+func id(place int) string { return protocol.DeviceID{7: byte(place + 1)}.String() }
+
+// folderOf gives a folder that so many devices share.
+func folderOf(count int) *join.Folder {
+	made := &join.Folder{ID: "docs"}
+	for place := 0; place < count; place++ {
+		about := &part.Folder{ID: "docs", Kind: "send-receive", IndexID: uint64(place + 1), Max: 9, Options: &part.Options{MaxConflicts: 10}}
+		for other := 0; other < count; other++ {
+			if other != place {
+				about.Sharing = append(about.Sharing, part.Sharing{Device: id(other)})
+				about.Views = append(about.Views, part.View{Device: id(other), IndexID: uint64(other + 1), Max: 9})
+			}
+		}
+		head := &part.Head{Device: id(place), Runs: "v1.29.5", Folders: []part.Folder{*about}}
+		made.Members = append(made.Members, join.Member{Device: &join.Device{Head: head, Number: head.Number()}, About: about})
+	}
+	return made
+}
+
+func told(change func(*part.Record)) *part.Record {
+	made := &part.Record{ModifiedS: 100, ModifiedBy: 1, Version: [][2]uint64{{1, 1}}, Sequence: 5,
+		Content: &part.Content{Size: 5, BlockSize: protocol.MinBlockSize, Hash: part.Hash{1}}}
+	if change != nil {
+		change(made)
+	}
+	return made
+}
+
+// calm gives a name of two devices that is at rest, after a change.
+func calm(name string, change func(row *join.Row)) *join.Row {
+	made := &join.Row{Name: name}
+	for place := 0; place < 2; place++ {
+		made.At = append(made.At, &part.Name{Name: part.Bytes(name), Own: told(nil), Views: []part.Seen{{Record: told(nil)}},
+			Disk: &part.Node{ModifiedS: 100, Size: 5, Contents: []part.Content{*told(nil).Content}}})
+	}
+	if change != nil {
+		change(made)
+	}
+	return made
+}
+
+func delete(row *join.Row, member int) {
+	row.At[member].Own.Deleted, row.At[member].Own.Content, row.At[member].Disk = true, nil, nil
+}
+
+var permissions = uint32(0o600)
+
+var restless = []struct {
+	why    string
+	change func(*join.Row)
+}{
+	{"one device lacks it", func(row *join.Row) { row.At[1] = nil }},
+	{"one disk lacks it", func(row *join.Row) { row.At[1].Disk = nil }},
+	{"other bytes", func(row *join.Row) { row.At[1].Disk.Contents[0].Hash[0] = 9 }},
+	{"another time", func(row *join.Row) { row.At[0].Disk.ModifiedS = 101 }},
+	{"another mode", func(row *join.Row) { row.At[0].Own.Permissions, row.At[1].Own.Permissions = &permissions, &permissions }},
+	{"another version", func(row *join.Row) { row.At[1].Own.Version = [][2]uint64{{1, 2}} }},
+	{"a deletion", func(row *join.Row) { delete(row, 1) }},
+	{"a local change", func(row *join.Row) { row.At[1].Own.Invalid, row.At[1].Own.Local = true, [][2]uint64{{1, 1}} }},
+	{"one hasn't heard of it", func(row *join.Row) { row.At[0].Views = nil }},
+	{"one has heard of another version", func(row *join.Row) { row.At[0].Views[0].Record.Version = [][2]uint64{{2, 2}} }},
+	{"a name that no scan has seen", func(row *join.Row) { row.At[0].Own, row.At[0].Views, row.At[1] = nil, nil, nil }},
+	{"a name that one has heard of", func(row *join.Row) { row.At[0].Own, row.At[0].Disk, row.At[1] = nil, nil, nil }},
+}
+
+// Names that are at rest are no part of the world, and all others are.
+func TestWhatIsAtRest(t *testing.T) {
+	rows := NewRows(folderOf(2))
+	rows.Take(calm("a", nil))
+	rows.Take(calm("b", func(row *join.Row) {
+		delete(row, 0)
+		delete(row, 1)
+		for _, at := range row.At {
+			at.Views[0].Record.Deleted, at.Views[0].Record.Content = true, nil
+		}
+	}))
+	if world := rows.World(); len(world.Names) != 0 {
+		t.Errorf("%+v aren't at rest", world.Names)
+	}
+	for _, one := range restless {
+		rows := NewRows(folderOf(2))
+		rows.Take(calm("a", one.change))
+		if len(rows.World().Names) != 1 {
+			t.Errorf("%s: it is at rest", one.why)
+		}
+	}
+}
+
+// What hangs together with what isn't at rest is part of the world, too.
+func TestWhatIsBelow(t *testing.T) {
+	directory := func(row *join.Row) {
+		for _, at := range row.At {
+			at.Own.Type, at.Own.Content, at.Views[0].Record.Type, at.Views[0].Record.Content = 1, nil, 1, nil
+			at.Disk = &part.Node{Type: 1}
+		}
+	}
+	rows := NewRows(folderOf(2))
+	rows.Take(calm("d", directory))
+	rows.Take(calm("d/a", nil))
+	rows.Take(calm("e", func(row *join.Row) {
+		directory(row)
+		row.At[0].Disk = nil
+	}))
+	rows.Take(calm("e/a", nil))
+	if world := rows.World(); len(world.Names) != 2 || !rows.Calm["e/a"] {
+		t.Errorf("%+v", world.Names)
+	}
+}
+
+var unknowns = []struct {
+	why    Why
+	change func(*join.Folder)
+}{
+	{Absent, func(folder *join.Folder) {
+		folder.Members[1].About.Sharing = append(folder.Members[1].About.Sharing, part.Sharing{Device: id(7)})
+	}},
+	{Unlinked, func(folder *join.Folder) { folder.Members[0].About.Sharing = nil }},
+	{OverWire, func(folder *join.Folder) {
+		folder.Members[0].Head.Wire, folder.Members[0].About.Options = &part.Wire{}, nil
+	}},
+	{Untried, func(folder *join.Folder) { folder.Members[0].Head.Runs = "v1.27.0" }},
+	{Untold, func(folder *join.Folder) { folder.Members[0].About.Options = nil }},
+	{Paused, func(folder *join.Folder) { folder.Members[0].About.Paused = true }},
+	{Paused, func(folder *join.Folder) { folder.Members[0].About.PausedDevices = []string{id(1)} }},
+	{Attributes, func(folder *join.Folder) { folder.Members[0].About.ScansAttributes = true }},
+	{Writers, func(folder *join.Folder) { folder.Members[0].About.Writers = []string{"folder x"} }},
+	{OtherIndex, func(folder *join.Folder) { folder.Members[0].About.Views[0].IndexID = 77 }},
+	{OtherIndex, func(folder *join.Folder) { folder.Members[0].Head.ToRepair = true }},
+	{Asked, func(folder *join.Folder) { folder.Members[0].Head.Names = choice.Names{Prefix: "a"} }},
+}
+
+// Where something of a folder isn't known, nothing of it is foretold, and the names are counted.
+func TestWhatIsNotKnownOfAFolder(t *testing.T) {
+	for _, one := range unknowns {
+		folder := folderOf(2)
+		one.change(folder)
+		rows := NewRows(folder)
+		rows.Take(calm("a", restless[1].change))
+		rows.Take(calm("b", nil))
+		if len(rows.World().Names) != 0 || len(rows.All) != 1 || rows.All[0].Why != one.why || rows.Count[one.why] != 1 {
+			t.Errorf("%s: %+v, %v, %d names", one.why, rows.All, rows.Count, len(rows.World().Names))
+		}
+	}
+}
+
+var unknownNames = []struct {
+	why    Why
+	change func(*join.Row)
+}{
+	{"", func(row *join.Row) { row.At[1].Disk = nil }},
+	{Damaged, func(row *join.Row) { row.At[1].Disk.Lost = "a bad sector" }},
+	{Damaged, func(row *join.Row) { row.At[1].Disk.Unread, row.At[0].Disk = 7, nil }},
+	{Moving, func(row *join.Row) { row.At[1].Receiving, row.At[0].Disk = ".syncthing.a.tmp", nil }},
+	{NeverTold, func(row *join.Row) { row.At[1].Own.Version = [][2]uint64{{1, 2}} }},
+	{NeverTold, func(row *join.Row) { row.At[1].Own.Invalid = true }},
+}
+
+// Where something of a name isn't known, nothing is foretold of it.
+func TestWhatIsNotKnownOfAName(t *testing.T) {
+	for _, one := range unknownNames {
+		rows := NewRows(folderOf(2))
+		rows.Take(calm("a", one.change))
+		if len(rows.World().Names) != 1 || rows.Unknown["a"] != one.why {
+			t.Errorf("%q: %v, %d names", one.why, rows.Unknown, len(rows.World().Names))
+		}
+	}
+}
+
+// A name that is left out is counted, and what is below it isn't known.
+func TestWhatIsLeftOut(t *testing.T) {
+	rows := NewRows(folderOf(2))
+	rows.Take(calm("d", func(row *join.Row) { row.At[1].Out = []part.LeftOut{{Kind: part.Unreadable, Why: "it can't be read"}} }))
+	rows.Take(calm("d/a", func(row *join.Row) { row.At[1].Disk = nil }))
+	rows.Take(calm("x", func(row *join.Row) {
+		row.At[0], row.At[1] = nil, &part.Name{Disk: row.At[1].Disk, Out: []part.LeftOut{{Kind: part.Ignored, Why: "it is ignored"}}}
+	}))
+	if rows.Count[LeftOut] != 2 || len(rows.World().Names) != 0 {
+		t.Errorf("%v, %d names", rows.Count, len(rows.World().Names))
+	}
+}
+
+// What is left out below a directory that may go makes that unknown, whatever its name is; and names of any form come to an end.
+func TestWhatIsLeftOutBelow(t *testing.T) {
+	for _, name := range []string{"e/a", "e//a", "e/a/", "/", "//x", "."} {
+		rows := NewRows(folderOf(2))
+		rows.Take(calm("e", func(row *join.Row) { row.At[0].Disk = nil }))
+		rows.Take(calm(name, func(row *join.Row) { row.At[1].Out = []part.LeftOut{{Kind: part.OddName, Why: "it is odd"}} }))
+		if why := rows.Unknown["e"]; (why == LeftOut) != (name[0] == 'e') || len(rows.World().Names) != 1 || rows.Count[LeftOut] != 1 {
+			t.Errorf("%s: %q, %v", name, why, rows.Count)
+		}
+	}
+}
+
+// The names of a large folder that aren't kept are counted.
+func TestTooManyNames(t *testing.T) {
+	rows := NewRows(folderOf(2))
+	rows.room = 3*rows.cells() - 1
+	for _, name := range []string{"a", "b", "c"} {
+		rows.Take(calm(name, restless[1].change))
+	}
+	if rows.Count[TooMany] != 1 || len(rows.World().Names) != 2 {
+		t.Errorf("%v, %d names", rows.Count, len(rows.World().Names))
+	}
+}
+
+// A filter has what was added, and little else.
+func TestFilter(t *testing.T) {
+	rows := NewRows(folderOf(2))
+	rows.Take(calm("a", nil))
+	for _, one := range []struct {
+		hash byte
+		has  bool
+	}{{1, true}, {2, false}} {
+		other := NewRows(folderOf(2))
+		other.Take(calm("b", func(row *join.Row) {
+			for _, at := range row.At {
+				at.Own.Content.Hash[0], at.Views[0].Record.Content.Hash[0], at.Disk.Contents[0].Hash[0] = one.hash, one.hash, one.hash
+			}
+			row.At[1].Disk = nil
+		}))
+		if rows.HasTwin(other.World().Names) != one.has {
+			t.Errorf("hash %d: %v", one.hash, !one.has)
+		}
+	}
+}
+
+// A filter has all that was added, however much it is, and hardly anything else.
+func TestFilterOfMany(t *testing.T) {
+	var many filter
+	content := func(number int) part.Content {
+		made := part.Content{Size: 1}
+		binary.LittleEndian.PutUint64(made.Hash[:], uint64(number)*0x9e3779b97f4a7c15)
+		binary.LittleEndian.PutUint64(made.Hash[8:], uint64(number)*0xc2b2ae3d27d4eb4f)
+		return made
+	}
+	for number := 0; number < 3*mostExact; number++ {
+		one := content(number)
+		many.add(&one)
+	}
+	wrong := 0
+	for number := 0; number < 6*mostExact; number++ {
+		one := content(number)
+		has := many.has(forecast.Content{Size: 1, Hash: one.Hash.String()})
+		if number < 3*mostExact && !has {
+			t.Fatal("the filter lacks what was added:", number)
+		}
+		if number >= 3*mostExact && has {
+			wrong++
+		}
+	}
+	if wrong > 30 {
+		t.Errorf("%d are said to be there, and aren't", wrong)
+	}
+}
+
+// A name with as many copies as a device keeps, or almost, isn't foretold.
+func TestManyCopies(t *testing.T) {
+	for count, is := range map[int]bool{8: false, 9: true} {
+		rows := NewRows(folderOf(2))
+		for place := 0; place < count; place++ {
+			rows.Take(calm("a.sync-conflict-20261128-23000"+string(rune('0'+place))+"-AAAAAAA.txt", nil))
+		}
+		rows.Take(calm("a.txt", restless[1].change))
+		if rows.World(); (rows.Unknown["a.txt"] == Copies) != is {
+			t.Errorf("%d copies: %v", count, rows.Unknown)
+		}
+	}
+}
+
+// A world has the options that parts tell.
+func TestOptions(t *testing.T) {
+	folder := folderOf(2)
+	folder.Members[0].Head.Folders[0].Options = &part.Options{MaxConflicts: 3, IgnoresDeletions: true}
+	devices := NewRows(folder).World().Devices
+	if one, other := devices[0], devices[1]; one.MaxConflicts != 3 || !one.IgnoreDelete || other.MaxConflicts != 10 || other.IgnoreDelete {
+		t.Errorf("%+v", devices)
+	}
+}
+
+// Devices of which one shares the folder with all others, and these with that one alone, are foretold. What the others know of each other from before
+// counts for nothing.
+func TestAHub(t *testing.T) {
+	folder := folderOf(3)
+	for _, member := range []int{1, 2} {
+		folder.Members[member].About.Sharing = []part.Sharing{{Device: id(0)}}
+	}
+	rows := NewRows(folder)
+	if devices := rows.World().Devices; len(rows.All) > 0 || devices[0].Apart != 0 || devices[1].Apart != 1<<2 || devices[2].Apart != 1<<1 {
+		t.Errorf("%+v, %+v", rows.All, devices)
+	}
+	row := &join.Row{Name: "a"}
+	for member, one := range folder.Members {
+		at := calm("a", nil).At[0]
+		at.Views = nil
+		for view := range one.About.Views {
+			if member == 0 || view == 0 {
+				at.Views = append(at.Views, part.Seen{View: view, Record: told(nil)})
+			}
+		}
+		row.At = append(row.At, at)
+	}
+	rows.Take(row)
+	if world := rows.World(); len(world.Names) != 0 {
+		t.Errorf("%+v isn't at rest", world.Names)
+	}
+}

@@ -1,0 +1,244 @@
+// Package halves joins the two halves of a device's part: what an observer was told over the wire, its records, and what stands on its disks, as a walk
+// there found it.
+package halves
+
+import (
+	"fmt"
+
+	"golang.org/x/exp/slices"
+	"syncthing-audit/part"
+	"syncthing-audit/shell"
+	"syncthing-audit/stignore"
+)
+
+// Join joins the halves of a device's part, and says why they aren't two halves of one. The walk is to lie between the observer's two looks: it knows
+// the id of the first ones, and the second one knows the id of the walk.
+func Join(wire, disks part.Stream) (*Stream, error) {
+	records, half := wire.Head(), disks.Head()
+	if records.Wire == nil || records.Wire.Half == "" || half.Half == nil {
+		return nil, fmt.Errorf("they aren't a part over the wire and a part of disks")
+	}
+	switch {
+	case records.Device != half.Device:
+		return nil, fmt.Errorf("one is of device %s, the other one of %s", records.Device, half.Device)
+	case half.Half.After != records.Look.ID:
+		return nil, fmt.Errorf("the disks weren't walked after this observer's first look, but after another one's: have the walk made anew, by the command that " +
+			"'observe' prints")
+	case half.Half.ID != records.Wire.Half:
+		return nil, fmt.Errorf("the observer's second look came after another walk of the disks than this one: observe anew")
+	case records.Names != half.Names:
+		return nil, fmt.Errorf("the observer looked at %s, and the disks were walked for %s: make both with the same %s", records.Names.Words(), half.Names.Words(),
+			records.Unlike(half.Names))
+	}
+	made := &Stream{wire: &reading{Stream: wire}, disks: &reading{Stream: disks}, folder: -1}
+	var err error
+	made.head, err = joinHeads(records, half)
+	return made, err
+}
+
+// joinHeads gives the head of both halves. What the walk saw isn't unseen any more.
+func joinHeads(records, half *part.Head) (*part.Head, error) {
+	made := *records
+	made.Half = half.Half
+	wire := *records.Wire
+	wire.Unseen = half.StillUnseen()
+	made.Wire = &wire
+	made.Folders = append([]part.Folder{}, records.Folders...)
+	for _, one := range half.Folders {
+		if records.Folder(one.ID) == nil {
+			return nil, fmt.Errorf("the disks have folder %s, at which the observer didn't look: walk only the folder of the observer's command", shell.Quoted(one.ID))
+		}
+	}
+	for place := range made.Folders {
+		to := &made.Folders[place]
+		from := half.Folder(to.ID)
+		if from == nil {
+			return nil, fmt.Errorf("the observer looked at folder %s, whose directory wasn't walked: walk it, too", shell.Folder(to.ID, to.Label))
+		}
+		to.Path, to.Directory, to.Ignores = from.Path, from.Directory, from.Ignores
+		if err := addConfigured(to, from); err != nil {
+			return nil, err
+		}
+	}
+	return &made, nil
+}
+
+// addConfigured adds what the device's configuration says of a folder, where that was read. Over the wire only some of it shows.
+func addConfigured(to, from *part.Folder) error {
+	if from.Kind == "" {
+		return nil
+	}
+	if to.Kind != from.Kind && to.Kind != "send-receive" {
+		return fmt.Errorf("folder %s is %s by the config.xml that was read, and over the wire it is %s: is another config.xml Syncthing's?",
+			shell.Folder(to.ID, to.Label), from.Kind, to.Kind)
+	}
+	to.Kind, to.Options, to.Rest, to.TimeWindow, to.ScansAttributes = from.Kind, from.Options, from.Rest, from.TimeWindow, from.ScansAttributes
+	to.IgnoresPermissions = to.IgnoresPermissions || from.IgnoresPermissions
+	return nil
+}
+
+// Stream gives a device's lines as its two halves have them.
+type Stream struct {
+	wire, disks *reading
+	head        *part.Head
+	folder      int // the place of the one whose names these are
+	names       int64
+	patterns    *stignore.Patterns // nothing where they aren't known
+	unknown     string             // why
+	toIgnore    stignore.ToIgnore
+	told        map[part.Bytes]bool // hashes of names that .stignore ignores and some index has: these were told under their names
+	hidden      []*part.Name        // that .stignore ignores and the walk told under their names
+}
+
+// reading is a part with the line that is next.
+type reading struct {
+	part.Stream
+	line *part.Line
+}
+
+// peek gives the next line without taking it.
+func (r *reading) peek() (*part.Line, error) {
+	if r.line == nil {
+		next, err := r.Stream.Next()
+		if err != nil {
+			return nil, err
+		}
+		r.line = &next
+	}
+	return r.line, nil
+}
+
+// Head gives the head of both halves.
+func (s *Stream) Head() *part.Head { return s.head }
+
+// Next gives the next line; io.EOF behind the last.
+func (s *Stream) Next() (part.Line, error) {
+	for {
+		one, err := s.wire.peek()
+		if err != nil {
+			return part.Line{}, s.checkEnd(err)
+		}
+		other, err := s.disks.peek()
+		if err != nil {
+			return part.Line{}, fmt.Errorf("its half of the disks: %w", err)
+		}
+		switch {
+		case one.Begin != nil && other.Begin != nil:
+			s.begin()
+			return s.take(*one), nil
+		case one.End != nil && other.End != nil && !s.hasHidden():
+			return s.take(part.Line{End: s.end(one.End, other.End)}), nil
+		case one.Begin != nil || other.Begin != nil:
+			return part.Line{}, fmt.Errorf("the folders of its two halves don't begin together")
+		}
+		if line := s.nextHidden(one.Name, other.Name); line != nil {
+			s.names++
+			return part.Line{Name: line}, nil
+		}
+		if line := s.name(one.Name, other.Name); line != nil {
+			s.names++
+			return part.Line{Name: line}, nil
+		}
+	}
+}
+
+// checkEnd says whether the half of the disks ends where that over the wire does.
+func (s *Stream) checkEnd(err error) error {
+	if _, left := s.disks.peek(); left != err {
+		return fmt.Errorf("its half of the disks goes on where that over the wire ends: %v, %w", left, err)
+	}
+	return err
+}
+
+// take takes the lines of both halves.
+func (s *Stream) take(line part.Line) part.Line {
+	s.wire.line, s.disks.line = nil, nil
+	return line
+}
+
+// begin begins a folder.
+func (s *Stream) begin() {
+	s.folder++
+	s.names, s.toIgnore, s.told, s.hidden = 0, stignore.ToIgnore{}, map[part.Bytes]bool{}, nil
+	ignores := s.head.Folders[s.folder].Ignores
+	s.patterns, s.unknown = nil, ignores.Unknown
+	if s.unknown != "" {
+		return
+	}
+	var err error
+	if s.patterns, err = stignore.Parse(ignores.Lines, ignores.FoldCase); err != nil {
+		s.unknown = err.Error()
+	}
+}
+
+// end gives the end of a folder: of the index by what the observer was told, of the disks by the walk.
+func (s *Stream) end(wire, disks *part.End) *part.End {
+	made := *wire
+	made.Names, made.Bytes, made.Temporary, made.Linked = s.names, disks.Bytes, disks.Temporary, disks.Linked
+	if s.head.Names.IsAll() {
+		s.toIgnore.End()
+		made.ToIgnore = s.toIgnore.Names
+	}
+	return &made
+}
+
+// name takes the lesser of two names, or both where they are one, and gives what is told of it; nothing of what was told already. One of them may be
+// at its end.
+func (s *Stream) name(one, other *part.Name) *part.Name {
+	switch {
+	case other == nil || one != nil && one.Name < other.Name:
+		s.wire.line = nil
+		return s.join(one, nil)
+	case one == nil || other.Name < one.Name:
+		s.disks.line = nil
+		return s.join(nil, other)
+	}
+	s.wire.line, s.disks.line = nil, nil
+	return s.join(one, other)
+}
+
+// join joins what the halves have of a name; one of them may have nothing.
+func (s *Stream) join(wire, disk *part.Name) *part.Name {
+	made := &part.Name{}
+	if disk != nil {
+		if wire == nil && s.told[disk.Name] {
+			return nil
+		}
+		*made = *disk
+	}
+	if wire != nil {
+		made.Name, made.Own = wire.Name, wire.Own
+		made.Out = append(append([]part.LeftOut{}, wire.Out...), made.Out...)
+		made.Moved = union(wire.Moved, made.Moved)
+	}
+	if shell.IsBehindNames(string(made.Name)) { // a hash in place of a name
+		return made
+	}
+	made = s.byPatterns(made, wire != nil)
+	if wire == nil && made.IsIgnored() {
+		s.hide(made)
+		return nil
+	}
+	if len(made.Moved) > 0 {
+		return &part.Name{Name: made.Name, Moved: made.Moved}
+	}
+	if made.Disk != nil {
+		s.fit(made)
+	}
+	if len(made.Out) == 0 && !made.IsAsRecorded(s.head.Folders[s.folder].Window()) {
+		waits := *made
+		return &part.Name{Name: made.Name, Moved: []string{part.MovedUnscanned}, Waits: &waits}
+	}
+	return made
+}
+
+// union gives all of both, each once.
+func union(one, other []string) []string {
+	made := append([]string{}, one...)
+	for _, word := range other {
+		if !slices.Contains(made, word) {
+			made = append(made, word)
+		}
+	}
+	return made
+}

@@ -1,0 +1,112 @@
+package history
+
+import (
+	"errors"
+
+	"github.com/syndtr/goleveldb/leveldb"
+)
+
+// Change is that a file's bytes changed under one time and size: when it was read with the bytes before, and first with others.
+type Change struct{ Before, Since Reading }
+
+func (c *Change) bytes() []byte { return append(c.Before.bytes(), c.Since.bytes()...) }
+
+func readChange(value []byte) (*Change, error) {
+	if len(value) != 2*lengthOfReading {
+		return nil, errValue
+	}
+	before, err := readReading(value[:lengthOfReading])
+	if err != nil {
+		return nil, err
+	}
+	since, err := readReading(value[lengthOfReading:])
+	if err != nil {
+		return nil, err
+	}
+	return &Change{*before, *since}, nil
+}
+
+// changeAt gives the change that a key has; nothing if there is none.
+func changeAt(db *leveldb.DB, key []byte) (*Change, error) {
+	value, err := db.Get(key, nil)
+	if errors.Is(err, leveldb.ErrNotFound) {
+		return nil, nil
+	}
+	if err != nil {
+		return nil, err
+	}
+	return readChange(value)
+}
+
+// Spread is a file whose bytes changed under one time on each device that has it, so that all have the same ones now. No comparison of devices shows
+// it. Rot that Syncthing took for a change spreads so. A program that puts a file's time back after it wrote looks the same.
+type Spread struct {
+	Folder, Name string
+	Devices      []uint64 // rising
+	Change       Change   // the first of theirs, as it was found
+}
+
+// EachSpread gives all files whose bytes changed so, by folders and names. The devices are those that share the folder.
+func (h *History) EachSpread(devicesOf func(folder string) []uint64, take func(Spread) error) error {
+	var next *Spread
+	give := func() error {
+		if next == nil {
+			return nil
+		}
+		is, err := h.isSpread(next, devicesOf(next.Folder))
+		if err != nil || !is {
+			return err
+		}
+		return take(*next)
+	}
+	err := h.each([]byte{ofChange}, func(key, value []byte) error {
+		folder, name, device, _, err := readName(key)
+		if err != nil {
+			return err
+		}
+		change, err := readChange(value)
+		if err != nil {
+			return err
+		}
+		if next == nil || next.Folder != folder || next.Name != name {
+			if err := give(); err != nil {
+				return err
+			}
+			next = &Spread{Folder: folder, Name: name, Change: *change}
+		}
+		if change.Since.At.Before(next.Change.Since.At) {
+			next.Change = *change
+		}
+		next.Devices = append(next.Devices, device)
+		return nil
+	})
+	if err != nil {
+		return err
+	}
+	return give()
+}
+
+// isSpread says whether all devices that have a file have the same bytes of it, and each of these had others under that time.
+func (h *History) isSpread(spread *Spread, devices []uint64) (bool, error) {
+	var first *Reading
+	have := 0
+	for _, device := range devices {
+		value, err := h.db.Get(keyOfReading(spread.Folder, device, spread.Name), nil)
+		if errors.Is(err, leveldb.ErrNotFound) {
+			continue
+		}
+		if err != nil {
+			return false, err
+		}
+		reading, err := readReading(value)
+		if err != nil {
+			return false, err
+		}
+		if first != nil && first.Content != reading.Content {
+			return false, nil
+		}
+		have++
+		first = reading
+	}
+	return have > 0 && have == len(spread.Devices), nil
+}

@@ -1,0 +1,151 @@
+package history
+
+import (
+	"time"
+
+	"syncthing-audit/part"
+)
+
+// MostListed is how many names are listed one by one of each kind; more are counted.
+const MostListed = 1000
+
+// Since is what a history says beside an answer.
+type Since struct {
+	Before  *time.Time `json:"audit_before,omitempty"` // when the audit before this one was kept
+	New     List       `json:"new"`                    // faults that the audit before didn't find
+	Lasting List       `json:"lasting"`
+	Mended  List       `json:"mended"`     // found before; the name was audited, and isn't at fault any more
+	Unasked List       `json:"not_looked"` // found before; the name wasn't audited now
+	Changed []Changed  `json:"bytes_changed_everywhere"`
+	Count   int64      `json:"bytes_changed_everywhere_count"` // of all, also of those that aren't listed
+	Read    []Read     `json:"read"`
+	Unkept  string     `json:"not_kept,omitempty"` // why the history doesn't have all of this audit
+}
+
+// List has the first of some faults, and counts all.
+type List struct {
+	Count int64  `json:"count"`
+	First []Told `json:"first"`
+}
+
+// Told is a fault with the audits in which it was found.
+type Told struct {
+	Folder string     `json:"folder"`
+	Name   part.Bytes `json:"name"`
+	Device string     `json:"device,omitempty"` // its id; none where the fault is of the folder's devices together
+	Reason string     `json:"reason"`
+	First  time.Time  `json:"first"`
+	Audits int64      `json:"audits"`
+}
+
+// Changed is a file whose bytes changed under one time and size on all devices that have it.
+type Changed struct {
+	Folder  string     `json:"folder"`
+	Name    part.Bytes `json:"name"`
+	Devices []string   `json:"devices"`
+	Before  time.Time  `json:"read_with_bytes_before"`
+	Since   time.Time  `json:"read_with_these_bytes"`
+	Size    int64      `json:"size"`
+	Block   int64      `json:"block_size"`
+	Hash    string     `json:"hash_before"` // SHA-256 of the block hashes, one after another
+}
+
+// Read says how much of a device's files in a folder was read, whenever that was.
+type Read struct {
+	Folder     string     `json:"folder"`
+	Device     string     `json:"device"`
+	Files      int64      `json:"files"`
+	Bytes      int64      `json:"bytes"`
+	Oldest     time.Time  `json:"oldest"` // of no meaning where no file was read
+	OldestName part.Bytes `json:"oldest_name,omitempty"`
+}
+
+// Audited is an audit that is to be kept.
+type Audited struct {
+	At      time.Time
+	Found   []Fault
+	Folders map[string][]uint64 // the devices of each folder that was audited
+	Names   func(folder, name string) bool
+	IDs     map[uint64]string // of devices
+}
+
+// Since keeps an audit, and says what the history has beside its answer.
+func (h *History) Since(audit Audited) (*Since, error) {
+	made := &Since{Changed: []Changed{}, Read: []Read{}}
+	before, err := h.Last()
+	if err != nil {
+		return nil, err
+	}
+	if !before.IsZero() {
+		made.Before = &before
+	}
+	if err := h.addChanged(made, &audit); err != nil {
+		return nil, err
+	}
+	news, err := h.Keep(audit.At, audit.Found, func(folder, name string) bool {
+		_, is := audit.Folders[folder]
+		return is && audit.Names(folder, name)
+	})
+	if err != nil {
+		return nil, err
+	}
+	for _, one := range []struct {
+		faults []Fault
+		to     *List
+	}{{news.New, &made.New}, {news.Lasting, &made.Lasting}, {news.Mended, &made.Mended}, {news.Unasked, &made.Unasked}} {
+		if *one.to, err = h.list(one.faults, audit.IDs); err != nil {
+			return nil, err
+		}
+	}
+	return made, h.addRead(made, audit)
+}
+
+// list lists the first faults.
+func (h *History) list(faults []Fault, ids map[uint64]string) (List, error) {
+	made := List{Count: int64(len(faults)), First: []Told{}}
+	for _, fault := range faults {
+		if len(made.First) == MostListed {
+			break
+		}
+		seen, err := h.Seen(fault)
+		if err != nil {
+			return List{}, err
+		}
+		made.First = append(made.First, Told{fault.Folder, part.Bytes(fault.Name), ids[fault.Device], fault.Cause, seen.First, seen.Audits})
+	}
+	return made, nil
+}
+
+// ChangedEverywhere is the cause of a file whose bytes changed on all devices under one time.
+const ChangedEverywhere = "BytesChangedEverywhere"
+
+// addChanged adds the files whose bytes changed on all devices. Each is a fault of the audit, too: it is new once.
+func (h *History) addChanged(made *Since, audit *Audited) error {
+	return h.EachSpread(func(folder string) []uint64 { return audit.Folders[folder] }, func(spread Spread) error {
+		audit.Found = append(audit.Found, Fault{Folder: spread.Folder, Name: spread.Name, Cause: ChangedEverywhere})
+		if made.Count++; made.Count > MostListed {
+			return nil
+		}
+		before := spread.Change.Before
+		one := Changed{Folder: spread.Folder, Name: part.Bytes(spread.Name), Before: before.At, Since: spread.Change.Since.At, Size: before.Content.Size,
+			Block: before.Content.BlockSize, Hash: before.Content.Hash.String()}
+		for _, device := range spread.Devices {
+			one.Devices = append(one.Devices, audit.IDs[device])
+		}
+		made.Changed = append(made.Changed, one)
+		return nil
+	})
+}
+
+func (h *History) addRead(made *Since, audit Audited) error {
+	for _, folder := range sorted(audit.Folders) {
+		for _, device := range audit.Folders[folder] {
+			covered, err := h.Coverage(folder, device)
+			if err != nil {
+				return err
+			}
+			made.Read = append(made.Read, Read{folder, audit.IDs[device], covered.Files, covered.Bytes, covered.Oldest, part.Bytes(covered.OldestName)})
+		}
+	}
+	return nil
+}

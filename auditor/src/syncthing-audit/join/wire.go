@@ -1,0 +1,167 @@
+package join
+
+import (
+	"strings"
+
+	"golang.org/x/exp/slices"
+	"syncthing-audit/part"
+)
+
+// Unseen counts what isn't seen over the wire of a member, and what a document takes to be as the device recorded it.
+type Unseen struct {
+	Standing int64 `json:",omitempty"` // directories and symlinks
+	Unread   int64 `json:",omitempty"` // files whose bytes weren't asked for
+}
+
+// fill gives members that were seen over the wire what others' indexes tell of their views, and what their own records tell of what isn't seen.
+func (f *Folder) fill(row *Row) {
+	for place := range f.Members {
+		if f.Members[place].Head.IsOverWire() {
+			f.fillViews(row, place)
+		}
+	}
+	for place := range f.Members {
+		if f.Members[place].Head.IsOverWireAlone() && row.At[place] != nil {
+			f.Members[place].fillDisk(row.At[place])
+		}
+	}
+}
+
+// fillViews gives a member the records that it has of others. An index is sent in the order of its sequences, and without gaps. So what a member
+// has of another's index is that index up to the sequence that it names. What it had of a name before a record behind that isn't known: the
+// name isn't heard of there (IsUnheard).
+func (f *Folder) fillViews(row *Row, member int) {
+	if at := row.At[member]; at != nil && len(at.Out)+len(at.Moved) > 0 || f.Members[member].dropsFromOthers(row.Name) {
+		return
+	}
+	for place, view := range f.Members[member].About.Views {
+		of := f.Member(view.Device)
+		if of < 0 || row.At[of] == nil || row.At[of].Own == nil {
+			continue
+		}
+		own := row.At[of].Own
+		if f.Members[of].About.IndexID != view.IndexID || own.Sequence > view.Max {
+			continue
+		}
+		if row.At[member] == nil {
+			row.At[member] = f.Members[member].namedByOthers(row.Name)
+		}
+		record := *own
+		record.Local = nil // it isn't sent
+		row.At[member].Views = append(row.At[member].Views, part.Seen{View: place, Record: &record})
+	}
+}
+
+// dropsFromOthers says whether a member's Syncthing drops a name from others' indexes: on Windows one with a backslash has no path.
+func (m *Member) dropsFromOthers(name string) bool {
+	return m.Head.Half != nil && m.Head.Half.IsWindows() && strings.Contains(name, `\`)
+}
+
+// namedByOthers gives a name that a member has in its views alone. Where the member's patterns are known, they may keep it out of the folder there.
+func (m *Member) namedByOthers(name string) *part.Name {
+	made := &part.Name{Name: part.Bytes(name)}
+	if stream, is := m.Stream.(interface{ IsIgnored(name string) bool }); is && stream.IsIgnored(name) {
+		made.Out = []part.LeftOut{{Kind: part.Ignored, Why: part.WhyIgnored}}
+	}
+	return made
+}
+
+// fillDisk gives a name of what isn't seen of its disk what is recorded there. What is seen and isn't as recorded waits for a scan, as at each device
+// that is looked at while it runs.
+func (m *Member) fillDisk(one *part.Name) {
+	own := one.Own
+	if len(one.Out)+len(one.Moved) > 0 {
+		return
+	}
+	if own != nil && !own.Deleted && one.Disk == nil && (own.Content == nil || m.Head.IsOfRecords()) {
+		one.Disk = m.asRecorded(own)
+	} else if own != nil && own.Content != nil && one.Disk != nil {
+		disk := *one.Disk
+		disk.ModifiedS, disk.ModifiedNs, disk.Permissions = own.ModifiedS, own.ModifiedNs, permissionsOf(own)
+		one.Disk = &disk
+	}
+	if !one.IsAsRecorded(0) {
+		waits := *one
+		waits.Views = nil
+		*one = part.Name{Name: one.Name, Moved: []string{part.MovedUnscanned}, Waits: &waits}
+	}
+}
+
+// asRecorded gives what is recorded of a name in place of what stands on the disk, which isn't seen.
+func (m *Member) asRecorded(own *part.Record) *part.Node {
+	made := &part.Node{Type: own.Type, ModifiedS: own.ModifiedS, ModifiedNs: own.ModifiedNs, Target: own.Target, Permissions: permissionsOf(own)}
+	if own.Content == nil {
+		m.Unseen.Standing++
+		return made
+	}
+	m.Unseen.Unread++
+	made.Size, made.Contents = own.Content.Size, []part.Content{*own.Content}
+	return made
+}
+
+func permissionsOf(own *part.Record) uint32 {
+	if own.Permissions == nil {
+		return 0
+	}
+	return *own.Permissions
+}
+
+// observers gives the devices that made parts over the wire. They share the folders, and keep none of their files.
+func observers(devices []*Device, known []string) map[string]bool {
+	made := map[string]bool{}
+	for _, one := range known {
+		made[one] = true
+	}
+	for _, one := range devices {
+		if one.Head.Wire != nil {
+			made[one.Head.Wire.Observer] = true
+		}
+	}
+	return made
+}
+
+// Observer is a device that shares a folder and keeps no files of it.
+type Observer struct{ Folder, Device, Name string }
+
+// takeOutObservers takes observers out of what the devices say of each other: nobody asks for an observer's part, and it has none. It gives those that
+// the devices name without having been asked by them over the wire.
+func takeOutObservers(devices []*Device, known []string) []Observer {
+	all := observers(devices, known)
+	if len(all) == 0 {
+		return nil
+	}
+	made := []Observer{}
+	for _, device := range devices {
+		for place := range device.Head.Folders {
+			folder := &device.Head.Folders[place]
+			kept := make([]part.Sharing, 0, len(folder.Sharing))
+			for _, other := range folder.Sharing {
+				if !all[other.Device] {
+					kept = append(kept, other)
+				} else if isNew := slices.IndexFunc(made, func(had Observer) bool { return had.Folder == folder.ID && had.Device == other.Device }) < 0; isNew {
+					made = append(made, Observer{folder.ID, other.Device, other.Name})
+				}
+			}
+			folder.Sharing = kept
+			folder.PausedDevices = slices.Clip(without(folder.PausedDevices, all))
+		}
+		for place := range device.Head.Others {
+			device.Head.Others[place].Devices = without(device.Head.Others[place].Devices, all)
+		}
+	}
+	return made
+}
+
+// without gives the devices but for these.
+func without(devices []string, out map[string]bool) []string {
+	if len(devices) == 0 {
+		return devices
+	}
+	made := []string{}
+	for _, one := range devices {
+		if !out[one] {
+			made = append(made, one)
+		}
+	}
+	return made
+}

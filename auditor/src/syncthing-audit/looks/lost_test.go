@@ -1,0 +1,39 @@
+package looks
+
+import (
+	"testing"
+
+	"syncthing-audit/part"
+)
+
+// What a disk fails to give at the second look alone is damaged, as at the first one, and isn't in motion: whether both looks have the name or the
+// second one alone, whatever else changed of it.
+func TestWhatADiskFailsToGiveAtTheSecondLook(t *testing.T) {
+	lost := func(name *part.Name) {
+		name.Disk, name.Out = nil, []part.LeftOut{{Kind: part.Damaged, Why: "input/output error"}}
+	}
+	for why, one := range map[string]struct {
+		first  []*part.Name
+		second func(*part.Name)
+	}{
+		"it was there":      {[]*part.Name{aFile(unchanged)}, lost},
+		"only then":         {nil, lost},
+		"and its record":    {[]*part.Name{aFile(unchanged)}, func(name *part.Name) { lost(name); name.Own.Sequence++ }},
+		"and at both":       {[]*part.Name{aFile(lost)}, lost},
+		"and it was unread": {[]*part.Name{aFile(func(name *part.Name) { name.Out = []part.LeftOut{{Kind: part.Special, Why: "a fifo"}} })}, lost},
+	} {
+		stream, err := Join(firstLook(one.first...), secondLook(aFile(one.second)))
+		if err != nil {
+			t.Fatal(why, err)
+		}
+		var told *part.Name
+		for line, err := stream.Next(); err == nil; line, err = stream.Next() {
+			if line.Name != nil {
+				told = line.Name
+			}
+		}
+		if told == nil || !told.IsDamaged() || len(told.Moved) > 0 {
+			t.Errorf("%s: %+v", why, told)
+		}
+	}
+}

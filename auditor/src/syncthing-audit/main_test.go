@@ -1,0 +1,20 @@
+package main
+
+import (
+	"os"
+	"testing"
+)
+
+// chosenAuditor is the program that whoever runs the tests would have answer, or nothing.
+var chosenAuditor = os.Getenv("SYNCAUDIT")
+
+// TestMain clears $SYNCAUDIT, so that a test that needs the program says so by useAuditor or auditor: what passes for a
+// maintainer who has set it passes for all.
+func TestMain(tests *testing.M) {
+	os.Unsetenv("SYNCAUDIT")
+	if os.Getenv(crashing) != "" {
+		abortWhereItCrashes()
+		panic("a fault of the program")
+	}
+	os.Exit(tests.Run())
+}

@@ -1,0 +1,92 @@
+package observe
+
+import (
+	"encoding/json"
+	"errors"
+	"io/fs"
+	"os"
+	"path/filepath"
+	"sort"
+
+	"syncthing-audit/regular"
+)
+
+// Addresses are where devices were reached last, by their ids, and which of them share which folder. They stand in the observer's home.
+type Addresses struct {
+	path    string
+	Devices map[string]string          `json:"devices"` // HOST:PORT
+	Folders map[string]map[string]bool `json:"folders"` // by their ids the devices that were asked
+}
+
+// nameOfAddresses is the file with them.
+const nameOfAddresses = "addresses.json"
+
+// mostAddresses is how many devices are kept: more than any Syncthing has.
+const (
+	mostAddresses        = 10000
+	mostBytesOfAddresses = 64 << 20
+)
+
+// OpenAddresses reads the addresses in a home; there are none before the first run.
+func OpenAddresses(home string) (*Addresses, error) {
+	made := &Addresses{path: filepath.Join(home, nameOfAddresses)}
+	text, _, err := regular.Read(made.path, mostBytesOfAddresses)
+	if err == nil {
+		err = json.Unmarshal(text, made)
+	}
+	if err != nil && !errors.Is(err, fs.ErrNotExist) {
+		return nil, err
+	}
+	if made.Devices == nil {
+		made.Devices = map[string]string{}
+	}
+	if made.Folders == nil {
+		made.Folders = map[string]map[string]bool{}
+	}
+	return made, nil
+}
+
+// Of gives the devices that were asked of a folder, rising.
+func (a *Addresses) Of(folder string) []string {
+	made := []string{}
+	for device := range a.Folders[folder] {
+		made = append(made, device)
+	}
+	sort.Strings(made)
+	return made
+}
+
+// Add keeps where a device was reached, and that it was asked of a folder. Of one that connected by itself there is no address.
+func (a *Addresses) Add(folder, device, address string) {
+	if len(a.Devices) >= mostAddresses {
+		return
+	}
+	if a.Folders[folder] == nil {
+		a.Folders[folder] = map[string]bool{}
+	}
+	a.Folders[folder][device] = true
+	if address != "" {
+		a.Devices[device] = address
+	}
+}
+
+// Keep writes them: the file is there whole or as it was.
+func (a *Addresses) Keep() error {
+	text, err := json.MarshalIndent(a, "", "  ")
+	if err != nil {
+		return err
+	}
+	file, err := os.CreateTemp(filepath.Dir(a.path), nameOfAddresses+"-")
+	if err != nil {
+		return err
+	}
+	defer os.Remove(file.Name())
+	_, err = file.Write(append(text, '\n'))
+	if closed := file.Close(); err == nil {
+		err = closed
+	}
+	if err != nil {
+		return err
+	}
+	return os.Rename(file.Name(), a.path)
+}

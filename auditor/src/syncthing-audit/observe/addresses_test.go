@@ -1,0 +1,36 @@
+package observe
+
+import (
+	"os"
+	"path/filepath"
+	"reflect"
+	"testing"
+)
+
+// What is kept is read again, of each folder its own devices; a file that is none is told, and stays.
+func TestAddresses(t *testing.T) {
+	home := t.TempDir()
+	made, err := OpenAddresses(home)
+	if err != nil || len(made.Of("docs")) != 0 {
+		t.Fatal(made, err)
+	}
+	made.Add("docs", "B", "laptop:22000")
+	made.Add("docs", "A", "")
+	made.Add("more", "C", "nas:22000")
+	if err := made.Keep(); err != nil {
+		t.Fatal(err)
+	}
+	read, err := OpenAddresses(home)
+	if err != nil || !reflect.DeepEqual(read.Of("docs"), []string{"A", "B"}) || read.Devices["B"] != "laptop:22000" || read.Devices["A"] != "" || len(read.Of("none")) != 0 {
+		t.Errorf("%+v, %v", read, err)
+	}
+	if left, err := filepath.Glob(filepath.Join(home, "*-*")); err != nil || len(left) != 0 {
+		t.Errorf("%q is left", left)
+	}
+	if err := os.WriteFile(filepath.Join(home, nameOfAddresses), []byte("none"), 0o600); err != nil {
+		t.Fatal(err)
+	}
+	if _, err := OpenAddresses(home); err == nil {
+		t.Error("what is no list is read")
+	}
+}

@@ -1,0 +1,136 @@
+package observe
+
+import (
+	"strings"
+	"testing"
+	"time"
+
+	"github.com/syncthing/syncthing/lib/protocol"
+	"syncthing-audit/message"
+	"syncthing-audit/part"
+	"syncthing-audit/wire"
+)
+
+var asked = Asked{Folder: "docs"}
+
+// seen gives a device with these records, of which some came again at the second look.
+func seen(t *testing.T, records map[string][]byte, since ...string) *Device {
+	t.Helper()
+	made := &Device{ID: protocol.DeviceID{0: 1, 7: 1}, index: wire.NewIndex(7), since: wire.NewIndex(7), said: wire.Folder{ID: "docs"}, first: time.Unix(1, 0),
+		again: time.Unix(2, 0)}
+	var err error
+	if made.disks, err = newDisks(t.TempDir()); err != nil {
+		t.Fatal(err)
+	}
+	t.Cleanup(made.Close)
+	for _, record := range records {
+		if err := made.index.Put(record); err != nil {
+			t.Fatal(err)
+		}
+	}
+	for _, name := range since {
+		if err := made.since.Put(fileOf(name, 9, true)); err != nil {
+			t.Fatal(err)
+		}
+	}
+	if err := made.count(); err != nil {
+		t.Fatal(err)
+	}
+	return made
+}
+
+// fileOf gives a record of a file of three bytes as it is sent, with more fields behind it.
+func fileOf(name string, sequence uint64, hasVersion bool, more ...byte) []byte {
+	made := message.AppendText(nil, 1, []byte(name))
+	made = message.AppendNumber(made, 3, 3)
+	if hasVersion {
+		made = message.AppendText(made, 9, message.AppendText(nil, 1, message.AppendNumber(message.AppendNumber(nil, 1, 1), 2, 1)))
+	}
+	made = message.AppendNumber(made, 10, sequence)
+	made = message.AppendNumber(made, 12, 1)
+	made = message.AppendText(made, 16, message.AppendText(message.AppendNumber(nil, 2, 3), 3, make([]byte, 32)))
+	return append(made, more...)
+}
+
+// invalid is the field of a record that its device marks as invalid.
+var invalid = message.AppendNumber(nil, 7, 1)
+
+// linesOf gives the lines of a device's part by name, whose names rise.
+func linesOf(t *testing.T, of *Device) map[string]*part.Name {
+	t.Helper()
+	made, last := map[string]*part.Name{}, ""
+	err := of.each(asked, func(line *part.Name) error {
+		if string(line.Name) <= last {
+			t.Errorf("%q behind %q", line.Name, last)
+		}
+		made[string(line.Name)], last = line, string(line.Name)
+		return nil
+	})
+	if err != nil {
+		t.Fatal(err)
+	}
+	return made
+}
+
+// What is found becomes what a part says; what came between the looks is in motion, and nothing else is told of it.
+func TestLines(t *testing.T) {
+	made := seen(t, map[string][]byte{"failed": fileOf("failed", 1, true), "ignored": fileOf("ignored", 2, true), "same": fileOf("same", 3, true),
+		"moved": fileOf("moved", 4, true), "invalid": fileOf("invalid", 5, true, invalid...), "local": fileOf("local", 6, false, invalid...),
+		"unknown": fileOf("unknown", 7, true), "missing": fileOf("missing", 8, true)}, "a new one", "moved", "new")
+	found := map[string]wire.Found{"same": {State: wire.Same, Size: 3, BlockSize: protocol.MinBlockSize, Blocks: [][32]byte{{1}}}, "failed": {State: wire.Failed},
+		"ignored": {State: wire.Ignored}, "moved": {State: wire.Same, Size: 3}, "unknown": {State: wire.NotKnown}, "missing": {State: wire.Missing}}
+	for name, one := range found {
+		if err := made.disks.put(name, diskOf(made.ID, name, one)); err != nil {
+			t.Fatal(err)
+		}
+	}
+	names := linesOf(t, made)
+	if len(names) != 10 {
+		t.Errorf("%d names", len(names))
+	}
+	for name, kind := range map[string]string{"failed": part.Unreadable, "ignored": part.Ignored, "invalid": part.Unknown, "unknown": part.Unknown} {
+		if len(names[name].Out) != 1 || names[name].Out[0].Kind != kind {
+			t.Errorf("%s: %+v", name, names[name])
+		}
+	}
+	for _, name := range []string{"a new one", "moved", "new"} {
+		if one := names[name]; len(one.Moved) != 1 || one.Own != nil || one.Disk != nil {
+			t.Errorf("%s: %+v", name, one)
+		}
+	}
+	if one := names["same"]; one.Own == nil || one.Disk == nil || one.Disk.Size != 3 || len(one.Out) > 0 {
+		t.Errorf("%+v", one)
+	}
+	if one := names["missing"]; one.Own == nil || one.Disk != nil || len(one.Out) > 0 {
+		t.Errorf("%+v", one)
+	}
+	if len(names["local"].Out) > 0 || made.kind() != "receive-only" {
+		t.Errorf("%+v, %s", names["local"], made.kind())
+	}
+}
+
+// A name that is too long for a part is told by a hash, behind all others, and one that no document has by its reason.
+func TestOddNames(t *testing.T) {
+	long := strings.Repeat("a", part.MostNameBytes+1)
+	made := seen(t, map[string][]byte{"long": fileOf(long, 1, true), "odd": fileOf("../out", 2, true), "z": fileOf("z", 3, true)})
+	names := linesOf(t, made)
+	if len(names) != 3 || names[long] != nil || names["../out"].Out[0].Kind != part.OddName || len(names["z"].Out) > 0 {
+		t.Errorf("%+v", names)
+	}
+}
+
+// Views and devices are told without the observer, and views have what was heard at both looks.
+func TestFolder(t *testing.T) {
+	observer, other := protocol.DeviceID{0: 9, 7: 1}, protocol.DeviceID{0: 2, 7: 1}
+	made := seen(t, nil)
+	made.said.Devices = []wire.Sharing{{Device: made.ID}, {Device: observer, IndexID: 3}, {Device: other, Name: "other", IndexID: 4, Sequence: 5}}
+	made.heard.Devices = []wire.Sharing{{Device: other, IndexID: 4, Sequence: 8}}
+	folder := made.folder(observer)
+	if len(folder.Sharing) != 1 || len(folder.Views) != 1 || folder.Views[0].Max != 5 || folder.Views[0].Heard != 8 {
+		t.Errorf("%+v", folder)
+	}
+	made.heard.Devices[0].IndexID = 5
+	if folder := made.folder(observer); folder.Views[0].Heard != 0 {
+		t.Errorf("%+v", folder.Views)
+	}
+}

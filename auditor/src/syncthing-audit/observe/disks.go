@@ -1,0 +1,63 @@
+package observe
+
+import (
+	"encoding/json"
+	"errors"
+	"os"
+
+	"github.com/syndtr/goleveldb/leveldb"
+	"syncthing-audit/part"
+)
+
+// disk is what was found where a file is recorded, or why nothing was.
+type disk struct {
+	Node *part.Node    `json:"node,omitempty"`
+	Out  *part.LeftOut `json:"out,omitempty"`
+}
+
+// disks keep what was found, by name, in a directory of their own: so a folder of any size takes little memory.
+type disks struct {
+	db        *leveldb.DB
+	directory string
+}
+
+// newDisks makes a directory in a room.
+func newDisks(room string) (*disks, error) {
+	directory, err := os.MkdirTemp(room, "disks-")
+	if err != nil {
+		return nil, err
+	}
+	db, err := leveldb.OpenFile(directory, nil)
+	if err != nil {
+		os.RemoveAll(directory)
+		return nil, err
+	}
+	return &disks{db, directory}, nil
+}
+
+// put keeps what was found of a name.
+func (d *disks) put(name string, found disk) error {
+	text, err := json.Marshal(found)
+	if err != nil {
+		return err
+	}
+	return d.db.Put([]byte(name), text, nil)
+}
+
+// get gives what was found of a name; nothing where it wasn't asked for.
+func (d *disks) get(name string) (disk, error) {
+	var found disk
+	text, err := d.db.Get([]byte(name), nil)
+	if errors.Is(err, leveldb.ErrNotFound) {
+		return found, nil
+	}
+	if err == nil {
+		err = json.Unmarshal(text, &found)
+	}
+	return found, err
+}
+
+func (d *disks) close() {
+	d.db.Close()
+	os.RemoveAll(d.directory)
+}

@@ -1,0 +1,127 @@
+package observe
+
+import (
+	"fmt"
+	"io"
+	"sort"
+
+	"github.com/syncthing/syncthing/lib/protocol"
+	"syncthing-audit/device"
+	"syncthing-audit/part"
+)
+
+// Write writes the device's part. Look is the id of all looks of this run, and devices are all that were looked at.
+func (d *Device) Write(to io.Writer, asked Asked, observer protocol.DeviceID, look string, devices []*Device) error {
+	head := d.head(asked, observer, look, devices)
+	writer, err := part.NewWriter(to, head)
+	if err != nil {
+		return err
+	}
+	if err := d.lines(asked, head, writer.Take); err != nil {
+		return err
+	}
+	return writer.Close()
+}
+
+// lines gives the lines of a part to take.
+func (d *Device) lines(asked Asked, head *part.Head, take part.Sink) error {
+	folder := &head.Folders[0]
+	if err := take(part.Line{Begin: &part.Begin{Folder: folder.ID}}); err != nil {
+		return err
+	}
+	names := int64(0)
+	err := d.each(asked, func(line *part.Name) error {
+		names++
+		return take(part.Line{Name: line})
+	})
+	if err != nil {
+		return err
+	}
+	return take(part.Line{End: &part.End{Folder: folder.ID, Names: names, Bytes: d.bytes, Max: folder.Max, Last: true}})
+}
+
+// each gives the lines of all names that were asked for, in the order of a part: names that are too long for one stand behind all others.
+func (d *Device) each(asked Asked, take func(*part.Name) error) error {
+	news, err := d.news()
+	if err != nil {
+		return err
+	}
+	long := []*part.Name{}
+	tell := func(entry device.Entry) error {
+		if !asked.Names.Has(asked.Folder, entry.Name) {
+			return nil
+		}
+		line, err := d.line(asked, entry)
+		if err == nil && part.IsLongName(entry.Name) {
+			long = append(long, line)
+			return nil
+		}
+		if err == nil {
+			err = take(line)
+		}
+		return err
+	}
+	err = d.index.Each(func(entry device.Entry) error {
+		for len(news) > 0 && news[0] < entry.Name {
+			if err := tell(device.Entry{Name: news[0]}); err != nil {
+				return err
+			}
+			news = news[1:]
+		}
+		return tell(entry)
+	})
+	for ; err == nil && len(news) > 0; news = news[1:] {
+		err = tell(device.Entry{Name: news[0]})
+	}
+	sort.Slice(long, func(a, b int) bool { return long[a].Name < long[b].Name })
+	for at := 0; err == nil && at < len(long); at++ {
+		err = take(long[at])
+	}
+	return err
+}
+
+// news gives the names that came between the looks, rising.
+func (d *Device) news() ([]string, error) {
+	made := []string{}
+	err := d.since.Each(func(entry device.Entry) error {
+		_, is, err := d.index.Get(entry.Name)
+		if err == nil && !is {
+			made = append(made, entry.Name)
+		}
+		return err
+	})
+	return made, err
+}
+
+// line gives what was seen of a name.
+func (d *Device) line(asked Asked, entry device.Entry) (*part.Name, error) {
+	made := &part.Name{Name: part.Bytes(entry.Name)}
+	if part.IsLongName(entry.Name) {
+		made.Name = part.HiddenLongName(asked.Folder, entry.Name).Bytes()
+		made.Out = []part.LeftOut{{Kind: part.OddName, Why: fmt.Sprintf("its name has %d bytes, or begins with bytes that stand before hashes in a part", len(entry.Name))}}
+		return made, nil
+	}
+	_, isMoved, err := d.since.Get(entry.Name)
+	if err != nil {
+		return nil, err
+	}
+	if isMoved {
+		made.Moved = []string{part.MovedRecord}
+		return made, nil
+	}
+	found, err := d.disks.get(entry.Name)
+	if err != nil {
+		return nil, err
+	}
+	if found.Out != nil && found.Out.Kind == part.Ignored {
+		made.Out = []part.LeftOut{*found.Out}
+		return made, nil
+	}
+	made.Own, made.Disk = entry.Record, found.Node
+	for _, out := range []*part.LeftOut{entry.Out, found.Out, outOfInvalid(entry.Record)} {
+		if out != nil {
+			made.Out = append(made.Out, *out)
+		}
+	}
+	return made, nil
+}

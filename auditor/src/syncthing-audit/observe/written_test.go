@@ -1,0 +1,180 @@
+package observe
+
+import (
+	"bytes"
+	"errors"
+	"io"
+	"os"
+	"reflect"
+	"strings"
+	"testing"
+
+	"github.com/syncthing/syncthing/lib/protocol"
+	hashing "syncthing-audit/disk"
+	"syncthing-audit/part"
+	"syncthing-audit/wire"
+)
+
+// written gives a device with names of each kind: before, between and behind those that came between the looks, and two that are too long for a part.
+func written(t *testing.T) *Device {
+	made := seen(t, map[string][]byte{"b": fileOf("b", 1, true), "d": fileOf("d", 2, true), long("x"): fileOf(long("x"), 3, true), long("y"): fileOf(long("y"), 4, true)}, "a", "c", "e", "d")
+	made.since.Highest = 9
+	made.bytes = 7
+	return made
+}
+
+func long(first string) string { return first + strings.Repeat("l", part.MostNameBytes) }
+
+// A part that an observer writes is one: it is read to its end, with all names in their places, their number and their bytes.
+func TestAPartThatIsWritten(t *testing.T) {
+	device, other := written(t), &Device{ID: protocol.DeviceID{0: 2, 7: 1}}
+	device.wentBack, device.Hello = 5, wire.Hello{Name: "laptop", Version: "v1"}
+	for number := byte(8); number > 2; number-- { // others in no order
+		device.said.Devices = append(device.said.Devices, wire.Sharing{Device: protocol.DeviceID{0: number, 7: number}, IndexID: uint64(number), Sequence: 3})
+	}
+	look := strings.Repeat("0", 32)
+	var text bytes.Buffer
+	if err := device.Write(&text, asked, protocol.DeviceID{0: 9, 7: 1}, look, []*Device{device, other}); err != nil {
+		t.Fatal(err)
+	}
+	read, err := part.NewReader(&text)
+	if err != nil {
+		t.Fatal(err)
+	}
+	var names []string
+	var end *part.End
+	for {
+		line, err := read.Next()
+		if err == io.EOF {
+			break
+		}
+		if err != nil {
+			t.Fatal(err)
+		}
+		if line.Name != nil {
+			names = append(names, string(line.Name.Name)+strings.Join(line.Name.Moved, " "))
+		}
+		end = line.End
+	}
+	hashes := []string{string(part.HiddenLongName("docs", long("x")).Bytes()), string(part.HiddenLongName("docs", long("y")).Bytes())}
+	if hashes[0] > hashes[1] {
+		hashes[0], hashes[1] = hashes[1], hashes[0]
+	}
+	if expected := append([]string{"arecord", "b", "crecord", "drecord", "erecord"}, hashes...); !reflect.DeepEqual(names, expected) {
+		t.Errorf("%q, not %q", names, expected)
+	}
+	if !reflect.DeepEqual(end, &part.End{Folder: "docs", Names: 7, Bytes: 7, Max: 9, Last: true}) {
+		t.Errorf("%+v", end)
+	}
+	head := read.Head()
+	ids := map[string]string{device.ID.String(): look, other.ID.String(): look}
+	if !reflect.DeepEqual(head.Look.After, ids) || head.Wire.WentBackFrom != 5 || head.Name != "laptop" || head.Folders[0].Indexed != 4 || len(head.Folders[0].Views) != 6 {
+		t.Errorf("%+v, %+v", head, head.Look)
+	}
+	for place := 1; place < 6; place++ {
+		if head.Folders[0].Views[place-1].Device >= head.Folders[0].Views[place].Device || head.Folders[0].Sharing[place-1].Device >= head.Folders[0].Sharing[place].Device {
+			t.Errorf("devices aren't in their places: %v", head.Folders[0].Views)
+		}
+	}
+}
+
+// Whoever takes the lines may fail at any of them: nothing is given behind that, and the error is told.
+func TestWhoeverTakesTheLinesMayFail(t *testing.T) {
+	failed := errors.New("no room")
+	for failsAt := 1; failsAt <= 9; failsAt++ {
+		device, count := written(t), 0
+		head := device.head(asked, protocol.DeviceID{0: 9, 7: 1}, "look", nil)
+		err := device.lines(asked, head, func(part.Line) error {
+			if count++; count == failsAt {
+				return failed
+			}
+			return nil
+		})
+		if err != failed || count != failsAt {
+			t.Errorf("line %d: %v behind %d", failsAt, err, count)
+		}
+	}
+	device := written(t)
+	if err := device.Write(full{}, asked, protocol.DeviceID{0: 9, 7: 1}, strings.Repeat("0", 32), nil); err == nil {
+		t.Error("a part is written where there is no room")
+	}
+	device.said.Devices = make([]wire.Sharing, 2000)
+	for place := range device.said.Devices {
+		device.said.Devices[place].Device = protocol.DeviceID{0: byte(place), 1: byte(place >> 8), 7: 5}
+	}
+	if err := device.Write(io.Discard, asked, protocol.DeviceID{0: 9, 7: 1}, strings.Repeat("0", 32), nil); err == nil {
+		t.Error("a part of too many devices is written")
+	}
+}
+
+type full struct{}
+
+func (full) Write([]byte) (int, error) { return 0, errors.New("no room") }
+
+// What can't be read of an index, or of what was found, ends the lines.
+func TestWhatCannotBeReadOfWhatWasSeen(t *testing.T) {
+	for why, spoil := range map[string]func(device *Device) error{
+		"the first look's index": func(device *Device) error { return device.index.Close() },
+		"what came since":        func(device *Device) error { return device.since.Close() },
+		"what was found":         func(device *Device) error { return device.disks.db.Close() },
+		"a text that is damaged": func(device *Device) error { return device.disks.db.Put([]byte("b"), []byte("{"), nil) },
+	} {
+		device := written(t)
+		if err := spoil(device); err != nil {
+			t.Fatal(err)
+		}
+		if err := device.each(asked, func(*part.Name) error { return nil }); err == nil {
+			t.Errorf("%s: nothing is told", why)
+		}
+	}
+}
+
+// What is found becomes what a part says. Of a file that wasn't read to its end nobody knows which other files have its bytes.
+func TestWhatIsFoundOfAFile(t *testing.T) {
+	id := protocol.DeviceID{0: 1}
+	found := wire.Found{State: wire.Differs, Size: 9, BlockSize: protocol.MinBlockSize, Blocks: [][32]byte{{1}}, Differ: &part.Differ{Count: 1}}
+	told := diskOf(id, "a", found)
+	expected := part.Node{Size: 9, Contents: []part.Content{{Size: 9, BlockSize: protocol.MinBlockSize, Hash: hashing.HashOf(found.Blocks)}}, Differ: found.Differ}
+	if told.Out != nil || !reflect.DeepEqual(*told.Node, expected) {
+		t.Errorf("%+v", told.Node)
+	}
+	found.Unread = 4
+	hashes := map[part.Hash]string{expected.Contents[0].Hash: "what was read"}
+	for _, name := range []string{"a", "b"} {
+		for _, of := range []protocol.DeviceID{id, {0: 2}} {
+			node := diskOf(of, name, found).Node
+			if had := hashes[node.Contents[0].Hash]; had != "" || node.Unread != 4 {
+				t.Errorf("%s has the bytes of %s", name, had)
+			}
+			hashes[node.Contents[0].Hash] = name
+		}
+	}
+}
+
+// Nothing is left of a device that is closed, and its index for the second look says that it has what the first one had.
+func TestNothingIsLeftOfADevice(t *testing.T) {
+	room := t.TempDir()
+	device := &Device{index: wire.NewIndex(7), since: wire.NewIndex(7)}
+	device.index.Highest = 5
+	var err error
+	if device.disks, err = newDisks(room); err != nil {
+		t.Fatal(err)
+	}
+	kept, err := device.Kept(room)
+	if err != nil || kept.ID != 7 || kept.Highest != 5 {
+		t.Fatal(kept, err)
+	}
+	if entries, _ := os.ReadDir(room); len(entries) != 2 {
+		t.Errorf("%v", entries)
+	}
+	device.Close()
+	if entries, err := os.ReadDir(room); err != nil || len(entries) > 0 {
+		t.Errorf("%v are left, %v", entries, err)
+	}
+	for _, nowhere := range []func() error{func() error { _, err := newDisks("/nowhere"); return err }, func() error { _, err := device.Kept("/nowhere"); return err }} {
+		if nowhere() == nil {
+			t.Error("something is made where nothing is")
+		}
+	}
+	(&Device{}).Close()
+}

@@ -1,0 +1,106 @@
+package outlook
+
+import (
+	"testing"
+
+	"syncthing-audit/forecast"
+	"syncthing-audit/forecast/read"
+	"syncthing-audit/join"
+	"syncthing-audit/part"
+)
+
+// The first device alone recorded a change, and its bytes are harmed there: what the others have is the best that is left, and it isn't called replaced.
+func TestWhatAHarmedChangeReplacedIsLost(t *testing.T) {
+	for why, harm := range map[string]func(*part.Name){
+		"emptied under a later time": func(at *part.Name) { cut(at.Disk, 0, 50) },
+		"emptied":                    func(at *part.Name) { cut(at.Disk, 0, 0) },
+		"cut short":                  func(at *part.Name) { cut(at.Disk, 2, 0) },
+		"rotten":                     func(at *part.Name) { at.Disk.Contents[0].Hash = part.Hash{66} },
+		"missing":                    func(at *part.Name) { at.Disk = nil },
+	} {
+		row := calm("a", 3, 1)
+		changed(row, 0, 2, 300)
+		harm(row.At[0])
+		made := outlookOf(folderOf("send-receive", "send-receive", "send-receive"), []*join.Row{row})
+		if made.Count[Lost] != 1 || len(made.Listed[0].Loses) != 1 || shown(made.Plans) != "a: save on 1" {
+			t.Errorf("%s: %v %s", why, made.Count, shown(made.Plans))
+		}
+	}
+	row := calm("a", 3, 1)
+	changed(row, 0, 2, 300)
+	if made := outlookOf(folderOf("send-receive", "send-receive", "send-receive"), []*join.Row{row}); made.Count[ByItself] != 1 || len(made.Plans) > 0 {
+		t.Errorf("sound: %v %s", made.Count, shown(made.Plans))
+	}
+}
+
+// What a recorded empty file replaces is told to be lost, and saved: a scan may have taken a harmed file for a change.
+func TestWhatAnEmptyFileReplacesIsLost(t *testing.T) {
+	row := calm("a", 3, 1)
+	changed(row, 0, 2, 300)
+	cut(row.At[0].Disk, 0, 0)
+	*row.At[0].Own.Content = row.At[0].Disk.Contents[0]
+	made := outlookOf(folderOf("send-receive", "send-receive", "send-receive"), []*join.Row{row})
+	if made.Count[Lost] != 1 || shown(made.Plans) != "a: save on 1" {
+		t.Errorf("%v %s", made.Count, shown(made.Plans))
+	}
+}
+
+// Where something is on no disk at some end and isn't told to be lost, something came after it: a deletion, or what stands there at that end.
+func TestNothingIsReplacedByNothing(t *testing.T) {
+	gone := 0
+	for seed := int64(0); seed < 60; seed++ {
+		folder, all := folderOf(kindsOf(seed, 2+int(seed)%2)...), draw(seed, 2+int(seed)%2, 5)
+		told := map[string]Fate{}
+		for _, one := range outlookOf(folder, all).Listed {
+			told[string(one.Name)] = one.Fate
+		}
+		from := read.NewRows(folder)
+		for _, row := range all {
+			from.Take(row)
+		}
+		for _, group := range from.World().Groups() {
+			group := group
+			answer := forecast.New(forecast.Usual).OfGroup(group.Devices, group.Names)
+			judge := newJudge(&group, &answer)
+			for place := range group.Names {
+				name := &group.Names[place]
+				if fate := told[name.Name]; fate != "" && fate != Unknown && fate != Lost {
+					gone += judge.findReplacedByNothing(t, seed, name)
+				}
+			}
+		}
+	}
+	if gone < 10 {
+		t.Error("too little went:", gone)
+	}
+}
+
+// findReplacedByNothing finds what goes and has no successor, and counts what goes.
+func (j *judge) findReplacedByNothing(t *testing.T, seed int64, name *forecast.Name) int {
+	gone := 0
+	for _, thing := range thingsNow(name) {
+		if j.survives(name.Name, &thing) {
+			continue
+		}
+		gone++
+		if !j.hasSuccessor(name, &thing) {
+			t.Errorf("seed %d, %s: %+v goes, and nothing came after it", seed, name.Name, thing)
+		}
+	}
+	return gone
+}
+
+// hasSuccessor says whether a record of a deletion, other recorded bytes that stay, or a change on a disk may have come after something.
+func (j *judge) hasSuccessor(name *forecast.Name, thing *Thing) bool {
+	for member, own := range name.Own {
+		if own == nil || own.Flag != forecast.Valid {
+			continue
+		}
+		what := name.Disk[member]
+		isRecorded := !isOf(own, thing) && !isEmptied(own, thing) && (own.Deleted || j.survives(name.Name, thingOfRecord(own)))
+		if isRecorded || what != nil && !isOf(own, thingOf(what)) && !isRot(own, what) && what.Content.Size+int64(len(what.Target)) > 0 || what != nil && what.Type != own.Type {
+			return true
+		}
+	}
+	return false
+}

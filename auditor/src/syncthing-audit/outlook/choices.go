@@ -1,0 +1,171 @@
+package outlook
+
+import (
+	"fmt"
+
+	"syncthing-audit/forecast"
+	"syncthing-audit/part"
+)
+
+// What may be chosen for the whole folder on a device that doesn't send and receive.
+const (
+	Revert   Act = "revert"           // 'Revert Local Changes', once all have come to rest
+	Override Act = "override"         // 'Override Changes', once all have come to rest
+	Both     Act = "send-and-receive" // the folder is made one that sends and receives
+)
+
+// Choice is what may be done for the whole folder on a device, and what comes of it as things stand now.
+type Choice struct {
+	Act     Act
+	Member  int
+	Names   int64  // that come to another end by it
+	Alike   int64  // of these: all devices have one thing then
+	Loses   []Loss // what is lost by it alone, by names: the first MostListed
+	Lost    int64  // of how many names that is
+	Unknown int64  // of how many names nobody knows what it does
+	IsAll   bool   // all orders were tried
+}
+
+// Loss is what is lost of a name, where it stands now.
+type Loss struct {
+	Name  part.Bytes
+	Loses []Thing
+}
+
+// choices finds what may be chosen, group by group.
+type choices struct {
+	forecaster *forecast.Forecaster
+	found      map[Step]*Choice // by its act and its device
+	order      []Step
+}
+
+func newChoices(forecaster *forecast.Forecaster) *choices {
+	return &choices{forecaster: forecaster, found: map[Step]*Choice{}}
+}
+
+// take takes a group with what becomes of its names if nobody does anything.
+func (c *choices) take(group *forecast.World, told []Name) {
+	for member, device := range group.Devices {
+		switch {
+		case device.Kind == forecast.ReceiveOnly && hasLocals(group, told, member):
+			c.add(group, told, Step{Act: Revert, Member: member})
+			c.add(group, told, Step{Act: Both, Member: member})
+		case device.Kind == forecast.SendOnly && keeps(told, member, forecast.OnlySends):
+			c.add(group, told, Step{Act: Override, Member: member})
+			c.add(group, told, Step{Act: Both, Member: member})
+		}
+	}
+}
+
+// hasLocals says whether a device that only receives has something of its own, or comes to have it.
+func hasLocals(group *forecast.World, told []Name, member int) bool {
+	for place := range group.Names {
+		if own := group.Names[place].Own[member]; own != nil && own.Flag == forecast.LocalChange || isUnscanned(own, group.Names[place].Disk[member]) {
+			return true
+		}
+	}
+	return keeps(told, member, forecast.KeepsLocalChange) || keeps(told, member, forecast.HasLocalChanges)
+}
+
+// isUnscanned says whether a disk isn't as recorded in a way that a scan sees.
+func isUnscanned(own *forecast.Record, what *forecast.Node) bool {
+	isThere := own != nil && !own.Deleted
+	switch {
+	case what == nil || !isThere:
+		return isThere || what != nil
+	case own.Type != what.Type || own.Type == forecast.File && own.Time != what.Time:
+		return true
+	}
+	return own.Target != what.Target
+}
+
+func keeps(told []Name, member int, why forecast.Why) bool {
+	for place := range told {
+		for _, kept := range told[place].Kept {
+			if kept.Member == member && kept.Why == why {
+				return true
+			}
+		}
+	}
+	return false
+}
+
+// add counts what a choice does to a group.
+func (c *choices) add(group *forecast.World, told []Name, step Step) {
+	choice := c.found[step]
+	if choice == nil {
+		choice = &Choice{Act: step.Act, Member: step.Member, IsAll: true}
+		c.found[step], c.order = choice, append(c.order, step)
+	}
+	answer := c.after(group, step)
+	if answer.IsOver || len(answer.Ends) == 0 || answer.Endless > 0 {
+		choice.Unknown += int64(len(told))
+		return
+	}
+	judge := newJudge(group, &answer)
+	for place := range told {
+		choice.take(&told[place], judge.name(&group.Names[place]), len(group.Devices))
+	}
+}
+
+// after gives what comes of a choice.
+func (c *choices) after(group *forecast.World, step Step) forecast.Answer {
+	switch step.Act {
+	case Revert, Override:
+		return c.forecaster.OfGroup(group.Devices, group.Copied().Names, forecast.Command{Device: step.Member, IsOverride: step.Act == Override})
+	}
+	devices := append([]forecast.Device{}, group.Devices...)
+	devices[step.Member].Kind = forecast.SendReceive
+	return c.forecaster.OfGroup(devices, group.Copied().Names)
+}
+
+// take counts what becomes of a name.
+func (c *Choice) take(before *Name, after Name, devices int) {
+	if fmt.Sprint(before.Ends) == fmt.Sprint(after.Ends) {
+		return
+	}
+	c.Names++
+	c.IsAll = c.IsAll && after.IsAll
+	alike := int64(1)
+	for _, end := range after.Ends {
+		if !isOne(end, devices) {
+			alike = 0
+		}
+	}
+	c.Alike += alike
+	var loses []Thing
+	for place := range after.Loses {
+		if !has(before.Loses, &after.Loses[place]) {
+			loses = append(loses, after.Loses[place])
+		}
+	}
+	if len(loses) == 0 {
+		return
+	}
+	c.Lost++
+	if len(c.Loses) < MostListed {
+		c.Loses = append(c.Loses, Loss{after.Name, loses})
+	}
+}
+
+func has(things []Thing, thing *Thing) bool {
+	for place := range things {
+		if things[place].isSame(thing) {
+			return true
+		}
+	}
+	return false
+}
+
+// all gives them in the order of their devices.
+func (c *choices) all() []Choice {
+	var made []Choice
+	for member := 0; member < 32; member++ {
+		for _, step := range c.order {
+			if choice := c.found[step]; step.Member == member && choice.Names+choice.Unknown > 0 {
+				made = append(made, *c.found[step])
+			}
+		}
+	}
+	return made
+}

@@ -1,0 +1,97 @@
+package outlook
+
+import (
+	"reflect"
+	"testing"
+
+	"syncthing-audit/join"
+	"syncthing-audit/part"
+)
+
+// changedAt has a member's scan take other bytes of a name: as a local change where it only receives. The others have heard of that.
+func changedAt(row *join.Row, member int, hash byte, isLocal bool) {
+	own := row.At[member].Own
+	own.Content = &part.Content{Size: 7, BlockSize: 1 << 17, Hash: part.Hash{hash}}
+	own.ModifiedS, own.Sequence = 300, 8
+	version := [][2]uint64{{uint64(member + 1), 5}, {9, 1}}
+	if own.Version = version; isLocal {
+		own.Version, own.Invalid, own.Local = nil, true, version
+	}
+	row.At[member].Disk = &part.Node{ModifiedS: 300, Size: 7, Contents: []part.Content{*own.Content}, Permissions: 0o644}
+	for other, at := range row.At {
+		for view := range at.Views {
+			if other != member && viewOf(other, view) == member {
+				seen := *own
+				seen.Local = nil
+				at.Views[view].Record = &seen
+			}
+		}
+	}
+}
+
+// viewOf gives of which member a view is.
+func viewOf(member, view int) int {
+	if view < member {
+		return view
+	}
+	return view + 1
+}
+
+// What a device that only receives has changed stays there if nobody does anything. A revert loses it, and sending it replaces what the others have.
+func TestChoicesOfADeviceThatOnlyReceives(t *testing.T) {
+	row := calm("a", 2, 1)
+	changedAt(row, 1, 70, true)
+	made := outlookOf(folderOf("send-receive", "receive-only"), []*join.Row{row})
+	if made.Count[Stays] != 1 || len(made.Plans) != 0 {
+		t.Fatalf("%+v", made)
+	}
+	told := map[Act]Choice{}
+	for _, choice := range made.Choices {
+		told[choice.Act] = choice
+	}
+	revert, both := told[Revert], told[Both]
+	if len(told) != 2 || revert.Member != 1 || revert.Names != 1 || revert.Alike != 1 || both.Names != 1 || both.Alike != 1 || revert.Unknown+both.Unknown > 0 {
+		t.Errorf("%+v", made.Choices)
+	}
+	if revert.Lost != 1 || !reflect.DeepEqual(revert.Loses[0].Loses[0].Members, []int{1}) || revert.Loses[0].Loses[0].Content.Size != 7 {
+		t.Errorf("a revert loses %+v", revert.Loses)
+	}
+}
+
+// What others changed doesn't come to a device that only sends. An override takes that back.
+func TestChoicesOfADeviceThatOnlySends(t *testing.T) {
+	row := calm("a", 2, 1)
+	changedAt(row, 0, 70, false)
+	made := outlookOf(folderOf("send-receive", "send-only"), []*join.Row{row})
+	if made.Count[Stays] != 1 || len(made.Choices) != 2 || made.Choices[0].Act != Override || made.Choices[1].Act != Both {
+		t.Fatalf("%+v", made)
+	}
+	override, both := made.Choices[0], made.Choices[1]
+	if override.Member != 1 || override.Alike != 1 || override.Lost != 1 || !reflect.DeepEqual(override.Loses[0].Loses[0].Members, []int{0}) {
+		t.Errorf("an override: %+v", override)
+	}
+	if both.Alike != 1 || both.Lost != 0 {
+		t.Errorf("both: %+v", both)
+	}
+}
+
+// What no scan has seen is lost by a revert, too, also in a folder that its one device shares with nobody.
+func TestChoicesOfAFolderOfItsOwn(t *testing.T) {
+	row := calm("a", 1, 1)
+	row.At[0].Disk.Contents[0].Hash, row.At[0].Disk.ModifiedS = part.Hash{70}, 200
+	made := outlookOf(folderOf("receive-only"), []*join.Row{row})
+	if len(made.Choices) != 1 || made.Choices[0].Act != Revert || made.Choices[0].Lost != 1 {
+		t.Errorf("%+v", made.Choices)
+	}
+}
+
+// Devices that send and receive have nothing to choose, nor has one that has nothing of its own.
+func TestNothingToChoose(t *testing.T) {
+	for _, kinds := range [][]string{{"send-receive", "send-receive"}, {"send-receive", "receive-only"}, {"send-only", "send-receive"}} {
+		row := calm("a", 2, 1)
+		row.At[0].Disk.Contents[0].Hash, row.At[0].Disk.ModifiedS = part.Hash{70}, 200
+		if made := outlookOf(folderOf(kinds...), []*join.Row{row}); len(made.Choices) > 0 || made.Names != 1 {
+			t.Errorf("%v: %+v", kinds, made)
+		}
+	}
+}

@@ -1,0 +1,110 @@
+package outlook
+
+import (
+	"strings"
+
+	"syncthing-audit/damage"
+	"syncthing-audit/forecast"
+	"syncthing-audit/part"
+)
+
+// goalOf gives what is to stand at a name that needs a hand; nothing where it needs none, or where nobody can tell what is right.
+func goalOf(name *forecast.Name, told *Name, kinds []damage.Kind) *forecast.Node {
+	for _, kind := range kinds {
+		if kind.MayBeOfRecord() {
+			return nil
+		}
+	}
+	switch told.Fate {
+	case Lost:
+		return lastRecorded(name, told.certain)
+	case Depends:
+		return laterOf(name, told)
+	case Stays:
+		for _, kept := range told.Kept {
+			if own := name.Own[kept.Member]; kept.Why == forecast.NotSeen && own != nil {
+				return nodeOf(name, &Thing{Type: own.Type, Content: own.Content, Target: part.Bytes(own.Target)})
+			}
+		}
+	}
+	return nil
+}
+
+// lastRecorded gives that of some things which is recorded, and after which none of the others was. It gives nothing where a later change was recorded
+// whose bytes are on no disk, or that has none: nobody can tell what is right.
+func lastRecorded(name *forecast.Name, things []Thing) *forecast.Node {
+	var found *forecast.Record
+	var made *forecast.Node
+	for place := range things {
+		for _, own := range name.Own {
+			if own != nil && own.Flag == forecast.Valid && isOf(own, &things[place]) && own.Type != forecast.Directory && (found == nil || found.IsBelow(own)) {
+				found, made = own, nodeOf(name, &things[place])
+			}
+		}
+	}
+	for _, own := range name.Own {
+		if found != nil && own != nil && own.Flag == forecast.Valid && !own.Deleted && found.IsBelow(own) &&
+			(nodeOf(name, thingOfRecord(own)) == nil || isEmptied(own, thingOf(made))) {
+			return nil
+		}
+	}
+	return made
+}
+
+func nodeOf(name *forecast.Name, thing *Thing) *forecast.Node {
+	for _, what := range name.Disk {
+		if what != nil && thingOf(what).isSame(thing) {
+			return what
+		}
+	}
+	return nil
+}
+
+// laterOf gives what stands at a name now and at some of its ends, and was modified last: of several ends that is what Syncthing itself keeps of two
+// changes. Nothing stands there at an end in which a deletion came first.
+func laterOf(name *forecast.Name, told *Name) *forecast.Node {
+	var made *forecast.Node
+	for _, end := range told.Ends {
+		for place := range end {
+			node := nodeOf(name, &end[place])
+			if node != nil && !end[place].IsCopy && (made == nil || node.Time > made.Time) {
+				made = node
+			}
+		}
+	}
+	return made
+}
+
+// holdsLost says whether a name is a directory on some devices and not on others, and something below it is lost: that needs the directory first.
+func holdsLost(group *forecast.World, told []Name, place int) bool {
+	name := &group.Names[place]
+	if directoryAt(name) == nil || !isElsewhereNone(name) {
+		return false
+	}
+	for at := range told {
+		if told[at].Fate == Lost && !isDirectory(&group.Names[at]) && strings.HasPrefix(group.Names[at].Name, name.Name+"/") {
+			return true
+		}
+	}
+	return false
+}
+
+// directoryAt gives the directory that stands at a name on some device; nothing where none does.
+func directoryAt(name *forecast.Name) *forecast.Node {
+	for _, what := range name.Disk {
+		if what != nil && what.Type == forecast.Directory {
+			return what
+		}
+	}
+	return nil
+}
+
+// isElsewhereNone says whether on some device no directory stands at a name.
+func isElsewhereNone(name *forecast.Name) bool {
+	for _, what := range name.Disk {
+		if what == nil || what.Type != forecast.Directory {
+			return true
+		}
+	}
+	return false
+}

@@ -1,0 +1,139 @@
+package outlook
+
+import (
+	"syncthing-audit/forecast"
+	"syncthing-audit/part"
+)
+
+// How something that stands on a disk comes to be on none, if it isn't lost.
+type way int
+
+const (
+	byNothing   way = iota // it is lost
+	byRecord               // a recorded change, which stands somewhere at each end, or a recorded deletion came after it
+	byUnscanned            // a change that no scan has seen yet came after it
+)
+
+// losesOf gives what stands at a name on some disk now and on none at some end, and that nothing recorded replaced.
+func (j *judge) losesOf(name *forecast.Name) []Thing {
+	var made []Thing
+	for _, thing := range thingsNow(name) {
+		if !j.survives(name.Name, &thing) && j.wayOf(name, &thing) == byNothing {
+			made = append(made, thing)
+		}
+	}
+	return made
+}
+
+// goesBy says whether something that stands at a name goes in this way.
+func (j *judge) goesBy(name *forecast.Name, by way) bool {
+	for _, thing := range thingsNow(name) {
+		if !j.survives(name.Name, &thing) && j.wayOf(name, &thing) == by {
+			return true
+		}
+	}
+	return false
+}
+
+// thingsNow gives what stands at a name now, the same on several devices once.
+func thingsNow(name *forecast.Name) []Thing {
+	var made []Thing
+	for member, what := range name.Disk {
+		if what == nil {
+			continue
+		}
+		thing, found := thingOf(what), false
+		for place := range made {
+			if made[place].isSame(thing) {
+				made[place].Members, found = append(made[place].Members, member), true
+			}
+		}
+		if !found {
+			thing.Members = []int{member}
+			made = append(made, *thing)
+		}
+	}
+	return made
+}
+
+// survives says whether something stands on some disk at each end, even where conflict copies meet: a file's bytes under any name that hangs together
+// with this one, anything else under its name or in a copy.
+func (j *judge) survives(name string, thing *Thing) bool {
+	return j.staysIn(j.sure, name, thing, func(things []Thing, at int) bool { return !mayGoByMeeting(things, at) })
+}
+
+// staysIn says the same of such bytes, and of such things at a name.
+func (j *judge) staysIn(bytes []map[forecast.Content]bool, name string, thing *Thing, counts func(things []Thing, at int) bool) bool {
+	for place, end := range j.ends {
+		is := thing.Content.Size > 0 && bytes[place][thing.Content]
+		for at, other := range end[name] {
+			is = is || thing.Type == other.Type && thing.Content == other.Content && thing.Target == other.Target && counts(end[name], at)
+		}
+		if !is {
+			return false
+		}
+	}
+	return true
+}
+
+// wayOf says what came after something that stands at a name. What no device has recorded nothing can have replaced, and a recorded change whose bytes
+// are harmed has replaced nothing: what was there before it is the best that is left. Neither has an empty file, as in showsChange.
+func (j *judge) wayOf(name *forecast.Name, thing *Thing) way {
+	var of []*forecast.Record
+	for _, own := range name.Own {
+		if own != nil && own.Flag == forecast.Valid && isOf(own, thing) {
+			of = append(of, own)
+		}
+	}
+	if len(of) == 0 {
+		return byNothing
+	}
+	for _, own := range name.Own {
+		isKept := own != nil && own.Flag == forecast.Valid && !isOf(own, thing) && (own.Deleted || !isEmptied(own, thing) && j.survives(name.Name, thingOfRecord(own)))
+		if isKept && areAll(of, func(one *forecast.Record) bool { return one.IsBelow(own) }) {
+			return byRecord
+		}
+	}
+	for i, own := range name.Own {
+		if own != nil && own.Flag == forecast.Valid && showsChange(own, name.Disk[i]) && areAll(of, func(one *forecast.Record) bool { return one.IsAtMost(own) }) {
+			return byUnscanned
+		}
+	}
+	return byNothing
+}
+
+func areAll(records []*forecast.Record, is func(*forecast.Record) bool) bool {
+	for _, one := range records {
+		if !is(one) {
+			return false
+		}
+	}
+	return true
+}
+
+// isEmptied says whether an empty file is recorded in place of a file's bytes: a scan may have taken a harmed file for a change.
+func isEmptied(record *forecast.Record, thing *Thing) bool {
+	return !record.Deleted && record.Type == forecast.File && record.Content.Size == 0 && thing.Type == forecast.File && thing.Content.Size > 0
+}
+
+func thingOfRecord(record *forecast.Record) *Thing {
+	return &Thing{Type: record.Type, Content: record.Content, Target: part.Bytes(record.Target)}
+}
+
+func isOf(record *forecast.Record, thing *Thing) bool {
+	return !record.Deleted && record.Type == thing.Type && record.Content == thing.Content && record.Target == string(thing.Target)
+}
+
+// showsChange says whether something else stands on a disk than is recorded, and a scan takes that for a change somebody made: it is of another
+// kind, or of another time. What isn't there, what was emptied, what has other bytes under the recorded time, and what was cut short under it isn't.
+func showsChange(own *forecast.Record, what *forecast.Node) bool {
+	switch {
+	case what == nil:
+		return false
+	case own.Deleted || own.Type != what.Type:
+		return true
+	case what.Type == forecast.File:
+		return own.Time != what.Time && own.Content != what.Content && (what.Content.Size > 0 || own.Content.Size == 0)
+	}
+	return own.Target != what.Target
+}

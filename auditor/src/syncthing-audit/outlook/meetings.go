@@ -1,0 +1,62 @@
+package outlook
+
+import (
+	"golang.org/x/exp/slices"
+
+	"syncthing-audit/forecast"
+)
+
+// Two devices that make conflict copies of different bytes in one second give both the same name. Of these Syncthing keeps one, and deletes the other:
+// it makes no conflict copy of a conflict copy. So where several copies of a name stand at an end, it may come to an end with one of them less.
+
+// withMeetings gives what stands at a name at an end, and what does where two copies of it met.
+func withMeetings(things []Thing) [][]Thing {
+	made := [][]Thing{things}
+	for at := range things {
+		if mayGoByMeeting(things, at) {
+			made = append(made, append(append([]Thing{}, things[:at]...), things[at+1:]...))
+		}
+	}
+	return made
+}
+
+// mayGoByMeeting says whether a thing is a copy, and another copy comes to each device that has it.
+func mayGoByMeeting(things []Thing, at int) bool {
+	if !things[at].IsCopy {
+		return false
+	}
+	for other := range things {
+		is := other != at && things[other].IsCopy
+		for _, member := range things[at].Members {
+			is = is && slices.Contains(things[other].Members, member)
+		}
+		if is {
+			return true
+		}
+	}
+	return false
+}
+
+// sureBytesOf gives the bytes at an end that stay there even where copies meet.
+func sureBytesOf(end map[string][]Thing) map[forecast.Content]bool {
+	made := map[forecast.Content]bool{}
+	for _, things := range end {
+		for at := range things {
+			if !mayGoByMeeting(things, at) {
+				made[things[at].Content] = true
+			}
+		}
+	}
+	return made
+}
+
+// losesWithoutMeeting gives what is lost of a name where no copies meet, too.
+func (j *judge) losesWithoutMeeting(name *forecast.Name, loses []Thing) []Thing {
+	var made []Thing
+	for place := range loses {
+		if !j.staysIn(j.bytes, name.Name, &loses[place], func([]Thing, int) bool { return true }) {
+			made = append(made, loses[place])
+		}
+	}
+	return made
+}

@@ -1,0 +1,363 @@
+package outlook
+
+import (
+	"fmt"
+	"path"
+	"sort"
+	"strings"
+
+	"syncthing-audit/advice"
+	"syncthing-audit/damage"
+	"syncthing-audit/forecast"
+	"syncthing-audit/part"
+)
+
+// Step is one step on one device's disk, for a name.
+type Step struct {
+	Act    Act
+	Member int
+	From   int  `json:",omitempty"` // of a copy
+	Over   bool `json:",omitempty"` // whether a copy takes the place of what stands there now
+}
+
+// Act is what a step does.
+type Act string
+
+// What steps do.
+const (
+	Save   Act = "save"   // copies what stands there to somewhere else
+	Touch  Act = "touch"  // gives the present time to what stands there
+	Copy   Act = "copy"   // copies it from another device, with its time and its mode
+	Delete Act = "delete" // with all below it
+)
+
+// Plan is what to do about names, while Syncthing is stopped on all devices of the folder. It is followed from the top.
+type Plan struct {
+	Names  []part.Bytes // by danger
+	Count  int64        // of all names: the first MostListed are there
+	Steps  []Step
+	Goal   *Thing `json:",omitempty"` // of the first name: what all devices have then; where it stands now. Without one the steps save what is lost
+	Copies []int  `json:",omitempty"` // the devices whose present bytes are kept as a conflict copy then
+	Below  int64  `json:",omitempty"` // of a directory that is copied: of how many names below it the same holds
+	IsAll  bool   // all orders were tried
+	by     string // the directory whose plan does what this one's name needs
+}
+
+// mostOfGroup is for how many names that hang together a plan is searched at most.
+const mostOfGroup = 100
+
+// planner finds plans. Names that are alike cost one search.
+type planner struct {
+	search advice.Search
+	known  map[string][]advice.Step // by the shape of a group and a goal; nothing where there is no plan
+}
+
+func newPlanner(present int64) *planner {
+	return &planner{advice.Search{Forecaster: forecast.New(budgetOfPlans), Present: present}, map[string][]advice.Step{}}
+}
+
+// budgetOfPlans is that of all searches together.
+var budgetOfPlans = forecast.Budget{States: 1500, Walks: 40, Total: 300000, Most: 500000}
+
+// plan finds what to do about the names of a group that need a hand. Where each of several has a plan, all of these together must lead where
+// each one leads.
+func (p *planner) plan(group *forecast.World, told []Name, damaged map[string][]damage.Kind) {
+	world, goals := p.repairs(group, told, damaged)
+	var hands []hand
+	for place := range told {
+		name := &group.Names[place]
+		node := goalOf(name, &told[place], damaged[name.Name])
+		if node == nil && holdsLost(group, told, place) {
+			node = directoryAt(name)
+		}
+		if node != nil && told[place].Plan == nil {
+			hands = append(hands, hand{place, advice.Goal{Name: name.Name, Node: node}})
+		}
+	}
+	if len(group.Names) <= mostOfGroup && len(hands) > 0 {
+		for place, plan := range p.planAll(group, world, goals, hands, lostAnyway(told)) {
+			told[place].Plan = plan
+		}
+	}
+	for place := range told {
+		if told[place].Plan == nil && told[place].Fate == Lost {
+			told[place].Plan = &Plan{Steps: savesOf(&group.Names[place], told[place].Loses, damaged[group.Names[place].Name]), IsAll: told[place].IsAll}
+		}
+	}
+}
+
+// hand is a name that needs a hand, by its place in its group, and what is to stand there.
+type hand struct {
+	place int
+	goal  advice.Goal
+}
+
+// planAll plans for each of these names in the world that the plans before it leave. The last world's ends are then all goals at once, or there
+// is no plan for any of these names.
+func (p *planner) planAll(group *forecast.World, world forecast.World, goals []advice.Goal, hands []hand, lost map[forecast.Content]bool) map[int]*Plan {
+	if len(hands) > fewHands && len(goals) == 0 {
+		if plans := p.planAlike(group, hands, lost); plans != nil {
+			return plans
+		}
+	}
+	plans := map[int]*Plan{}
+	for _, one := range hands {
+		found := p.find(&world, one.goal)
+		if found == nil || losesOthers(group, []hand{one}, found.Lost, lost) {
+			continue
+		}
+		plans[one.place] = planOf(group, one, found)
+		goals = append(goals, one.goal)
+		for _, step := range found.Steps {
+			step.On(&world, p.search.Present)
+		}
+	}
+	for _, goal := range goals[:max(len(goals)-1, 0)] {
+		if len(plans) > 0 && p.search.Check(world, goal, nil) == nil {
+			return nil
+		}
+	}
+	for _, one := range hands {
+		if plan := plans[one.place]; plan != nil && len(plan.Steps) == 0 {
+			plan.by = plannedAbove(one.goal.Name, plans, group)
+		}
+	}
+	return plans
+}
+
+// lostAnyway gives the bytes that are lost if nobody does anything.
+func lostAnyway(told []Name) map[forecast.Content]bool {
+	made := map[forecast.Content]bool{}
+	for place := range told {
+		for _, thing := range told[place].Loses {
+			made[thing.Content] = true
+		}
+	}
+	return made
+}
+
+// losesOthers says whether a plan of these names loses bytes that stand under other names alone, and stay if nobody does anything.
+func losesOthers(group *forecast.World, hands []hand, taken []forecast.Content, lost map[forecast.Content]bool) bool {
+	own := map[forecast.Content]bool{}
+	for _, one := range hands {
+		for _, what := range group.Names[one.place].Disk {
+			if what != nil {
+				own[what.Content] = true
+			}
+		}
+	}
+	for _, content := range taken {
+		if !own[content] && !lost[content] {
+			return true
+		}
+	}
+	return false
+}
+
+// plannedAbove gives the directory above a name that is copied with all below it.
+func plannedAbove(name string, plans map[int]*Plan, group *forecast.World) string {
+	for above := path.Dir(name); above != "."; above = path.Dir(above) {
+		for place, plan := range plans {
+			if group.Names[place].Name == above && len(plan.Steps) > 0 {
+				return above
+			}
+		}
+	}
+	return ""
+}
+
+func max(a, b int) int {
+	if a > b {
+		return a
+	}
+	return b
+}
+
+// find finds a plan of a goal. Nothing of it deletes where another one does without.
+func (p *planner) find(world *forecast.World, goal advice.Goal) *advice.Plan {
+	names := world.Copied().Names
+	place := sort.Search(len(names), func(at int) bool { return names[at].Name >= goal.Name })
+	key := fmt.Sprint(forecast.Shape(world.Devices, names), place, holderOf(&names[place], goal.Node))
+	steps, is := p.known[key]
+	if !is {
+		found := best(p.search.Plans(world.Copied(), goal))
+		if found != nil {
+			steps = append([]advice.Step{}, found.Steps...)
+		}
+		p.known[key] = steps
+		return found
+	}
+	if steps == nil {
+		return nil
+	}
+	mine := append([]advice.Step{}, steps...)
+	for at := range mine {
+		mine[at].Name = goal.Name
+	}
+	return p.search.Check(world.Copied(), goal, mine)
+}
+
+func holderOf(name *forecast.Name, node *forecast.Node) int {
+	for member, what := range name.Disk {
+		if what != nil && *what == *node {
+			return member
+		}
+	}
+	return -1
+}
+
+// best gives the first plan that deletes nothing, or else the first one.
+func best(plans []advice.Plan) *advice.Plan {
+	for place := range plans {
+		deletes := false
+		for _, step := range plans[place].Steps {
+			deletes = deletes || step.Act == advice.Delete
+		}
+		if !deletes {
+			return &plans[place]
+		}
+	}
+	if len(plans) > 0 {
+		return &plans[0]
+	}
+	return nil
+}
+
+// savesOf saves things that are lost else, and what may be right where the record may be the damage. An empty file has nothing to save.
+func savesOf(name *forecast.Name, things []Thing, kinds []damage.Kind) []Step {
+	var made []Step
+	for place := range things {
+		if !things[place].isEmpty() {
+			made = append(made, Step{Act: Save, Member: things[place].Members[0]})
+		}
+	}
+	for member, kind := range kinds {
+		if kind.MayBeOfRecord() && !isAmong(things, thingOf(name.Disk[member])) {
+			made = append(made, Step{Act: Save, Member: member})
+		}
+	}
+	return made
+}
+
+func isAmong(things []Thing, thing *Thing) bool {
+	for place := range things {
+		if things[place].isSame(thing) {
+			return true
+		}
+	}
+	return false
+}
+
+func (t *Thing) isEmpty() bool { return t.Type == forecast.File && t.Content.Size == 0 }
+
+// filesOf leaves directories out: what is below them are names, too.
+func filesOf(things []Thing) []Thing {
+	var made []Thing
+	for _, thing := range things {
+		if thing.Type != forecast.Directory {
+			made = append(made, thing)
+		}
+	}
+	return made
+}
+
+var acts = map[advice.Act]Act{advice.Touch: Touch, advice.Copy: Copy, advice.Delete: Delete}
+
+// planOf gives a plan of a name in which what is lost on the way is saved first.
+func planOf(group *forecast.World, one hand, found *advice.Plan) *Plan {
+	name, made, judge := &group.Names[one.place], &Plan{IsAll: found.Answer.IsAll}, newJudge(group, &found.Answer)
+	for _, thing := range thingsNow(name) {
+		if thing.isSame(thingOf(one.goal.Node)) {
+			thing := thing
+			made.Goal = &thing
+		}
+		if !thing.isEmpty() && !judge.survives(name.Name, &thing) && judge.wayOf(name, &thing) == byNothing {
+			made.Steps = append(made.Steps, Step{Act: Save, Member: thing.Members[0]})
+		}
+		if judge.isCopyAtAll(name.Name, &thing) {
+			made.Copies = append(made.Copies, thing.Members...)
+		}
+	}
+	for _, step := range found.Steps {
+		if step.Act != advice.Touch && !made.does(Save, step.Device) && hasBelow(group, step.Device, name.Name) {
+			made.Steps = append([]Step{{Act: Save, Member: step.Device}}, made.Steps...)
+		}
+		made.Steps = append(made.Steps, Step{acts[step.Act], step.Device, step.From, step.Act == advice.Copy && name.Disk[step.Device] != nil && !made.does(Delete, step.Device)})
+	}
+	sort.Ints(made.Copies)
+	return made
+}
+
+// does says whether a plan has this step on a device.
+func (p *Plan) does(act Act, member int) bool {
+	for _, step := range p.Steps {
+		if step.Act == act && step.Member == member {
+			return true
+		}
+	}
+	return false
+}
+
+// hasBelow says whether a device has something below a name: it goes with the directory.
+func hasBelow(group *forecast.World, member int, name string) bool {
+	for place := range group.Names {
+		if group.Names[place].Disk[member] != nil && strings.HasPrefix(group.Names[place].Name, name+"/") {
+			return true
+		}
+	}
+	return false
+}
+
+// isCopyAtAll says whether something stands as a conflict copy of a name at each end.
+func (j *judge) isCopyAtAll(name string, thing *Thing) bool {
+	for _, end := range j.ends {
+		is := false
+		for at, other := range end[name] {
+			is = is || other.IsCopy && !mayGoByMeeting(end[name], at) && other.Content == thing.Content && other.Type == thing.Type && other.Target == thing.Target
+		}
+		if !is {
+			return false
+		}
+	}
+	return true
+}
+
+// plansOf brings names with the same plan together, in their order. Directories come first: nothing is copied below one that isn't there.
+func plansOf(listed []Name) []Plan {
+	places, ofName, made := map[string]int{}, map[string]int{}, []Plan{}
+	for place := range listed {
+		plan := listed[place].Plan
+		if plan == nil || len(plan.Steps) == 0 {
+			continue
+		}
+		key := fmt.Sprint(plan.Steps, plan.Goal == nil, plan.Copies, plan.IsAll, plan.isOfDirectories())
+		if plan.Goal != nil {
+			key += fmt.Sprint(plan.Goal.Members)
+		}
+		at, is := places[key]
+		if !is {
+			at = len(made)
+			places[key] = at
+			made = append(made, *plan)
+			made[at].Below = 0
+		}
+		made[at].Count++
+		made[at].Below += plan.Below
+		ofName[string(listed[place].Name)] = at
+		if len(made[at].Names) < MostListed {
+			made[at].Names = append(made[at].Names, listed[place].Name)
+		}
+	}
+	for place := range listed {
+		if plan := listed[place].Plan; plan != nil && plan.by != "" {
+			if at, is := ofName[plan.by]; is {
+				made[at].Below++
+			}
+		}
+	}
+	sort.SliceStable(made, func(a, b int) bool { return made[a].isOfDirectories() && !made[b].isOfDirectories() })
+	return made
+}
+
+// isOfDirectories says whether directories are copied with all below them.
+func (p *Plan) isOfDirectories() bool { return p.Goal != nil && p.Goal.Type == forecast.Directory }

@@ -1,0 +1,157 @@
+package outlook
+
+import (
+	"reflect"
+	"testing"
+
+	"syncthing-audit/advice"
+	"syncthing-audit/forecast"
+	"syncthing-audit/forecast/read"
+	"syncthing-audit/join"
+	"syncthing-audit/part"
+)
+
+// calm gives a name that is at rest on so many devices.
+func calm(name string, devices int, hash byte) *join.Row {
+	made := &join.Row{Name: name}
+	for member := 0; member < devices; member++ {
+		record := func() *part.Record {
+			return &part.Record{ModifiedS: 100, ModifiedBy: 9, Version: [][2]uint64{{9, 1}}, Sequence: 5, Content: &part.Content{Size: 5, BlockSize: 1 << 17, Hash: part.Hash{hash}}}
+		}
+		at := &part.Name{Name: part.Bytes(name), Own: record(), Disk: &part.Node{ModifiedS: 100, Size: 5, Contents: []part.Content{*record().Content}, Permissions: 0o644}}
+		for view := 0; view < devices-1; view++ {
+			at.Views = append(at.Views, part.Seen{View: view, Record: record()})
+		}
+		made.At = append(made.At, at)
+	}
+	return made
+}
+
+func (p *Plan) isOf(steps []Step, goal []int) bool {
+	return reflect.DeepEqual(p.Steps, steps) && (p.Goal == nil) == (goal == nil) && (goal == nil || reflect.DeepEqual(p.Goal.Members, goal))
+}
+
+var plansOfNames = []struct {
+	why    string
+	change func(*join.Folder, *join.Row)
+	steps  []Step
+	goal   []int
+}{
+	{"rot is replaced by a good copy, once it is saved", func(_ *join.Folder, row *join.Row) { row.At[1].Disk.Contents[0].Hash = part.Hash{99} },
+		[]Step{{Act: Save, Member: 1}, {Act: Copy, Member: 1, Over: true}}, []int{0, 2}},
+	{"what is missing is copied back", func(_ *join.Folder, row *join.Row) { row.At[1].Disk = nil }, []Step{{Act: Copy, Member: 1}}, []int{0, 2}},
+	{"what loses and isn't recorded is saved", func(folder *join.Folder, row *join.Row) {
+		for member, one := range folder.Members {
+			one.About.Options.MaxConflicts = 0
+			one.Head.Folders[0].Options = one.About.Options
+			if member < 2 {
+				row.At[member].Disk.Contents[0].Hash, row.At[member].Disk.ModifiedS = part.Hash{byte(70 + member)}, int64(200+member)
+			}
+		}
+	}, []Step{{Act: Save}}, nil},
+	{"what comes right by itself has no plan", func(_ *join.Folder, row *join.Row) {
+		row.At[1].Disk.Contents[0].Hash, row.At[1].Disk.ModifiedS = part.Hash{70}, 200
+	}, nil, nil},
+}
+
+func TestPlans(t *testing.T) {
+	for _, one := range plansOfNames {
+		folder, row := folderOf("send-receive", "send-receive", "send-receive"), calm("a", 3, 1)
+		one.change(folder, row)
+		made := outlookOf(folder, []*join.Row{row})
+		if one.steps == nil {
+			if len(made.Plans) > 0 {
+				t.Errorf("%s: %+v", one.why, made.Plans)
+			}
+			continue
+		}
+		if len(made.Plans) != 1 || !made.Plans[0].isOf(one.steps, one.goal) {
+			t.Errorf("%s: %+v", one.why, made.Plans)
+		}
+	}
+}
+
+// Names that are alike have one plan, and to put back what is due costs no search.
+func TestNamesWithOnePlan(t *testing.T) {
+	from := read.NewRows(folderOf("send-receive", "send-receive", "send-receive"))
+	for place := 0; place < 200; place++ {
+		row := calm(string(rune('a'+place/26))+string(rune('a'+place%26)), 3, byte(place))
+		row.At[1].Disk = nil
+		from.Take(row)
+	}
+	made := &teller{rows: from, planner: newPlanner(1000e9), choices: newChoices(forecast.New(forecast.Usual)), outlook: &Outlook{Count: map[Fate]int64{}}, unknown: map[read.Why]int64{}, kept: map[Kept]int64{}}
+	for _, group := range from.World().Groups() {
+		made.group(group, forecast.New(forecast.Usual))
+	}
+	made.plan()
+	plans := made.end().Plans
+	if len(plans) != 1 || plans[0].Count != 200 || len(plans[0].Names) != 200 || plans[0].Names[0] != "aa" || len(made.planner.known) != 0 {
+		t.Errorf("%d plans, %d searches", len(plans), len(made.planner.known))
+	}
+}
+
+// Each plan leads where it says, whatever the other names of its group do.
+func TestPlansLeadWhereTheySay(t *testing.T) {
+	tried := 0
+	for seed := int64(100); seed < 124; seed++ {
+		folder, all := folderOf(kindsOf(seed, 2+int(seed)%2)...), draw(seed, 2+int(seed)%2, 5)
+		told := map[string]Name{}
+		for _, name := range outlookOf(folder, all).Listed {
+			told[string(name.Name)] = name
+		}
+		from := read.NewRows(folder)
+		for _, row := range all {
+			from.Take(row)
+		}
+		for _, group := range from.World().Groups() {
+			world := group.Copied()
+			for _, name := range group.Names {
+				carryOut(&world, name.Name, told[name.Name].Plan)
+			}
+			for _, end := range forecast.New(forecast.Usual).OfGroup(world.Devices, world.Names).Ends {
+				for _, name := range group.Names {
+					if plan := told[name.Name].Plan; plan != nil && plan.Goal != nil {
+						tried++
+						if !standsOnAll(&end, name.Name, plan.Goal) {
+							t.Errorf("seed %d, %s: %+v doesn't lead to %+v", seed, name.Name, plan.Steps, plan.Goal)
+						}
+					}
+				}
+			}
+		}
+	}
+	if tried < 10 {
+		t.Error("too few plans were tried:", tried)
+	}
+}
+
+// presentOfPlans is above all times of what is planned for.
+const presentOfPlans = 2000000000e9
+
+func carryOut(world *forecast.World, name string, plan *Plan) {
+	if plan == nil {
+		return
+	}
+	for _, step := range plan.Steps {
+		what := world.At(step.Member, name)
+		switch step.Act {
+		case Touch:
+			touched := *what
+			touched.Time = presentOfPlans
+			world.Put(step.Member, name, touched)
+		case Copy:
+			advice.Step{Act: advice.Copy, Device: step.Member, From: step.From, Name: name}.On(world, presentOfPlans)
+		case Delete:
+			world.Remove(step.Member, name)
+		}
+	}
+}
+
+func standsOnAll(end *forecast.End, name string, goal *Thing) bool {
+	for _, thing := range thingsOf(end)[name] {
+		if thing.isSame(goal) {
+			return len(thing.Members) == len(end.Disks)
+		}
+	}
+	return false
+}

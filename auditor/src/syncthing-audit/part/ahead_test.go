@@ -1,0 +1,105 @@
+package part
+
+import (
+	"bufio"
+	"bytes"
+	"compress/gzip"
+	"io"
+	"reflect"
+	"strings"
+	"testing"
+)
+
+func newLines(text string) *bufio.Reader { return bufio.NewReaderSize(strings.NewReader(text), 1<<16) }
+
+// zipped gives a text as a part is compressed.
+func zipped(text string) []byte {
+	var made bytes.Buffer
+	to := gzip.NewWriter(&made)
+	to.Write([]byte(text))
+	to.Close()
+	return made.Bytes()
+}
+
+// What is read ahead is what is read: all lines, and the same error at the end, as often as it is asked for.
+func TestWhatIsReadAhead(t *testing.T) {
+	good, cut := aPart(), aPart()
+	cut.lines = cut.lines[:5]
+	for _, whole := range []*aWhole{good, cut} {
+		data := whole.written(t)
+		_, lines, failed := readAll(data)
+		if failed == nil {
+			failed = io.EOF
+		}
+		reader, err := NewReader(bytes.NewReader(data))
+		if err != nil {
+			t.Fatal(err)
+		}
+		ahead := NewAhead(reader)
+		if !reflect.DeepEqual(ahead.Head(), whole.head) {
+			t.Errorf("%+v", ahead.Head())
+		}
+		for _, line := range lines {
+			if next, err := ahead.Next(); err != nil || !reflect.DeepEqual(next, line) {
+				t.Errorf("%+v, %v", next, err)
+			}
+		}
+		for again := 0; again < 3; again++ {
+			if _, err := ahead.Next(); err == nil || err.Error() != failed.Error() {
+				t.Errorf("%v, not %v", err, failed)
+			}
+		}
+		ahead.Close()
+	}
+	reader, err := NewReader(bytes.NewReader(good.written(t)))
+	if err != nil {
+		t.Fatal(err)
+	}
+	unread := NewAhead(reader)
+	unread.Close() // ends though nobody took a line
+	if _, isOpen := <-unread.lines; isOpen {
+		t.Error("it still reads")
+	}
+}
+
+// The marks of what is on a disk, and of what is left out.
+func TestMarks(t *testing.T) {
+	if (*Node)(nil).Mark() != "" {
+		t.Error("what isn't there has a mark")
+	}
+	file := Node{Size: 1, ModifiedS: 2, ModifiedNs: 3, Permissions: 4, Stamp: "5"}
+	for place, changed := range []Node{{Type: symlink, Size: 1, ModifiedS: 2, ModifiedNs: 3, Permissions: 4, Stamp: "5"}, {Size: 2, ModifiedS: 2, ModifiedNs: 3, Permissions: 4, Stamp: "5"},
+		{Size: 1, ModifiedS: 3, ModifiedNs: 3, Permissions: 4, Stamp: "5"}, {Size: 1, ModifiedS: 2, ModifiedNs: 4, Permissions: 4, Stamp: "5"},
+		{Size: 1, ModifiedS: 2, ModifiedNs: 3, Permissions: 5, Stamp: "5"}, {Size: 1, ModifiedS: 2, ModifiedNs: 3, Permissions: 4, Stamp: "6"},
+		{Size: 1, ModifiedS: 2, ModifiedNs: 3, Permissions: 4, Stamp: "5", Target: "x"}} {
+		if changed.Mark() == file.Mark() {
+			t.Errorf("%d: %s", place, file.Mark())
+		}
+	}
+	directory, later := Node{Type: 1, Permissions: 4, Stamp: "5"}, Node{Type: 1, ModifiedS: 9, Size: 9, Permissions: 4, Stamp: "5"}
+	if directory.Mark() != later.Mark() || directory.Mark() == (&Node{Type: 1, Permissions: 5, Stamp: "5"}).Mark() || directory.Mark() == (&Node{Type: 1, Permissions: 4, Stamp: "6"}).Mark() {
+		t.Error("a directory's mark is that of what stands in it")
+	}
+	for _, row := range []struct {
+		name                 Name
+		isDamaged, isIgnored bool
+	}{
+		{Name{}, false, false}, {Name{Disk: &Node{}}, false, false}, {Name{Disk: &Node{Lost: "x"}}, true, false},
+		{Name{Out: []LeftOut{{Kind: Damaged}}}, true, false}, {Name{Out: []LeftOut{{Kind: Special}, {Kind: Damaged}}}, true, false},
+		{Name{Out: []LeftOut{{Kind: Ignored}}}, false, true}, {Name{Out: []LeftOut{{Kind: Special}, {Kind: Ignored}}}, false, true}, {Name{Out: []LeftOut{{Kind: Special}}}, false, false},
+	} {
+		if row.name.IsDamaged() != row.isDamaged || row.name.IsIgnored() != row.isIgnored {
+			t.Errorf("%+v: %v, %v", row.name, row.name.IsDamaged(), row.name.IsIgnored())
+		}
+	}
+	for _, look := range []*Look{nil, {ID: lookID}, {After: map[string]string{}}} {
+		if is := (&Head{Look: look}).hasBytes(); is != (look == nil || look.ID != "") {
+			t.Errorf("%+v has bytes: %v", look, is)
+		}
+	}
+	for size, count := range map[int64]int64{0: 1, 1: 1, 10: 1, 11: 2, 20: 2, 21: 3} {
+		if is := CountOfBlocks(size, 10); is != count {
+			t.Errorf("%d bytes are %d blocks", size, is)
+		}
+	}
+}

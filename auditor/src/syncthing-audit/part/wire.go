@@ -1,0 +1,98 @@
+package part
+
+import (
+	"errors"
+	"fmt"
+	"sort"
+
+	"golang.org/x/exp/slices"
+)
+
+// Wire says that an observer made a part over the wire, and what it couldn't see so. An audit asks nothing of that.
+type Wire struct {
+	Observer string   `json:"observer"` // its device id: it shares the folders, and keeps no files
+	Unseen   []string `json:"unseen"`   // rising
+
+	// The highest sequence of the device's index at an earlier look, where it has gone back behind that; 0 where it hasn't.
+	WentBackFrom int64 `json:"went_back_from,omitempty"`
+
+	Half string `json:"disk_half,omitempty"` // the id of the part of the device's disks that was over when the second look began; it has what stands there
+}
+
+// What isn't seen over the wire.
+const (
+	UnseenBytes = "bytes" // what stands on the disks, since records alone were asked for
+	UnseenKind  = "kinds" // whether a folder only receives, unless a record is a local change
+	UnseenScans = "scans" // whether one is under way
+
+	UnseenPermissions = "permissions"
+)
+
+// AlwaysUnseen is what no observer sees, rising: what stands where a directory or a symlink is recorded, the folders' kinds, permissions, whether a scan
+// is under way, the times of files, and names that no scan has taken.
+var AlwaysUnseen = []string{"directories", UnseenKind, UnseenPermissions, UnseenScans, "symlinks", "times", "unscanned"}
+
+// NewWire gives the mark of a part that an observer makes.
+func NewWire(observer string, isOfRecords bool) *Wire {
+	made := &Wire{Observer: observer, Unseen: append([]string{}, AlwaysUnseen...)}
+	if isOfRecords {
+		made.Unseen = append(made.Unseen, UnseenBytes)
+		sort.Strings(made.Unseen)
+	}
+	return made
+}
+
+// IsOverWire says whether an observer made the part.
+func (h *Head) IsOverWire() bool { return h.Wire != nil }
+
+// IsOverWireAlone says whether what an observer saw is all that is known of the device: no part of its disks stands beside that.
+func (h *Head) IsOverWireAlone() bool { return h.Wire != nil && h.Half == nil }
+
+// IsOfRecords says whether no bytes on the device's disks were read.
+func (h *Head) IsOfRecords() bool {
+	return h.Wire != nil && slices.Contains(h.Wire.Unseen, UnseenBytes)
+}
+
+// checkWire says why the mark of an observer is none. What a newer program doesn't see this one would ask for.
+func checkWire(head *Head) error {
+	if head.Wire == nil {
+		return nil
+	}
+	if head.Wire.WentBackFrom < 0 {
+		return errors.New("the part's index went back from a sequence below 0")
+	}
+	if Number(head.Wire.Observer) == 0 || head.Wire.Observer == head.Device {
+		return fmt.Errorf("the part's observer %q is none", head.Wire.Observer)
+	}
+	if err := checkHalfOfWire(head); err != nil {
+		return err
+	}
+	if !slices.Equal(head.Wire.Unseen, NewWire("", head.IsOfRecords()).Unseen) {
+		return errors.New("what isn't seen in the part isn't what this program knows of: use the version that made it")
+	}
+	return nil
+}
+
+// checkWireLook says why a look over the wire is none. An observer looks twice, and its part is of both looks.
+func checkWireLook(head *Head) error {
+	look := head.Look
+	if look == nil || look.ID == "" || look.Home == "" || look.After[head.Device] != look.ID || look.At.IsZero() || look.Ended.Before(look.At) {
+		return errors.New("the part is made over the wire, and its looks are none")
+	}
+	return nil
+}
+
+// checkWireName says what an observer can't have seen of a name.
+func checkWireName(one *Name, isOfRecords bool) error {
+	switch {
+	case isOfRecords && one.Disk != nil:
+		return errors.New("more is told of its disk than its record, and no bytes were asked for")
+	case len(one.Views) > 0:
+		return errors.New("it has records in views, which an observer isn't told")
+	case one.Disk == nil:
+		return nil
+	case !isFile(one.Disk.Type) || one.Disk.ModifiedS != 0 || one.Disk.ModifiedNs != 0 || one.Disk.Permissions != 0 || one.Disk.Stamp != "" || one.Disk.Lost != "":
+		return errors.New("more is told of its disk than an observer sees")
+	}
+	return nil
+}

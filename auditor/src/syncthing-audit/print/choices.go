@@ -1,0 +1,99 @@
+package print
+
+import (
+	"strings"
+
+	"syncthing-audit/outlook"
+	"syncthing-audit/shell"
+)
+
+// Choice is what may be done for the whole folder on a device that only sends or only receives, for programs.
+type Choice struct {
+	Act       string `json:"act"`
+	Device    string `json:"device"`
+	Names     int64  `json:"names"`
+	Alike     int64  `json:"alike_then"`
+	Loses     []Loss `json:"loses"`
+	Lost      int64  `json:"names_that_lose"`
+	Unknown   int64  `json:"not_known"`
+	AllOrders bool   `json:"all_orders"`
+}
+
+// Loss is what is lost of a name by that alone.
+type Loss struct {
+	Name  Text    `json:"name"`
+	Loses []Thing `json:"loses"`
+}
+
+func (n naming) choice(choice *outlook.Choice) Choice {
+	made := Choice{Act: string(choice.Act), Device: n[choice.Member], Names: choice.Names, Alike: choice.Alike, Loses: []Loss{}, Lost: choice.Lost,
+		Unknown: choice.Unknown, AllOrders: choice.IsAll}
+	for _, loss := range choice.Loses {
+		made.Loses = append(made.Loses, Loss{Text(loss.Name), n.things(loss.Loses)})
+	}
+	return made
+}
+
+// choices prints what may be chosen for the whole folder on devices, and what each does.
+func (p *Person) choices(folder string, o *Outlook) {
+	last := ""
+	for place := range o.Choices {
+		choice := &o.Choices[place]
+		if choice.Device != last {
+			p.line("\nto choose in %s on %s, for the whole folder, once all that is to stay is saved; or neither:", folder, p.Called(choice.Device))
+		}
+		last = choice.Device
+		p.line("  %s", wordsOfChoice[outlook.Act(choice.Act)])
+		p.line("    %s", ofChoice(choice))
+		if choice.Lost > 0 {
+			p.losses(choice)
+		}
+		if choice.Unknown > 0 {
+			p.line("    of %s it isn't known what this does: save %s first", Counted(choice.Unknown, "name", "names"), itOrThem(choice.Unknown))
+		}
+	}
+}
+
+var wordsOfChoice = map[outlook.Act]string{
+	outlook.Revert:   "'Revert Local Changes', once Syncthing has scanned and taken what the others have:",
+	outlook.Override: "'Override Changes', once Syncthing has scanned and heard what the others have:",
+	outlook.Both:     "the folder made 'Send & Receive' there, before Syncthing scans:",
+}
+
+// ofChoice counts the names that come to another end than if nobody does anything.
+func ofChoice(choice *Choice) string {
+	if choice.Names == 0 {
+		return "changes nothing that is known"
+	}
+	told := Counted(choice.Names, "name comes", "names come") + " to another end"
+	switch {
+	case choice.Alike == choice.Names:
+		told += ", and all devices then have one thing of " + one(choice.Names, "it", "each")
+	case choice.Alike > 0:
+		told += "; of " + Thousands(choice.Alike) + " all devices then have one thing"
+	}
+	if !choice.AllOrders {
+		told += ", in all orders tried"
+	}
+	return told
+}
+
+// losses names what is lost by a choice alone.
+func (p *Person) losses(choice *Choice) {
+	p.line("    %s something that stands on a disk now: copy %s elsewhere first, if it is to stay", Counted(choice.Lost, "name loses", "names lose"),
+		one(choice.Lost, "it", "that"))
+	for place, loss := range choice.Loses {
+		if place == mostNamed {
+			break
+		}
+		var words []string
+		for at := range loss.Loses {
+			thing := &loss.Loses[at]
+			words = append(words, what(thing)+" on "+p.all(thing.Devices)+p.modified(thing))
+		}
+		p.line("      %s: %s", shell.Path(string(loss.Name)), strings.Join(words, "; "))
+	}
+	if more := choice.Lost - mostNamed; more > 0 {
+		p.line("      and %s (--json has them)", Counted(more, "more name", "more names"))
+	}
+}

@@ -1,0 +1,17 @@
+package print
+
+// Converging prints what is proved of a folder whose records lead to one end: of each name everything that is known of it leads up to
+// one record. Of a folder of which the model foretells more than that, the model's words stand alone.
+func (p *Person) Converging(folder string, o *Outlook, pairs *int64) {
+	if o != nil && o.Lost+o.Depends+o.Stays+o.Changed > 0 {
+		return
+	}
+	if o == nil || o.Names == 0 || o.NotKnown > 0 {
+		p.line("\nof %s it is proved, by its records:", folder)
+	}
+	if pairs != nil {
+		p.line("  still to come: %s of a name and a device", Counted(*pairs, "pair", "pairs"))
+	}
+	p.line("  proved for devices that keep a few rules (docs/orderly-peers.md): whatever comes first, nothing goes but what a recorded change replaces,")
+	p.line("  and no conflict copy is made")
+}

@@ -1,0 +1,201 @@
+package print
+
+import (
+	"path"
+	"strings"
+
+	"syncthing-audit/forecast"
+	"syncthing-audit/outlook"
+	"syncthing-audit/shell"
+)
+
+// Plan is what to do about names, for programs.
+type Plan struct {
+	Names     []Text   `json:"names"`
+	Count     int64    `json:"names_count"`
+	Below     int64    `json:"names_below,omitempty"` // of directories that are copied: of how many names below them the same holds
+	Steps     []Step   `json:"steps"`
+	Goal      *Thing   `json:"then,omitempty"`
+	Copies    []string `json:"kept_as_copies,omitempty"`
+	AllOrders bool     `json:"all_orders"`
+}
+
+// Step is one step on one device's disk.
+type Step struct {
+	Act    string `json:"act"`
+	Device string `json:"device"`
+	From   string `json:"from,omitempty"`
+	Over   bool   `json:"over,omitempty"`
+}
+
+func (n naming) plan(plan *outlook.Plan) Plan {
+	made := Plan{Names: append([]Text{}, plan.Names...), Count: plan.Count, Below: plan.Below, Copies: n.all(plan.Copies), AllOrders: plan.IsAll}
+	for _, step := range plan.Steps {
+		told := Step{Act: string(step.Act), Device: n[step.Member]}
+		if step.Act == outlook.Copy {
+			told.From, told.Over = n[step.From], step.Over
+		}
+		made.Steps = append(made.Steps, told)
+	}
+	if plan.Goal != nil {
+		made.Goal = &n.things([]outlook.Thing{*plan.Goal})[0]
+	}
+	return made
+}
+
+// plans prints what to do, from the top. What no step puts right comes before the start: that would send it, or lose it.
+func (p *Person) plans(folder string, o *Outlook) {
+	defer p.choices(folder, o)
+	if len(o.Plans) == 0 {
+		return
+	}
+	p.line("\nto do in %s, from the top, while Syncthing is stopped on all its devices:", folder)
+	number := int64(0)
+	for place := range o.Plans {
+		number = p.plan(&o.Plans[place], number)
+	}
+	if o.WithoutSteps > 0 {
+		number++
+		p.line("  %s. do what the entries below say to do before Syncthing starts or scans, for %s: %s", Thousands(number),
+			Counted(o.WithoutSteps, "name that no step here puts right", "names that no step here puts right"), firstOf(o.FirstWithout, o.WithoutSteps))
+	}
+	p.line("  %s. start Syncthing on all its devices%s", Thousands(number+1), unknownFirst(o))
+	for place := range o.Plans {
+		if o.Plans[place].Goal != nil {
+			p.line("  what these steps put right needs nothing that the entries below say to do")
+			return
+		}
+	}
+}
+
+// unknownFirst says that a start may do something to names of which nothing is known.
+func unknownFirst(o *Outlook) string {
+	if o.NotKnown == 0 {
+		return ""
+	}
+	return "; of " + Counted(o.NotKnown, "name", "names") + " it isn't known what that does: see to " + itOrThem(o.NotKnown) + " first"
+}
+
+// plan prints the steps of a plan behind so many others, and gives how many there are then.
+func (p *Person) plan(plan *Plan, number int64) int64 {
+	p.line("  for %s:", namesOf(plan))
+	it := one(plan.Count, "it", "each")
+	for _, step := range plan.Steps {
+		number++
+		p.line("    %s. on %s: %s", Thousands(number), p.Called(step.Device), p.step(&step, it, plan))
+	}
+	if plan.Goal != nil {
+		p.line("    then all devices have what %s %s now%s%s%s", p.all(plan.Goal.Devices), one(int64(len(plan.Goal.Devices)), "has", "have"),
+			p.timeOf(plan), p.copies(plan), tried(plan))
+	}
+	return number
+}
+
+// firstOf gives the first of so many names, and how many more there are.
+func firstOf(all []Text, count int64) string {
+	var names []string
+	for place, name := range all {
+		if place < mostNamed {
+			names = append(names, shell.Path(string(name)))
+		}
+	}
+	told := strings.Join(names, " ")
+	if more := count - int64(len(names)); more > 0 {
+		told += " and " + Counted(more, "more name", "more names")
+	}
+	return told
+}
+
+// namesOf gives the first names of a plan, and how many there are.
+func namesOf(plan *Plan) string {
+	told := firstOf(plan.Names, plan.Count)
+	if plan.Count > mostNamed {
+		told += " (--json has them)"
+	}
+	if plan.Below > 0 {
+		told += ", with " + Counted(plan.Below, "name", "names") + " below " + itOrThem(plan.Count)
+	}
+	return told
+}
+
+// step says what a step does. What is lost for certain is to be copied elsewhere; what a good copy replaces, only if it may be right.
+func (p *Person) step(step *Step, it string, plan *Plan) string {
+	isOfDirectories := plan.Goal != nil && plan.Goal.Type == wordsOfTypes[forecast.Directory]
+	switch outlook.Act(step.Act) {
+	case outlook.Save:
+		if plan.Goal != nil {
+			return "copy " + it + " elsewhere if what stands there may be right: it goes by the steps below"
+		}
+		return "copy " + it + " elsewhere, if it is to stay: the start may take it away"
+	case outlook.Touch:
+		return "touch " + it
+	case outlook.Copy:
+		return "copy " + it + " from " + p.Called(step.From) + howToCopy(step, it, plan.Goal)
+	}
+	if isOfDirectories {
+		return "delete what stands there in " + one(plan.Count, "its place", "their places")
+	}
+	return "delete " + it
+}
+
+// howToCopy says how something is copied whole. Over a symlink cp would write into what that leads to, and into a directory in place of it. Syncthing can't
+// give a mode to what belongs to another user.
+func howToCopy(step *Step, it string, goal *Thing) string {
+	told := ", as it is there"
+	if goal.Type == "directory" {
+		told += ", with all below " + it
+	}
+	told += " (cp -a, or rsync -aI, as the user who runs Syncthing there)"
+	if step.Over {
+		told += ", once what stands there is taken away"
+	}
+	return told
+}
+
+func (p *Person) timeOf(plan *Plan) string {
+	if plan.Count > 1 {
+		return ""
+	}
+	return p.modified(plan.Goal)
+}
+
+func (p *Person) copies(plan *Plan) string {
+	if len(plan.Copies) == 0 {
+		return ""
+	}
+	return "; what " + p.all(plan.Copies) + " " + one(int64(len(plan.Copies)), "has", "have") + " now is kept as a conflict copy"
+}
+
+func tried(plan *Plan) string {
+	if plan.AllOrders {
+		return ""
+	}
+	return ", in all orders tried"
+}
+
+// PlansByName gives for each name the plan of it: its own, or that of a directory above it which is copied with all below it.
+func (o *Outlook) PlansByName() func(name string) *Plan {
+	found := map[string]*Plan{}
+	for place := range o.Plans {
+		for _, name := range o.Plans[place].Names {
+			found[string(name)] = &o.Plans[place]
+		}
+	}
+	return func(name string) *Plan {
+		plan := found[name]
+		for above := path.Dir(name); plan == nil && above != "." && above != "/"; above = path.Dir(above) {
+			if other := found[above]; other != nil && other.Below > 0 {
+				plan = other
+			}
+		}
+		return plan
+	}
+}
+
+// Leads says to what a plan leads; nothing where it saves alone.
+func (p *Plan) Leads(called Naming) string {
+	if p.Goal == nil {
+		return ""
+	}
+	return "all devices then have what " + called(p.Goal.Devices) + " " + one(int64(len(p.Goal.Devices)), "has", "have") + " now"
+}

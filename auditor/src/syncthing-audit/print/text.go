@@ -1,0 +1,240 @@
+package print
+
+import (
+	"io"
+	"strings"
+	"time"
+
+	"syncthing-audit/outlook"
+	"syncthing-audit/outside"
+	"syncthing-audit/shell"
+)
+
+// Person is how a person reads what is foretold.
+type Person struct {
+	To     io.Writer
+	Called func(device string) string
+	Zone   *time.Location
+}
+
+// mostNamed is how many names are told one by one for each of the fates in which something is lost or stays wrong.
+const mostNamed = 5
+
+// Outlook prints what happens in a folder if nobody does anything; nothing where all names are at rest, or a folder in step stays so.
+func (p *Person) Outlook(folder string, isInStep bool, o *Outlook) {
+	if o == nil || o.Names == 0 || isInStep && o.Right == o.Names {
+		return
+	}
+	p.line("\nif nobody does anything in %s, and all devices scan, then run and reach one another until nothing changes any more:", folder)
+	p.right(o)
+	p.lost(o)
+	p.several(o)
+	p.stays(o)
+	p.notKnown(o)
+	if o.Walked > 0 {
+		p.line("  of %s not all orders were tried: what is said of %s holds in all orders tried", Counted(o.Walked, "name", "names"), itOrThem(o.Walked))
+	}
+	p.plans(folder, o)
+}
+
+// NoOutlook says that what happens isn't known of an older program's export.
+func (p *Person) NoOutlook(folder string) {
+	p.line("\nit isn't known what happens in %s if nobody does anything: a program of 0.14.0 or before made the export", folder)
+}
+
+func (p *Person) line(format string, words ...interface{}) {
+	outside.Printf(p.To, format+"\n", words...)
+}
+
+func itOrThem(count int64) string {
+	if count == 1 {
+		return "it"
+	}
+	return "them"
+}
+
+// right tells of names of which nothing is lost, and that end alike everywhere.
+func (p *Person) right(o *Outlook) {
+	if o.Right > 0 {
+		p.line("  %s right by %s, and %s nothing but what a recorded change replaced", Counted(o.Right, "name comes", "names come"),
+			one(o.Right, "itself", "themselves"), one(o.Right, "loses", "lose"))
+	}
+	if o.Deleted > 0 {
+		p.line("  %s deleted on all devices, as is recorded", Counted(o.Deleted, "name is", "names are"))
+	}
+	if o.Changed > 0 {
+		p.line("  %s a change that no scan has seen yet; what it replaces is on no device then", Counted(o.Changed, "name takes", "names take"))
+	}
+}
+
+func one(count int64, alone, several string) string {
+	if count == 1 {
+		return alone
+	}
+	return several
+}
+
+// lost tells of names that lose something, the first ones by name.
+func (p *Person) lost(o *Outlook) {
+	if o.Lost == 0 {
+		return
+	}
+	p.line("  %s something that stands on a disk now:", Counted(o.Lost, "name loses", "names lose"))
+	p.named(o, outlook.Lost, o.Lost, func(fate *Fate) {
+		for _, thing := range fate.Loses {
+			p.line("    %s: %s on %s%s; then on no device%s", shell.Path(string(fate.Name)), what(&thing), p.all(thing.Devices), p.modified(&thing), some(fate))
+		}
+	})
+}
+
+// some says whether something happens in some orders alone.
+func some(fate *Fate) string {
+	if len(fate.Ends) > 1 {
+		return ", in some order"
+	}
+	return ""
+}
+
+// named calls for the first names of a fate, and says how many more there are.
+func (p *Person) named(o *Outlook, of outlook.Fate, count int64, tell func(*Fate)) {
+	told := int64(0)
+	for place := range o.Fates {
+		if fate := &o.Fates[place]; fate.Fate == string(of) && told < mostNamed {
+			tell(fate)
+			told++
+		}
+	}
+	if count > told {
+		p.line("    and %s (--json has them)", Counted(count-told, "more name", "more names"))
+	}
+}
+
+func (p *Person) modified(thing *Thing) string {
+	if thing.Modified == nil {
+		return ""
+	}
+	return " (modified " + thing.Modified.In(p.Zone).Format("2006-01-02 15:04:05 MST") + ")"
+}
+
+// what names a thing that stands on a disk.
+func what(thing *Thing) string {
+	switch thing.Type {
+	case "file":
+		return Size(*thing.Size)
+	case "symlink":
+		return "the symlink to " + shell.Path(string(*thing.Target))
+	}
+	return "the directory"
+}
+
+// several tells of names with several ends.
+func (p *Person) several(o *Outlook) {
+	if o.Depends == 0 {
+		return
+	}
+	p.line("  %s to one of several ends, by the order of what happens; nothing is lost:", Counted(o.Depends, "name comes", "names come"))
+	p.named(o, outlook.Depends, o.Depends, func(fate *Fate) {
+		p.line("    %s: %s", shell.Path(string(fate.Name)), Counted(int64(len(fate.Ends)), "end", "ends"))
+	})
+}
+
+// stays tells of names that stay wrong, and why.
+func (p *Person) stays(o *Outlook) {
+	if o.Stays == 0 {
+		return
+	}
+	p.line("  %s wrong:", Counted(o.Stays, "name stays", "names stay"))
+	for _, why := range o.WhyStays {
+		p.line("    %s on %s: %s", Counted(why.Names, "name", "names"), p.all(why.Devices), wordsOfKept[why.Why])
+	}
+}
+
+// wordsOfKept say why a device keeps a name otherwise than others.
+var wordsOfKept = map[string]string{
+	"differs":            "something else stands there than on most devices",
+	"only-sends":         "it only sends, so it doesn't take what the others have",
+	"no-source":          "it finds no device with the recorded bytes",
+	"not-scanned":        "something else stands there than is recorded",
+	"has-unscanned":      "the directory has something that isn't recorded",
+	"has-local-changes":  "the directory has local changes",
+	"not-empty":          "the directory isn't empty",
+	"below-no-directory": "what stands above is no directory",
+	"is-directory":       "a directory stands where a file is to be deleted",
+	"not-there":          "nothing stands there to get the new time or mode",
+	"local-change":       "it only receives, and keeps its own change",
+	"not-seen":           "it has other bytes than recorded, which no scan sees, and may send them to a device that is added",
+	"ignores-deletions":  "it takes no deletions",
+}
+
+// notKnown tells of how many names it isn't known what becomes of them, and why.
+func (p *Person) notKnown(o *Outlook) {
+	if o.NotKnown == 0 {
+		return
+	}
+	p.line("  of %s it isn't known what becomes of %s:", Counted(o.NotKnown, "name", "names"), itOrThem(o.NotKnown))
+	for _, why := range o.WhyNot {
+		p.line("    %s: %s%s%s", Counted(why.Names, "name", "names"), wordsOfUnknown[why.Why], p.of(why.Devices), toKnow(why.Why))
+	}
+}
+
+// toKnow says what makes known what becomes of a name.
+func toKnow(why string) string {
+	if told := wordsOfKnowing[why]; told != "" {
+		return "; to know it, " + told
+	}
+	return ""
+}
+
+// wordsOfKnowing say what is to be done for it to be known. Of what is left out nobody can say that.
+var wordsOfKnowing = map[string]string{
+	"device-left-out":  "audit that device, too",
+	"not-linked":       "audit those who share the folder with both",
+	"over-the-wire":    "make a part on the device",
+	"options-not-told": "make the part anew with this version",
+	"paused":           "resume it, let it finish, and audit again",
+	"another-index":    "start Syncthing on these devices once what no scan has seen is saved, let them finish, and audit again",
+	"names-not-asked":  "audit the whole folder",
+	"left-out":         "audit without leaving it out",
+	"in-motion":        "audit again once it is at rest",
+	"damaged":          "see what the disk still gives, and audit again",
+	"too-many":         "audit some of the names alone (--names), or mend the first ones and audit again",
+}
+
+// wordsOfUnknown say why it isn't known what becomes of a name.
+var wordsOfUnknown = map[string]string{
+	"device-left-out":  "the folder is shared with a device that isn't audited",
+	"not-linked":       "no way leads from one device to all others by those who share the folder with one another",
+	"over-the-wire":    "a device was seen over the wire, which doesn't show the times, modes and directories of its disk",
+	"untried-version":  "this version of Syncthing wasn't compared with the forecast",
+	"options-not-told": "the part doesn't say which options the folder has; make it anew with this version, or with --config where disks were walked",
+	"paused":           "the folder or a device is paused",
+	"attributes":       "owners or extended attributes are scanned, which the forecast leaves out",
+	"writers":          "something else of Syncthing writes into the directory",
+	"another-index":    "another index is known elsewhere, or the index is to be repaired",
+	"names-not-asked":  "not all names of the folder were asked for",
+	"left-out":         "something of the name or of a directory above isn't audited",
+	"in-motion":        "it changed while it was looked at, or between two parts, or waits for a scan",
+	"damaged":          "a disk fails to give what it has",
+	"never-told":       "a device may never tell a change of it",
+	"conflict-copies":  "it may come to have more conflict copies than are kept",
+	"same-bytes":       "a device may take its bytes from another name that has the same",
+	"too-many":         "more names differ than are looked at",
+	"budget":           "there are too many orders to try",
+	"no-end":           "in some orders that were tried it came to no end",
+}
+
+// of names devices behind a reason.
+func (p *Person) of(devices []string) string {
+	if len(devices) == 0 {
+		return ""
+	}
+	return " (" + p.all(devices) + ")"
+}
+
+func (p *Person) all(devices []string) string {
+	var called []string
+	for _, device := range devices {
+		called = append(called, p.Called(device))
+	}
+	return strings.Join(called, ", ")
+}

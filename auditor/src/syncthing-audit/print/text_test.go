@@ -1,0 +1,206 @@
+package print
+
+import (
+	"strings"
+	"testing"
+	"time"
+
+	"syncthing-audit/forecast"
+	"syncthing-audit/forecast/read"
+	"syncthing-audit/outlook"
+	"syncthing-audit/part"
+)
+
+var devices = []string{"LAPTOP", "SERVER", "PHONE"}
+
+func file(size int64, hash string, members ...int) outlook.Thing {
+	return outlook.Thing{Members: members, Type: forecast.File, Content: forecast.Content{Size: size, Hash: hash}, Time: 1600000000e9}
+}
+
+var texts = []struct {
+	why  string
+	of   outlook.Outlook
+	text string
+}{
+	{"all names are at rest", outlook.Outlook{}, ""},
+	{"one comes right", outlook.Outlook{Names: 1, Count: map[outlook.Fate]int64{outlook.ByItself: 1}}, `
+if nobody does anything in docs, and all devices scan, then run and reach one another until nothing changes any more:
+  1 name comes right by itself, and loses nothing but what a recorded change replaced
+`},
+	{"one of each", outlook.Outlook{Names: 7, Walked: 1,
+		Count:   map[outlook.Fate]int64{outlook.Lost: 1, outlook.Unknown: 1, outlook.Depends: 1, outlook.Changed: 1, outlook.Deleted: 1, outlook.Stays: 1, outlook.ByItself: 1},
+		Unknown: []outlook.Group{{Why: string(read.LeftOut), Names: 1}}, Kept: []outlook.Group{{Why: "only-sends", Members: []int{1}, Names: 1}},
+		Listed: []outlook.Name{
+			{Name: "my budget", Fate: outlook.Lost, Loses: []outlook.Thing{file(5, "aa", 0, 2)}, Ends: [][]outlook.Thing{{file(7, "bb", 0, 1, 2)}}},
+			{Name: "b", Fate: outlook.Depends, Ends: [][]outlook.Thing{{file(7, "bb", 0)}, {}}},
+		}},
+		`
+if nobody does anything in docs, and all devices scan, then run and reach one another until nothing changes any more:
+  1 name comes right by itself, and loses nothing but what a recorded change replaced
+  1 name is deleted on all devices, as is recorded
+  1 name takes a change that no scan has seen yet; what it replaces is on no device then
+  1 name loses something that stands on a disk now:
+    'my budget': 5 bytes on laptop, phone (modified 2020-09-13 12:26:40 UTC); then on no device
+  1 name comes to one of several ends, by the order of what happens; nothing is lost:
+    b: 2 ends
+  1 name stays wrong:
+    1 name on server: it only sends, so it doesn't take what the others have
+  of 1 name it isn't known what becomes of it:
+    1 name: something of the name or of a directory above isn't audited; to know it, audit without leaving it out
+  of 1 name not all orders were tried: what is said of it holds in all orders tried
+`},
+	{"several of each", outlook.Outlook{Names: 2021, Walked: 2,
+		Count:   map[outlook.Fate]int64{outlook.Lost: 7, outlook.Unknown: 2, outlook.Depends: 2, outlook.Changed: 2, outlook.Deleted: 2, outlook.Stays: 2, outlook.ByItself: 2004},
+		Unknown: []outlook.Group{{Why: string(read.Untried), Members: []int{0, 2}, Names: 2}}, Kept: []outlook.Group{{Why: "not-seen", Members: []int{0}, Names: 2}},
+		Listed: []outlook.Name{{Name: "l", Fate: outlook.Lost, Loses: []outlook.Thing{{Members: []int{0}, Type: forecast.Symlink, Target: "a b"}, {Members: []int{1}, Type: forecast.Directory}},
+			Ends: [][]outlook.Thing{{}, {file(7, "bb", 0)}}}}},
+		`
+if nobody does anything in docs, and all devices scan, then run and reach one another until nothing changes any more:
+  2,004 names come right by themselves, and lose nothing but what a recorded change replaced
+  2 names are deleted on all devices, as is recorded
+  2 names take a change that no scan has seen yet; what it replaces is on no device then
+  7 names lose something that stands on a disk now:
+    l: the symlink to 'a b' on laptop; then on no device, in some order
+    l: the directory on server; then on no device, in some order
+    and 6 more names (--json has them)
+  2 names come to one of several ends, by the order of what happens; nothing is lost:
+    and 2 more names (--json has them)
+  2 names stay wrong:
+    2 names on laptop: it has other bytes than recorded, which no scan sees, and may send them to a device that is added
+  of 2 names it isn't known what becomes of them:
+    2 names: this version of Syncthing wasn't compared with the forecast (laptop, phone)
+  of 2 names not all orders were tried: what is said of them holds in all orders tried
+`},
+}
+
+// A person reads plans with numbered steps from the top, those of one plan together.
+func TestPlans(t *testing.T) {
+	goal := file(5, "aa", 0, 2)
+	of := outlook.Outlook{Names: 9, Count: map[outlook.Fate]int64{outlook.Unknown: 1}, Plans: []outlook.Plan{
+		{Names: []part.Bytes{"my budget"}, Count: 1, Goal: &goal, IsAll: true, Copies: []int{1}, Steps: []outlook.Step{{Act: outlook.Save, Member: 1}, {Act: outlook.Copy, Member: 1, From: 0, Over: true}}},
+		{Names: []part.Bytes{"a", "b", "c", "d", "e", "f"}, Count: 7, Goal: &goal, Steps: []outlook.Step{{Act: outlook.Touch, Member: 0}}},
+		{Names: []part.Bytes{"d"}, Count: 1, Below: 2, Goal: &outlook.Thing{Members: []int{2}, Type: forecast.Directory}, IsAll: true, Steps: []outlook.Step{{Act: outlook.Copy, Member: 0, From: 2}}},
+		{Names: []part.Bytes{"z"}, Count: 1, Steps: []outlook.Step{{Act: outlook.Save, Member: 1}}},
+	}}
+	var to strings.Builder
+	(&Person{To: &to, Called: strings.ToLower, Zone: time.UTC}).plans("docs", OutlookOf(&of, devices))
+	if told := to.String(); told != `
+to do in docs, from the top, while Syncthing is stopped on all its devices:
+  for 'my budget':
+    1. on server: copy it elsewhere if what stands there may be right: it goes by the steps below
+    2. on server: copy it from laptop, as it is there (cp -a, or rsync -aI, as the user who runs Syncthing there), once what stands there is taken away
+    then all devices have what laptop, phone have now (modified 2020-09-13 12:26:40 UTC); what server has now is kept as a conflict copy
+  for a b c d e and 2 more names (--json has them):
+    3. on laptop: touch each
+    then all devices have what laptop, phone have now, in all orders tried
+  for d, with 2 names below it:
+    4. on laptop: copy it from phone, as it is there, with all below it (cp -a, or rsync -aI, as the user who runs Syncthing there)
+    then all devices have what phone has now
+  for z:
+    5. on server: copy it elsewhere, if it is to stay: the start may take it away
+  6. start Syncthing on all its devices; of 1 name it isn't known what that does: see to it first
+  what these steps put right needs nothing that the entries below say to do
+` {
+		t.Error(told)
+	}
+}
+
+// A person reads what may be chosen for the whole folder, what that does, and what to save before.
+func TestChoices(t *testing.T) {
+	loss := func(name part.Bytes) outlook.Loss {
+		return outlook.Loss{Name: name, Loses: []outlook.Thing{file(5, "aa", 1)}}
+	}
+	of := outlook.Outlook{Names: 9, Choices: []outlook.Choice{
+		{Act: outlook.Revert, Member: 1, Names: 8, Alike: 8, Lost: 7, IsAll: true, Loses: []outlook.Loss{loss("a b"), loss("b"), loss("c"), loss("d"), loss("e"), loss("f")}},
+		{Act: outlook.Both, Member: 1, Names: 3, Alike: 1, Unknown: 1},
+		{Act: outlook.Override, Member: 2, Names: 1, Alike: 1, Lost: 1, IsAll: true, Loses: []outlook.Loss{loss("a")}},
+		{Act: outlook.Both, Member: 2, IsAll: true},
+	}}
+	var to strings.Builder
+	(&Person{To: &to, Called: strings.ToLower, Zone: time.UTC}).plans("docs", OutlookOf(&of, devices))
+	if told := to.String(); told != `
+to choose in docs on server, for the whole folder, once all that is to stay is saved; or neither:
+  'Revert Local Changes', once Syncthing has scanned and taken what the others have:
+    8 names come to another end, and all devices then have one thing of each
+    7 names lose something that stands on a disk now: copy that elsewhere first, if it is to stay
+      'a b': 5 bytes on server (modified 2020-09-13 12:26:40 UTC)
+      b: 5 bytes on server (modified 2020-09-13 12:26:40 UTC)
+      c: 5 bytes on server (modified 2020-09-13 12:26:40 UTC)
+      d: 5 bytes on server (modified 2020-09-13 12:26:40 UTC)
+      e: 5 bytes on server (modified 2020-09-13 12:26:40 UTC)
+      and 2 more names (--json has them)
+  the folder made 'Send & Receive' there, before Syncthing scans:
+    3 names come to another end; of 1 all devices then have one thing, in all orders tried
+    of 1 name it isn't known what this does: save it first
+
+to choose in docs on phone, for the whole folder, once all that is to stay is saved; or neither:
+  'Override Changes', once Syncthing has scanned and heard what the others have:
+    1 name comes to another end, and all devices then have one thing of it
+    1 name loses something that stands on a disk now: copy it elsewhere first, if it is to stay
+      a: 5 bytes on server (modified 2020-09-13 12:26:40 UTC)
+  the folder made 'Send & Receive' there, before Syncthing scans:
+    changes nothing that is known
+` {
+		t.Error(told)
+	}
+}
+
+func TestWhatAPersonReads(t *testing.T) {
+	for _, one := range texts {
+		var to strings.Builder
+		person := &Person{To: &to, Called: strings.ToLower, Zone: time.UTC}
+		if person.Outlook("docs", false, OutlookOf(&one.of, devices)); to.String() != one.text {
+			t.Errorf("%s:\n%s\nis to be\n%s", one.why, to.String(), one.text)
+		}
+	}
+}
+
+// Of a folder in step that stays so nothing is said.
+func TestAFolderInStep(t *testing.T) {
+	for count, isQuiet := range map[int64]bool{2: true, 1: false} {
+		var to strings.Builder
+		of := outlook.Outlook{Names: 2, Count: map[outlook.Fate]int64{outlook.ByItself: count, outlook.Lost: 2 - count}}
+		if (&Person{To: &to}).Outlook("docs", true, OutlookOf(&of, devices)); (to.String() == "") != isQuiet {
+			t.Error(to.String())
+		}
+	}
+}
+
+// Each reason that there is has words.
+func TestAllReasonsHaveWords(t *testing.T) {
+	for why := forecast.NoReason; why <= forecast.IgnoresDeletions; why++ {
+		if wordsOfKept[outlook.WhyKept[why]] == "" {
+			t.Errorf("%d has no words", why)
+		}
+	}
+	for _, why := range read.AllWhys {
+		if wordsOfUnknown[string(why)] == "" {
+			t.Errorf("%s has no words", why)
+		}
+	}
+	if len(read.AllWhys) != len(wordsOfUnknown) || len(outlook.WhyKept) != len(wordsOfKept) {
+		t.Error("there are words for what is no reason")
+	}
+}
+
+// A directory is copied with all below it, in place of what stands there. What no step puts right comes before the start.
+func TestPlansOfDirectories(t *testing.T) {
+	goal := outlook.Thing{Members: []int{0, 2}, Type: forecast.Directory}
+	of := OutlookOf(&outlook.Outlook{Plans: []outlook.Plan{{Names: []part.Bytes{"d"}, Count: 1, Below: 3, Goal: &goal, IsAll: true,
+		Steps: []outlook.Step{{Act: outlook.Delete, Member: 1}, {Act: outlook.Copy, Member: 1, From: 0}}}}}, devices)
+	of.WithoutSteps, of.FirstWithout = 7, []Text{"a", "b c", "d", "e", "f"}
+	var to strings.Builder
+	(&Person{To: &to, Called: strings.ToLower, Zone: time.UTC}).plans("docs", of)
+	if told := to.String(); told != `
+to do in docs, from the top, while Syncthing is stopped on all its devices:
+  for d, with 3 names below it:
+    1. on server: delete what stands there in its place
+    2. on server: copy it from laptop, as it is there, with all below it (cp -a, or rsync -aI, as the user who runs Syncthing there)
+    then all devices have what laptop, phone have now
+  3. do what the entries below say to do before Syncthing starts or scans, for 7 names that no step here puts right: a 'b c' d e f and 2 more names
+  4. start Syncthing on all its devices
+  what these steps put right needs nothing that the entries below say to do
+` {
+		t.Error(told)
+	}
+}

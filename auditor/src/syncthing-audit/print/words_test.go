@@ -1,0 +1,47 @@
+package print
+
+import (
+	"strings"
+	"testing"
+
+	"syncthing-audit/outlook"
+)
+
+// Sizes and numbers at each boundary of their units and groups.
+func TestSizesAndNumbers(t *testing.T) {
+	for bytes, told := range map[int64]string{0: "0 bytes", 1: "1 byte", 2: "2 bytes", 999: "999 bytes", 1000: "1.0 kB", 999900: "999.9 kB", 1000000: "1.0 MB", 999900000: "999.9 MB",
+		1000000000: "1.0 GB", 5432100000000: "5432.1 GB"} {
+		if is := Size(bytes); is != told {
+			t.Errorf("%d: %s, not %s", bytes, is, told)
+		}
+	}
+	for number, told := range map[int64]string{0: "0", 7: "7", 12: "12", 999: "999", 1000: "1,000", 12345: "12,345", 999999: "999,999", 1000000: "1,000,000"} {
+		if is := Thousands(number); is != told {
+			t.Errorf("%d: %s, not %s", number, is, told)
+		}
+	}
+	if Counted(1, "name", "names") != "1 name" || Counted(0, "name", "names") != "0 names" || Counted(1000, "name", "names") != "1,000 names" {
+		t.Error("a number isn't told with what it counts")
+	}
+}
+
+// As JSON, what is listed of an outlook is there with the devices' ids, and what isn't is counted.
+func TestAnOutlookAsJSON(t *testing.T) {
+	from := &outlook.Outlook{Names: 7, Listed: []outlook.Name{{Name: "a", Kept: []outlook.Kept{{Member: 1}}}, {Name: "b"}}}
+	made := OutlookOf(from, []string{"one", "two"})
+	if made.MoreNames != 5 || len(made.Fates) != 2 || len(made.Fates[0].Kept) != 1 || made.Fates[0].Kept[0].Device != "two" || len(made.Fates[1].Kept) != 0 {
+		t.Errorf("%+v", made)
+	}
+	if OutlookOf(nil, nil) != nil {
+		t.Error("an outlook that isn't known is told")
+	}
+}
+
+// Of an older program's export it is told that nobody knows what happens.
+func TestWhatIsNotKnownOfAnOlderExport(t *testing.T) {
+	var written strings.Builder
+	(&Person{To: &written}).NoOutlook("docs")
+	if told := written.String(); !strings.Contains(told, "it isn't known what happens in docs if nobody does anything: a program of 0.14.0 or before made the export") {
+		t.Errorf("%q", told)
+	}
+}

@@ -1,0 +1,51 @@
+package report
+
+import (
+	"io"
+	"strconv"
+	"strings"
+
+	"syncthing-audit/outside"
+)
+
+// Dangers are what a start, a scan or a revert may lose.
+type Dangers struct {
+	First []First
+	Disks []Disk
+}
+
+// First is what is to be done on devices before all else.
+type First struct {
+	Why     string
+	Devices []uint64
+	Names   int64 // where these are counted
+}
+
+// Disk is a name that isn't on a device's disk as that recorded it, in a way that looks like damage or waits for a scan.
+type Disk struct {
+	Folder, Name    string
+	Device          uint64
+	Why             string
+	Recorded, Found int64 // sizes
+}
+
+// print prints these.
+func (d *Dangers) print(to io.Writer) {
+	if d == nil {
+		return
+	}
+	for _, one := range d.First {
+		numbers := []string{}
+		for _, number := range one.Devices {
+			numbers = append(numbers, strconv.FormatUint(number, 10))
+		}
+		outside.Printf(to, "first: on %s: %s", strings.Join(numbers, ", "), one.Why)
+		if one.Names > 0 {
+			outside.Printf(to, ", %d names", one.Names)
+		}
+		outside.Print(to, "\n")
+	}
+	for _, one := range d.Disks {
+		outside.Printf(to, "not as recorded: %s %s on %d: %s, %d bytes recorded, %d found\n", one.Folder, printed(one.Name), one.Device, one.Why, one.Recorded, one.Found)
+	}
+}

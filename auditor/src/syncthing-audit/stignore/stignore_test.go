@@ -1,0 +1,130 @@
+package stignore
+
+import (
+	"math/rand"
+	"os"
+	"path/filepath"
+	"strings"
+	"testing"
+
+	"github.com/syncthing/syncthing/lib/fs"
+	"github.com/syncthing/syncthing/lib/ignore"
+)
+
+// pieces are what patterns and names are made of here.
+var (
+	pieces = []string{"a", "b", "A", "É", "*", "**", "?", "[ab]", "{a,b}", "/", "/", "\\", "!", "(?i)", "(?d)", ".", " ", "//", "[", "]", "{", "#x"}
+	parts  = []string{"a", "b", "A", "é", "É", "ab", "ba", "a b", "c", ".a", "x[", "!a"}
+)
+
+func drawLine(random *rand.Rand) string {
+	made := ""
+	for count := random.Intn(5); count >= 0; count-- {
+		made += pieces[random.Intn(len(pieces))]
+	}
+	return made
+}
+
+func drawName(random *rand.Rand) string {
+	made := []string{}
+	for count := random.Intn(4); count >= 0; count-- {
+		made = append(made, parts[random.Intn(len(parts))])
+	}
+	return strings.Join(made, "/")
+}
+
+// isIgnored says what Syncthing says of a name, or else this, where its package panics.
+func isIgnored(by *ignore.Matcher, name string, otherwise bool) (is bool) {
+	defer func() {
+		if recover() != nil {
+			is = otherwise
+		}
+	}()
+	return by.Match(name).IsIgnored()
+}
+
+// Which names a .stignore keeps out is what Syncthing's own package says, with files that are included and lines that are none.
+func TestAsSyncthing(t *testing.T) {
+	random, fitted, refused, takes := rand.New(rand.NewSource(1)), 0, 0, 0
+	for round := 0; round < 1500; round++ {
+		room, lines := t.TempDir(), [2][]string{}
+		for place := range lines {
+			for count := random.Intn(4); count >= 0; count-- {
+				lines[place] = append(lines[place], drawLine(random))
+			}
+		}
+		if random.Intn(3) == 0 {
+			lines[0] = append(lines[0], "#include  more", drawLine(random))
+		}
+		if random.Intn(30) == 0 {
+			lines[random.Intn(2)] = append(lines[0], "#include none")
+		}
+		for place, name := range []string{File, "more"} {
+			if err := os.WriteFile(filepath.Join(room, name), []byte(strings.Join(lines[place], "\r\n")), 0o600); err != nil {
+				t.Fatal(err)
+			}
+		}
+		files := fs.NewFilesystem(fs.FilesystemTypeBasic, room)
+		due := ignore.New(files)
+		failure := due.Load(File)
+		read, err := Read(room)
+		var patterns *Patterns
+		if err == nil {
+			patterns, err = Parse(read, false)
+		}
+		if err != nil {
+			refused++
+			hasOther := strings.Contains(strings.Join(read, "\n"), "#x") // a pattern to Syncthing 1, and to a later one it may be something else
+			if failure == nil && !hasOther {
+				t.Fatalf("%q: %v, and Syncthing reads it", lines, err)
+			}
+			continue
+		}
+		if failure != nil {
+			t.Fatalf("%q is read, and Syncthing says: %v", lines, failure)
+		}
+		for count := 0; count < 30; count++ {
+			name := drawName(random)
+			is := patterns.IsIgnored(name)
+			if is != isIgnored(due, name, is) {
+				t.Fatalf("%q: %q is ignored: %v", read, name, is)
+			}
+			if is {
+				fitted++
+			}
+		}
+		if patterns.TakesIgnored() {
+			takes++
+		}
+		if asked, is := any(due).(interface{ SkipIgnoredDirs() bool }); is && asked.SkipIgnoredDirs() == patterns.TakesIgnored() {
+			t.Fatalf("%q: a directory that is ignored may be taken: %v", read, patterns.TakesIgnored())
+		}
+	}
+	if fitted < 1000 || refused < 100 || takes < 20 {
+		t.Errorf("%d names fitted, %d files were none, %d take what is ignored", fitted, refused, takes)
+	}
+}
+
+// A folder without .stignore ignores nothing; on some systems patterns don't heed case; what a later Syncthing may mean by a line isn't guessed.
+func TestWhatSyncthingHasNoTestOf(t *testing.T) {
+	if lines, err := Read(t.TempDir()); err != nil || lines != nil {
+		t.Errorf("%q, %v", lines, err)
+	}
+	patterns, err := Parse([]string{"!KEEP", "*.Jpg"}, true)
+	if err != nil || !patterns.IsIgnored("a/B.JPG") || patterns.IsIgnored("keep") || !patterns.TakesIgnored() {
+		t.Errorf("%v", err)
+	}
+	if patterns, err = Parse([]string{"e\u0301"}, false); err != nil || !patterns.IsIgnored("a/é") { // Syncthing 1.19 doesn't compose patterns, later ones do
+		t.Errorf("a pattern that isn't composed: %v", err)
+	}
+	if _, err := Parse([]string{"#escape=|"}, false); err == nil {
+		t.Error("a line that this program doesn't know is a pattern")
+	}
+	room := t.TempDir()
+	if err := os.WriteFile(filepath.Join(room, File), []byte("#include .stignore"), 0o600); err != nil {
+		t.Fatal(err)
+	}
+	if _, err := Read(room); err == nil || strings.Contains(err.Error(), room) {
+		t.Errorf("a file that includes itself: %v", err)
+	}
+}

@@ -1,0 +1,48 @@
+package summary
+
+import (
+	"encoding/json"
+	"strings"
+	"testing"
+
+	"syncthing-audit/finding"
+	"syncthing-audit/outlook"
+	"syncthing-audit/part"
+)
+
+// What is proved of a folder stands below what is foretold of it, and JSON has it. Nothing is said to be proved where something hinders it,
+// or where the model foretells a loss.
+func TestConverging(t *testing.T) {
+	lost := &outlook.Outlook{Names: 1, Count: map[outlook.Fate]int64{outlook.Lost: 1}}
+	right := &outlook.Outlook{Names: 1, Count: map[outlook.Fate]int64{outlook.ByItself: 1}}
+	pairs := int64(2147)
+	hindrance := &finding.Failure{Reason: "Concurrent", Name: "a", Device: 2}
+	for _, one := range []struct {
+		first   *finding.Failure
+		outlook *outlook.Outlook
+		proved  bool
+		json    string
+	}{
+		{nil, right, true, `"converging":"converging","pairs_to_come":2147`},
+		{nil, nil, true, `"converging":"converging","pairs_to_come":2147`},
+		{nil, lost, false, `"converging":"converging","pairs_to_come":2147`},
+		{hindrance, right, false, `"converging":"not-converging","not_converging":{"reason":"Concurrent","name":"a","device":"` + server + `"},`},
+	} {
+		answer := answerOf(2, func(folder *finding.Folder) {
+			fails(folder, "a", []*part.Name{file(1, 1), nil}, "RecordMissing 2")
+			folder.Convergence = finding.Convergence{Asked: true, First: one.first, Pairs: &pairs}
+			folder.Outlook = one.outlook
+		})
+		text := printed(answer)
+		place, foretold := strings.Index(text, "proved for devices that keep a few rules"), strings.Index(text, "if nobody does anything in docs")
+		if strings.Contains(text, "still to come: 2,147 pairs of a name and a device proved for devices ") != one.proved {
+			t.Errorf("%+v: %s", one, text)
+		}
+		if (place > 0) != one.proved || place > 0 && foretold > place || place > strings.Index(text, " a (in docs") {
+			t.Errorf("%+v: %s", one, text)
+		}
+		if written, err := json.Marshal(Of(answer)); err != nil || !strings.Contains(string(written), one.json) {
+			t.Errorf("%+v: %s, %v", one, written, err)
+		}
+	}
+}

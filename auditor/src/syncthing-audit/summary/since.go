@@ -1,0 +1,117 @@
+package summary
+
+import (
+	"strings"
+	"time"
+
+	"syncthing-audit/history"
+	"syncthing-audit/shell"
+)
+
+// mostNews is how many names the text lists of each kind; --json has more.
+const mostNews = 5
+
+// history says what is new, and what no comparison of devices shows.
+func (p *printer) history(since *history.Since) {
+	if since == nil {
+		return
+	}
+	p.changedEverywhere(since)
+	if since.Before == nil {
+		p.line("history: this is the first audit that it has")
+	} else {
+		p.news(since)
+	}
+	for _, read := range since.Read {
+		p.read(read)
+	}
+	if since.Unkept != "" {
+		p.line("not kept in the history: %s", since.Unkept)
+	}
+}
+
+// changedEverywhere tells of files whose bytes changed under one time on all devices.
+func (p *printer) changedEverywhere(since *history.Since) {
+	if since.Count == 0 {
+		return
+	}
+	p.line("%s on all devices that have it, under one time and size. No comparison of devices shows that",
+		counted(since.Count, "file has other bytes than before", "files have other bytes than before, each"))
+	for _, one := range since.Changed[:shown(len(since.Changed))] {
+		p.line("  %s in %s: its bytes changed between %s and %s on %s. If nobody changed it, 'syncthing-audit find' looks among backups and old versions of before %s for its bytes. "+
+			"A program that puts a file's time back after it wrote looks the same", shell.Quoted(string(one.Name)), one.Folder, p.day(one.Before), p.day(one.Since),
+			p.named.all(one.Devices), p.day(one.Since))
+	}
+	if more := since.Count - int64(shown(len(since.Changed))); more > 0 {
+		p.line("  and %s more (--json has %s of them)", thousands(more), thousands(int64(len(since.Changed))))
+	}
+}
+
+// news says what is new since the audit before.
+func (p *printer) news(since *history.Since) {
+	told := []string{counted(since.New.Count, "fault is new", "faults are new"), counted(since.Mended.Count, "is mended", "are mended"),
+		counted(since.Lasting.Count, "lasts", "last")}
+	if since.Unasked.Count > 0 {
+		told = append(told, counted(since.Unasked.Count, "wasn't looked at", "weren't looked at"))
+	}
+	p.line("since the audit of %s: %s", p.day(*since.Before), strings.Join(told, ", "))
+	for _, one := range []struct {
+		word string
+		list history.List
+	}{{"new", since.New}, {"mended", since.Mended}, {"lasts", since.Lasting}, {"not looked at", since.Unasked}} {
+		places := placesOf(one.list.First)
+		for _, place := range places[:shown(len(places))] {
+			p.line("  %s: %s in %s%s (%s), since %s", one.word, shell.Quoted(string(place.Name)), place.Folder, p.onDevice(place.Device), place.Reason, p.day(place.First))
+		}
+		if more := len(places) - shown(len(places)); more > 0 {
+			p.line("  %s: %s more (--json has the first %s)", one.word, counted(int64(more), "name", "names"), thousands(history.MostListed))
+		}
+	}
+}
+
+// placesOf gives the faults of each name at each device as one, with all their reasons and since when the first of them is found.
+func placesOf(faults []history.Told) []history.Told {
+	type place struct{ folder, name, device string }
+	made, at := []history.Told{}, map[place]int{}
+	for _, fault := range faults {
+		of := place{fault.Folder, string(fault.Name), fault.Device}
+		known, is := at[of]
+		if !is {
+			at[of] = len(made)
+			made = append(made, fault)
+			continue
+		}
+		made[known].Reason += ", " + fault.Reason
+		if fault.First.Before(made[known].First) {
+			made[known].First = fault.First
+		}
+	}
+	return made
+}
+
+// read says how old the oldest reading is.
+func (p *printer) read(read history.Read) {
+	if read.Files == 0 {
+		return
+	}
+	p.line("read of %s on %s: %s, %s; the oldest reading is of %s: %s", read.Folder, p.named.of(read.Device), counted(read.Files, "file", "files"),
+		size(read.Bytes), p.day(read.Oldest), shell.Quoted(string(read.OldestName)))
+}
+
+func (p *printer) onDevice(id string) string {
+	if id == "" {
+		return ""
+	}
+	return " on " + p.named.of(id)
+}
+
+// day gives a time as a person reads it in a history.
+func (p *printer) day(at time.Time) string { return at.In(p.zone).Format("2006-01-02 15:04") }
+
+// shown gives how many of so many names the text lists.
+func shown(count int) int {
+	if count > mostNews {
+		return mostNews
+	}
+	return count
+}

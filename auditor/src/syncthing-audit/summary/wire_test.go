@@ -1,0 +1,71 @@
+package summary
+
+import (
+	"strings"
+	"testing"
+	"time"
+
+	"github.com/syncthing/syncthing/lib/protocol"
+	"syncthing-audit/finding"
+	"syncthing-audit/join"
+	"syncthing-audit/part"
+)
+
+// answerOverWire gives an answer on a folder of two devices in step, which were asked over the wire.
+func answerOverWire(isOfRecords bool) *finding.Answer {
+	folder := &finding.Folder{ID: "docs", Names: 5, Rows: map[string]*join.Row{}, Firmness: finding.Firmness{Asked: true}}
+	answer := &finding.Answer{Folders: []*finding.Folder{folder}, IsByName: true, HasRest: true}
+	for place := byte(1); place <= 2; place++ {
+		id := protocol.DeviceID{7: place}.String()
+		head := &part.Head{Device: id, Name: string('a' + rune(place) - 1), Wire: part.NewWire(protocol.DeviceID{7: 9}.String(), isOfRecords)}
+		member := join.Member{Device: join.NewDevice(headed{head}, id), About: &part.Folder{ID: "docs", Kind: "send-receive"}, Unseen: join.Unseen{Standing: 2}}
+		if isOfRecords {
+			member.Unseen.Unread = 3
+		}
+		folder.Members = append(folder.Members, member)
+		answer.Devices = append(answer.Devices, finding.Device{ID: id, Name: head.Name, IsSilent: true})
+	}
+	return answer
+}
+
+// headed is a part with a head alone.
+type headed struct{ head *part.Head }
+
+func (h headed) Head() *part.Head         { return h.head }
+func (h headed) Next() (part.Line, error) { panic("it has no lines") }
+
+// The best answer over the wire is 'as far as seen', never firm; it says what isn't seen, with counts.
+func TestInStepOverTheWire(t *testing.T) {
+	for _, isOfRecords := range []bool{false, true} {
+		answer := answerOverWire(isOfRecords)
+		if !answer.IsPartial() || answer.HowFirm() != finding.NotKnown {
+			t.Errorf("%v, %s", answer.IsPartial(), answer.HowFirm())
+		}
+		var told strings.Builder
+		Of(answer).Print(&told, time.UTC, time.Now())
+		text := strings.Join(strings.Fields(told.String()), " ")
+		for _, has := range []string{"docs: in step as far as seen over the wire, not known to be firm; ", "what stands where 2 directories and symlinks are recorded",
+			"not told: which other folders a, b may share; over the wire"} {
+			if !strings.Contains(text, has) {
+				t.Errorf("%q isn't in %s", has, text)
+			}
+		}
+		if strings.Contains(text, "the bytes of 3 files") != isOfRecords {
+			t.Error(text)
+		}
+	}
+}
+
+// Other bytes of the recorded size may be an edit, since the time isn't seen: the advice begins with a look at it.
+func TestOtherBytesOverTheWire(t *testing.T) {
+	for _, isOverWire := range []bool{false, true} {
+		fault := Fault{Cause: OtherBytes, isOverWire: isOverWire, Kind: "send-receive"}
+		if fault.mayShow() != isOverWire || (fault.whetherEdit(&File{}, "a") == "") == isOverWire {
+			t.Errorf("%v: %v, %s", isOverWire, fault.mayShow(), fault.whetherEdit(&File{}, "a"))
+		}
+		words := (&printer{}).wordsOf(&fault)
+		if strings.Contains(words, "an edit that no scan has taken") != isOverWire || strings.Contains(words, "time are as recorded") == isOverWire {
+			t.Error(words)
+		}
+	}
+}

@@ -1,0 +1,271 @@
+// Package watch has what a nightly audit is told to do, and what it tells of a night.
+package watch
+
+import (
+	"bytes"
+	"encoding/xml"
+	"errors"
+	"fmt"
+	"io"
+	"path/filepath"
+	"strings"
+
+	"syncthing-audit/choice"
+	"syncthing-audit/regular"
+	"syncthing-audit/shell"
+)
+
+// Config says which devices are audited each night, how much of them, and who is told. It is read from XML, as Syncthing's own config.xml is.
+type Config struct {
+	XMLName  xml.Name   `xml:"watch"`
+	Devices  []Device   `xml:"device"`
+	Parts    []Parts    `xml:"parts"`
+	Observed []Observed `xml:"observed"`
+	Folders  []Folder   `xml:"folder"`
+	Slices   []Slices   `xml:"slices"`
+	State    []Place    `xml:"state"`
+	Metrics  []Place    `xml:"metrics"`
+	Mail     []Mail     `xml:"mail"`
+	Notify   []Command  `xml:"notify"`
+	Ping     []Command  `xml:"ping"`
+	unknown
+}
+
+// Device is one that is looked at while it runs: a home on this machine, or by ssh.
+type Device struct {
+	Place string `xml:"place,attr"`
+	Data  string `xml:"data,attr"`
+	unknown
+}
+
+// Parts is a directory to which devices send their parts.
+type Parts struct {
+	Directory string  `xml:"directory,attr"`
+	Hours     float64 `xml:"hours,attr"`   // an older part isn't of last night
+	Signers   string  `xml:"signers,attr"` // the file of those who may sign parts
+	unknown
+}
+
+// Observed is a device that is asked over Syncthing's own protocol.
+type Observed struct {
+	ID      string `xml:"id,attr"`
+	Address string `xml:"address,attr"`
+	unknown
+}
+
+// Folder is one that is audited; without any, all are.
+type Folder struct {
+	ID string `xml:"id,attr"`
+	unknown
+}
+
+// Slices has each night audit one slice of the names.
+type Slices struct {
+	Count int `xml:"count,attr"`
+	Hour  int `xml:"hour,attr"` // at which the next one is due, in UTC
+	unknown
+}
+
+// Place is a file or a directory.
+type Place struct {
+	Path string `xml:"path,attr"`
+	unknown
+}
+
+// Mail says who gets mails.
+type Mail struct {
+	To string `xml:"to,attr"`
+	unknown
+}
+
+// Command is one for a shell.
+type Command struct {
+	Command string `xml:"command,attr"`
+	unknown
+}
+
+// unknown is what an element has and isn't known: nothing of it may be passed over.
+type unknown struct {
+	Attributes []xml.Attr `xml:",any,attr"`
+	Elements   []element  `xml:",any"`
+}
+
+// element is one of any name.
+type element struct{ XMLName xml.Name }
+
+// check says which attribute or element isn't known.
+func (u unknown) check(in string) error {
+	for _, one := range u.Attributes {
+		return fmt.Errorf("<%s> has no attribute %s", in, shell.Printable(one.Name.Local))
+	}
+	for _, one := range u.Elements {
+		return fmt.Errorf("<%s> has no element <%s>", in, shell.Printable(one.XMLName.Local))
+	}
+	return nil
+}
+
+const (
+	mostBytes  = 1 << 20
+	mostHours  = 10000
+	usualHours = 30
+)
+
+// Read reads a configuration. On an error it gives what could be read, for those who are to be told.
+func Read(path string) (*Config, error) {
+	text, _, err := regular.Read(path, mostBytes)
+	if err != nil {
+		return &Config{}, err
+	}
+	return parse(text)
+}
+
+// parse reads the text of a configuration.
+func parse(text []byte) (*Config, error) {
+	made := &Config{}
+	decoder := xml.NewDecoder(bytes.NewReader(text))
+	if err := decoder.Decode(made); err != nil {
+		return made, err
+	}
+	for {
+		token, err := decoder.Token()
+		if err == io.EOF {
+			return made, made.check()
+		}
+		if err != nil {
+			return made, err
+		}
+		if _, is := token.(xml.StartElement); is {
+			return made, errors.New("it goes on behind </watch>")
+		}
+	}
+}
+
+// check says what is wrong with what was read.
+func (c *Config) check() error {
+	for _, err := range []error{c.checkKnown(), c.checkCounts(), c.checkDevices(), c.checkNumbers()} {
+		if err != nil {
+			return err
+		}
+	}
+	return nil
+}
+
+// checkKnown says which word isn't known.
+func (c *Config) checkKnown() error {
+	errs := []error{c.unknown.check("watch")}
+	add := func(of unknown, in string) { errs = append(errs, of.check(in)) }
+	for _, one := range c.Devices {
+		add(one.unknown, "device")
+	}
+	for _, one := range c.Parts {
+		add(one.unknown, "parts")
+	}
+	for _, one := range c.Observed {
+		add(one.unknown, "observed")
+	}
+	for _, one := range c.Folders {
+		add(one.unknown, "folder")
+	}
+	for _, one := range c.Slices {
+		add(one.unknown, "slices")
+	}
+	for _, one := range append(append([]Place(nil), c.State...), c.Metrics...) {
+		add(one.unknown, "state> or <metrics")
+	}
+	for _, one := range c.Mail {
+		add(one.unknown, "mail")
+	}
+	for _, one := range append(append([]Command(nil), c.Notify...), c.Ping...) {
+		add(one.unknown, "notify> or <ping")
+	}
+	for _, err := range errs {
+		if err != nil {
+			return err
+		}
+	}
+	return nil
+}
+
+// checkCounts says what stands twice.
+func (c *Config) checkCounts() error {
+	for name, count := range map[string]int{"parts": len(c.Parts), "slices": len(c.Slices), "state": len(c.State), "metrics": len(c.Metrics), "mail": len(c.Mail),
+		"notify": len(c.Notify), "ping": len(c.Ping)} {
+		if count > 1 {
+			return fmt.Errorf("<%s> stands twice", name)
+		}
+	}
+	return nil
+}
+
+// checkDevices says what is wrong with the devices and folders, and which word is empty.
+func (c *Config) checkDevices() error {
+	empty := map[string]bool{}
+	for _, one := range c.Devices {
+		empty["device place"] = empty["device place"] || one.Place == ""
+	}
+	for _, one := range c.Observed {
+		empty["observed id"] = empty["observed id"] || one.ID == ""
+		empty["observed address"] = empty["observed address"] || one.Address == ""
+	}
+	for _, one := range c.Folders {
+		empty["folder id"] = empty["folder id"] || one.ID == ""
+	}
+	for _, one := range c.Parts {
+		empty["parts directory"] = one.Directory == ""
+	}
+	for _, one := range c.Mail {
+		empty["mail to"] = one.To == "" || strings.ContainsAny(one.To, "\r\n")
+	}
+	for word, is := range empty {
+		if is {
+			return fmt.Errorf("<%s=\"..\"> isn't given", word)
+		}
+	}
+	switch {
+	case len(c.Devices)+len(c.Parts)+len(c.Observed) == 0:
+		return errors.New("it names no <device>, no <parts> and no <observed>")
+	case len(c.Observed) > 0 && len(c.Folders) == 0:
+		return errors.New("of <observed> devices each <folder> is to be named")
+	}
+	return nil
+}
+
+// checkNumbers says which number isn't taken, and puts those that aren't given in place.
+func (c *Config) checkNumbers() error {
+	for at := range c.Parts {
+		one := &c.Parts[at]
+		if one.Hours == 0 {
+			one.Hours = usualHours
+		}
+		if !(one.Hours > 0 && one.Hours <= mostHours) {
+			return fmt.Errorf("hours=\"%v\" isn't taken: it is above 0, and at most %d", one.Hours, mostHours)
+		}
+	}
+	for _, one := range c.Slices {
+		if one.Count < 1 || one.Count > choice.MostSlices {
+			return fmt.Errorf("count=\"%d\" isn't taken: slices are 1 to %d", one.Count, choice.MostSlices)
+		}
+		if one.Hour < 0 || one.Hour > 23 {
+			return fmt.Errorf("hour=\"%d\" isn't taken: it is 0 to 23", one.Hour)
+		}
+	}
+	return nil
+}
+
+// Path gives a path whose ~ is the user's home.
+func Path(home, path string) string {
+	if rest := strings.TrimPrefix(path, "~/"); rest != path {
+		return filepath.Join(home, rest)
+	}
+	return path
+}
+
+// Due gives the slice that is due at a time, in seconds: the next one each day. So machines with the same settings have the same one at the same time.
+func (c *Config) Due(seconds int64) choice.Names {
+	if len(c.Slices) == 0 || c.Slices[0].Count == 1 {
+		return choice.Names{}
+	}
+	const day, hour = 86400, 3600
+	days := (seconds - int64(c.Slices[0].Hour)*hour) / day
+	return choice.Names{Slice: int(days%int64(c.Slices[0].Count)) + 1, Slices: c.Slices[0].Count}
+}

@@ -1,0 +1,136 @@
+package watch
+
+import (
+	"strings"
+	"testing"
+	"time"
+
+	"syncthing-audit/choice"
+	"syncthing-audit/history"
+	"syncthing-audit/part"
+	"syncthing-audit/summary"
+)
+
+// all is a configuration with each element that there is.
+const all = `<watch><device place="laptop:"/><device place="~/home" data="~/data"/><parts directory="~/parts" hours="8.5" signers="s"/>` +
+	`<observed id="A" address="tcp://a:22000"/><folder id="docs"/><slices count="7" hour="3"/><state path="s"/><metrics path="m"/><mail to="me"/>` +
+	`<notify command="n"/><ping command="p"/></watch>`
+
+func TestAConfigurationIsRead(t *testing.T) {
+	read, err := parse([]byte(all))
+	if err != nil {
+		t.Fatal(err)
+	}
+	if len(read.Devices) != 2 || read.Devices[1].Data != "~/data" || read.Parts[0].Hours != 8.5 || read.Observed[0].Address != "tcp://a:22000" ||
+		read.Slices[0].Count != 7 || read.Slices[0].Hour != 3 || read.Mail[0].To != "me" || read.Notify[0].Command != "n" || read.Ping[0].Command != "p" {
+		t.Errorf("%+v", read)
+	}
+	if read, err = parse([]byte(`<watch><parts directory="a"/></watch>`)); err != nil || read.Parts[0].Hours != usualHours {
+		t.Errorf("%+v, %v", read, err)
+	}
+	if path := Path("/home/me", "~/a"); path != "/home/me/a" || Path("/home/me", "laptop:a") != "laptop:a" {
+		t.Error(path)
+	}
+}
+
+// Each word that isn't known is refused, wherever it stands: a word that is passed over leaves a device out.
+func TestNoWordIsPassedOver(t *testing.T) {
+	for _, name := range []string{"watch", "device", "parts", "observed", "folder", "slices", "state", "metrics", "mail", "notify", "ping"} {
+		for _, text := range []string{strings.Replace(all, "<"+name, "<"+name+` odd="1"`, 1), strings.Replace(all, "<"+name, "<"+name+"s", 1)} {
+			if _, err := parse([]byte(text)); err == nil {
+				t.Errorf("it is read: %s", text)
+			}
+		}
+	}
+	inside := strings.Replace(all, `<folder id="docs"/>`, `<folder id="docs"><device place="x"/></folder>`, 1)
+	if _, err := parse([]byte(inside)); err == nil || !strings.Contains(err.Error(), "<folder> has no element <device>") {
+		t.Error(err)
+	}
+}
+
+// The slice that is due moves on by one each day, at the hour that is given.
+func TestTheSliceThatIsDue(t *testing.T) {
+	config := &Config{Slices: []Slices{{Count: 7, Hour: 3}}}
+	at := func(text string) choice.Names {
+		when, err := time.Parse(time.RFC3339, text)
+		if err != nil {
+			t.Fatal(err)
+		}
+		return config.Due(when.Unix())
+	}
+	before, after, next := at("2026-11-29T02:59:59Z"), at("2026-11-29T03:00:00Z"), at("2026-11-30T02:59:59Z")
+	if before == after || after != next || after.Slice != before.Slice%7+1 || after.Slices != 7 {
+		t.Errorf("%v, %v, %v", before, after, next)
+	}
+	for _, one := range []*Config{{}, {Slices: []Slices{{Count: 1}}}} {
+		if due := one.Due(1); !due.IsAll() {
+			t.Error(due)
+		}
+	}
+}
+
+// What is left out is told once, and its end once. Parts of different moments are told the second night in a row.
+func TestWhatIsLeftOutIsToldOnce(t *testing.T) {
+	told := func(out, earlier bool) *summary.Summary {
+		made := &summary.Summary{}
+		if out {
+			made.LeftOut = []summary.LeftOut{{Folder: "docs", Device: "phone\x1b", Kind: part.Absent, Why: "it is off\n"}}
+		}
+		if earlier {
+			made.Earlier = []summary.LeftOut{{Folder: "docs", Device: "nas", Kind: part.Moment, Why: "change 9"}}
+		}
+		return made
+	}
+	for _, isOfParts := range []bool{true, false} {
+		limits, seen := Limits(nil), []string{}
+		for _, night := range []struct{ out, earlier bool }{{false, true}, {true, true}, {true, true}, {true, false}, {false, false}, {false, false}, {false, true}} {
+			var lines []string
+			lines, limits = News(told(night.out, night.earlier), isOfParts, limits)
+			seen = append(seen, strings.Join(lines, "+"))
+		}
+		const out, moment, ended = `left out: docs of phone\x1b: it is off\x0a`, "of another moment: docs of nas: change 9", "no device and no folder is left out any more"
+		expected := []string{moment, out, "", "", ended, "", moment}
+		if isOfParts {
+			expected = []string{"", out + "+" + moment, "", "", ended, "", ""}
+		}
+		if strings.Join(seen, "|") != strings.Join(expected, "|") {
+			t.Errorf("%q\nnot\n%q", seen, expected)
+		}
+	}
+}
+
+// Faults that are new or mended are told, the first ones by name. What lasts isn't.
+func TestFaultsAreNews(t *testing.T) {
+	fault := history.Told{Folder: "docs", Name: "a b\x1b", Reason: "StoreDiffers"}
+	since := &history.Since{New: history.List{Count: 1, First: []history.Told{fault}}, Lasting: history.List{Count: 9, First: []history.Told{fault}}}
+	for count := 0; count < mostNews+2; count++ {
+		since.Mended.First = append(since.Mended.First, fault)
+		since.Mended.Count++
+	}
+	lines, _ := News(&summary.Summary{Since: since}, false, nil)
+	if len(lines) != 1+mostNews+1 || lines[0] != `new: '[not-for-typing:a b\x1b]' in docs: StoreDiffers` || lines[len(lines)-1] != "mended: 2 more" {
+		t.Errorf("%q", lines)
+	}
+	since.Unkept = "no space left"
+	if lines, _ = News(&summary.Summary{Since: since}, false, nil); lines[len(lines)-1] != "the history doesn't have all of this night: no space left" {
+		t.Errorf("%q", lines)
+	}
+}
+
+// A value's labels are one word each for Prometheus, whatever a device is called. Folders of one id have one value.
+func TestMetricsAreThoseOfPrometheus(t *testing.T) {
+	answer := &summary.Summary{Devices: []summary.Device{{ID: "A", Name: "a\"b\\c\nd\xff", Read: time.Unix(5, 0)}},
+		Folders: []*summary.Folder{{ID: "default", Names: 2, Wrong: 1}, {ID: "default", Names: 3}},
+		Since:   &history.Since{Read: []history.Read{{Folder: "default", Device: "A", Files: 1, Oldest: time.Unix(4, 0)}, {Folder: "none", Device: "A"}}}}
+	text := Measured{Status: 1, Ended: time.Unix(9, 0), Due: choice.Names{Slice: 3, Slices: 7}, Answers: []*summary.Summary{answer}}.Text()
+	for _, line := range []string{"syncthing_audit_status 1", "syncthing_audit_run_timestamp_seconds 9", `syncthing_audit_names{folder="default",slice="3/7"} 5`,
+		`syncthing_audit_names_wrong{folder="default",slice="3/7"} 1`, `syncthing_audit_slice{of="7"} 3`, `syncthing_audit_part_timestamp_seconds{device="A",name="a\"b\\c\nd?"} 5`,
+		`syncthing_audit_oldest_read_timestamp_seconds{folder="default",device="A",name="a\"b\\c\nd?"} 4`} {
+		if !strings.Contains(text, "\n"+line+"\n") {
+			t.Errorf("no %s in\n%s", line, text)
+		}
+	}
+	if empty := (Measured{Status: 2}).Text(); strings.Contains(empty, "names") || strings.Contains(empty, "left_out") || strings.Contains(text, `"none"`) {
+		t.Errorf("what isn't known is told: %s", empty)
+	}
+}

@@ -1,0 +1,88 @@
+package watch
+
+import (
+	"fmt"
+
+	"syncthing-audit/history"
+	"syncthing-audit/outside"
+	"syncthing-audit/shell"
+	"syncthing-audit/summary"
+)
+
+// mostNews is how many names of each kind are listed; --json has all.
+const mostNews = 10
+
+// Limits are the devices and folders that an answer is without, by what it is, with in how many nights in a row. What names are in motion or were left
+// out differs each night, and is no news.
+type Limits map[string]int
+
+// News says what an answer has that the one before it hadn't, and no longer, a line each. Parts of different moments are told once two nights in a row
+// have them: an edit at night makes such.
+func News(told *summary.Summary, isOfParts bool, before Limits) ([]string, Limits) {
+	lines := faults(told.Since)
+	now := Limits{}
+	add := func(what summary.LeftOut, called, why string, nights int) {
+		key := fmt.Sprintf("%s\x00%s\x00%s\x00%s", called, what.Folder, what.Device, what.Kind)
+		now[key] = before[key] + 1
+		if before[key]+1 == nights {
+			lines = append(lines, outside.Sprintf("%s: %s: %s", called, placeOf(what.Folder, what.Device), why))
+		}
+	}
+	for _, one := range told.LeftOut {
+		add(one, "left out", one.Why, 1)
+	}
+	nights := 1
+	if isOfParts {
+		nights = 2
+	}
+	for _, one := range told.Earlier {
+		add(one, "of another moment", one.Why, nights)
+	}
+	ended := 0
+	for key := range before {
+		if now[key] == 0 {
+			ended++
+		}
+	}
+	if ended > 0 && len(now) == 0 {
+		lines = append(lines, "no device and no folder is left out any more")
+	}
+	return lines, now
+}
+
+// placeOf names a folder and a device, or one of both.
+func placeOf(folder, device string) string {
+	switch {
+	case folder == "":
+		return device
+	case device == "":
+		return shell.Folder(folder, "")
+	}
+	return shell.Folder(folder, "") + " of " + device
+}
+
+// faults says which faults are new, and which are mended.
+func faults(since *history.Since) []string {
+	lines := []string{}
+	if since == nil {
+		return lines
+	}
+	for _, one := range []struct {
+		called string
+		all    history.List
+	}{{"new", since.New}, {"mended", since.Mended}} {
+		for place, fault := range one.all.First {
+			if place == mostNews {
+				break
+			}
+			lines = append(lines, outside.Sprintf("%s: %s in %s: %s", one.called, shell.Path(string(fault.Name)), shell.Folder(fault.Folder, ""), fault.Reason))
+		}
+		if one.all.Count > mostNews {
+			lines = append(lines, outside.Sprintf("%s: %d more", one.called, one.all.Count-mostNews))
+		}
+	}
+	if since.Unkept != "" {
+		lines = append(lines, outside.Sprintf("the history doesn't have all of this night: %s", since.Unkept))
+	}
+	return lines
+}

@@ -1,0 +1,186 @@
+package main
+
+import (
+	"fmt"
+	"os"
+	"path/filepath"
+	"sort"
+	"time"
+
+	"syncthing-audit/outside"
+	"syncthing-audit/part"
+	"syncthing-audit/shell"
+	"syncthing-audit/summary"
+	"syncthing-audit/watch"
+)
+
+// foundParts are the parts of a directory, and lines on what is none.
+type foundParts struct{ paths, others []string }
+
+// partsIn finds the parts that are files, there or in a device's own directory: nobody knows when a pipe ends.
+func partsIn(directory string) foundParts {
+	made := foundParts{}
+	all := []string{}
+	for _, pattern := range []string{"*.part", "*/*.part"} {
+		paths, _ := filepath.Glob(filepath.Join(directory, pattern)) // its only error is of a pattern that is none
+		all = append(all, paths...)
+	}
+	sort.Strings(all)
+	for _, path := range all {
+		if about, err := os.Stat(path); err != nil || !about.Mode().IsRegular() {
+			made.others = append(made.others, outside.Sprintf("%s is no file, so it isn't read", shell.Quoted(path)))
+			continue
+		}
+		made.paths = append(made.paths, path)
+	}
+	return made
+}
+
+// calledOf gives what a person calls the device of a part.
+func calledOf(head *part.Head) string {
+	if head.Name == "" {
+		return head.Device
+	}
+	return shell.Printable(head.Name)
+}
+
+// status gives that of the night: that of an audit without an answer, else the worst. What went wrong with the night itself is never 0.
+func (n *night) status() int {
+	worst := statusDone
+	for _, one := range n.audits {
+		switch {
+		case one.answer == nil:
+			return one.status
+		case one.status == statusNotSettled || worst == statusDone:
+			worst = one.status
+		}
+	}
+	if worst == statusDone && len(n.faults) > 0 {
+		return statusRefused
+	}
+	return worst
+}
+
+// subjects says in a word how all is.
+var subjects = map[int]string{statusDone: "in step", statusNotSettled: "NOT in step", statusPartial: "in step as far as audited"}
+
+// subject says in a line how the night went.
+func (n *night) subject(status int) string {
+	words := subjects[status]
+	if words == "" || n.lacksAnswer() {
+		words = fmt.Sprintf("no answer, status %d", status)
+	}
+	if status == statusRefused && !n.lacksAnswer() {
+		words = subjects[statusDone] + ", and the night itself has a fault"
+	}
+	if n.due.IsOfSlice() {
+		words += ", " + n.due.Words()
+	}
+	return words
+}
+
+// lacksAnswer says whether an audit has no answer.
+func (n *night) lacksAnswer() bool {
+	for _, one := range n.audits {
+		if one.answer == nil {
+			return true
+		}
+	}
+	return false
+}
+
+// tell prints the answer, measures it, and tells what is new; gives the status. Once a month it tells how all is, so that silence means something.
+func (n *night) tell() int {
+	status, errs := n.status(), []error{}
+	if err := n.measure(status); err != nil {
+		n.faults = append(n.faults, outside.Sprintf("the metrics can't be written: %v", err))
+		status = n.status()
+	}
+	subject, text := n.subject(status), n.text()
+	outside.Print(n.output, text)
+	if !n.lacksAnswer() {
+		errs = append(errs, n.config.PingAll(n.log)...)
+	}
+	month := n.began.Format("2006-01")
+	isMonthly := n.state.Month != month
+	isLoud := len(n.news)+len(n.faults) > 0 || n.lacksAnswer()
+	telling := []error{}
+	switch {
+	case isLoud:
+		telling = n.config.Tell(subject+n.withNews(), text, n.log)
+	case isMonthly:
+		telling = n.config.Tell("all is as before: "+subject, n.size()+text, n.log)
+	}
+	if len(telling) == 0 { // else all of it is told again
+		n.state.Untold = false
+		if isLoud || isMonthly {
+			n.state.Month = month
+		}
+	}
+	if err := n.state.Save(); err != nil {
+		errs = append(errs, fmt.Errorf("what is new can't be kept for the next night: %w", err))
+	}
+	for _, err := range append(errs, telling...) {
+		outside.Printf(n.log, "syncthing-audit: %v\n", err)
+		if status == statusDone {
+			status = statusRefused
+		}
+	}
+	return status
+}
+
+// withNews ends a subject.
+func (n *night) withNews() string {
+	if len(n.news) == 0 {
+		return ""
+	}
+	return ", with news"
+}
+
+// text gives what is told: what is new first, then what went wrong with the night, and then the answers.
+func (n *night) text() string {
+	text := ""
+	for _, line := range append(append([]string{}, n.news...), n.faults...) {
+		text += line + "\n"
+	}
+	for _, one := range n.audits {
+		if text != "" {
+			text += "\n"
+		}
+		if len(n.audits) > 1 {
+			text += "== " + one.name + "\n"
+		}
+		text += one.told
+	}
+	return text
+}
+
+// size says how much was read tonight, of how many devices.
+func (n *night) size() string {
+	devices, bytes := map[string]bool{}, int64(0)
+	for _, one := range n.audits {
+		for _, device := range one.answer.Devices {
+			devices[device.ID] = true
+		}
+		for _, folder := range one.answer.Folders {
+			bytes += folder.Bytes
+		}
+	}
+	return fmt.Sprintf("%s, %.1f GB read\n", countOf(len(devices), "device"), float64(bytes)/1e9)
+}
+
+// measure writes the metrics, where they are wanted.
+func (n *night) measure(status int) error {
+	measured := watch.Measured{Status: status, Ended: time.Now(), Due: n.due, Answers: []*summary.Summary{}}
+	for _, one := range n.audits {
+		if one.answer != nil {
+			measured.Answers = append(measured.Answers, one.answer)
+		}
+	}
+	for _, one := range n.config.Metrics {
+		if err := watch.WriteWhole(n.path(one.Path), measured.Text(), 0o644); err != nil {
+			return err
+		}
+	}
+	return nil
+}

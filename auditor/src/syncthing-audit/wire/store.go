@@ -1,0 +1,191 @@
+package wire
+
+import (
+	"encoding/binary"
+	"errors"
+	"fmt"
+	"math"
+
+	"github.com/syndtr/goleveldb/leveldb"
+	"github.com/syndtr/goleveldb/leveldb/opt"
+	"github.com/syndtr/goleveldb/leveldb/storage"
+	"github.com/syndtr/goleveldb/leveldb/util"
+	"syncthing-audit/device"
+)
+
+// Index is a device's own index of a folder, as it told it: of each name the newest record. It stands in a LevelDB, as Syncthing 1's own index does, so
+// an index of any length takes little memory, and whatever ends the program leaves it as it was after some message.
+type Index struct {
+	ID      uint64
+	Highest int64 // the highest sequence; all up to there is had
+
+	db    *leveldb.DB
+	files storage.Storage
+	read  leveldb.Reader // the database, or how it was at some moment
+}
+
+// NewIndex gives an index in memory, of which nothing is had.
+func NewIndex(id uint64) *Index {
+	made, err := openIndex(storage.NewMemStorage())
+	if err != nil {
+		panic(err) // of what is in memory
+	}
+	made.ID = id
+	return made
+}
+
+// OpenIndex opens the index that stands in a directory; one of which nothing is had where none does.
+func OpenIndex(directory string) (*Index, error) {
+	files, err := storage.OpenFile(directory, false)
+	if err != nil {
+		return nil, fmt.Errorf("the index in %s: %w", directory, err)
+	}
+	made, err := openIndex(files)
+	if err != nil {
+		files.Close()
+		return nil, fmt.Errorf("the index in %s: %w", directory, err)
+	}
+	return made, nil
+}
+
+// openIndex opens the index that these files have. The last write may be there in part, where a process was killed: it counts as not made.
+func openIndex(files storage.Storage) (*Index, error) {
+	db, err := leveldb.Open(files, &opt.Options{Strict: opt.DefaultStrict})
+	if err != nil {
+		return nil, err
+	}
+	made := &Index{db: db, files: files, read: db}
+	about, err := db.Get(keyOfHead, nil)
+	switch {
+	case errors.Is(err, leveldb.ErrNotFound):
+		return made, nil
+	case err == nil && len(about) != bytesOfHead:
+		err = errors.New("it is none")
+	}
+	if err != nil {
+		db.Close()
+		return nil, err
+	}
+	made.ID, made.Highest = binary.BigEndian.Uint64(about), int64(binary.BigEndian.Uint64(about[8:]))
+	return made, nil
+}
+
+// Close closes the index.
+func (i *Index) Close() error {
+	err := i.db.Close()
+	if after := i.files.Close(); err == nil {
+		err = after
+	}
+	return err
+}
+
+// keyOfHead is where an index has its id and its highest sequence, and bytesOfHead how long these are.
+var keyOfHead = []byte("h")
+
+const bytesOfHead = 16
+
+// prefixOfNames stands before a name in a key.
+const prefixOfNames = "n"
+
+func keyOf(name string) []byte { return append([]byte(prefixOfNames), name...) }
+
+// write makes a batch of changes, after which all up to a sequence is had. All of it is made, or nothing.
+func (i *Index) write(batch *leveldb.Batch, highest int64) error {
+	head := binary.BigEndian.AppendUint64(binary.BigEndian.AppendUint64(nil, i.ID), uint64(highest))
+	batch.Put(keyOfHead, head)
+	if err := i.db.Write(batch, nil); err != nil {
+		return err
+	}
+	i.Highest = highest
+	return nil
+}
+
+// clear has a batch take away all records.
+func (i *Index) clear(batch *leveldb.Batch) error {
+	all := i.db.NewIterator(util.BytesPrefix([]byte(prefixOfNames)), nil)
+	defer all.Release()
+	for all.Next() {
+		batch.Delete(all.Key())
+	}
+	return all.Error()
+}
+
+// begin begins an index of this id, of which nothing is had.
+func (i *Index) begin(id uint64) error {
+	batch := new(leveldb.Batch)
+	if err := i.clear(batch); err != nil {
+		return err
+	}
+	i.ID = id
+	return i.write(batch, 0)
+}
+
+// snapshot gives the index as it is now. It is closed with the index.
+func (i *Index) snapshot() (*Index, error) {
+	read, err := i.db.GetSnapshot()
+	return &Index{ID: i.ID, Highest: i.Highest, db: i.db, files: i.files, read: read}, err
+}
+
+// Get gives the entry of a name, and whether there is one.
+func (i *Index) Get(name string) (device.Entry, bool, error) {
+	text, err := i.read.Get(keyOf(name), nil)
+	if errors.Is(err, leveldb.ErrNotFound) {
+		return device.Entry{}, false, nil
+	}
+	if err != nil {
+		return device.Entry{}, false, err
+	}
+	made, err := entryOf(text)
+	return made, err == nil, err
+}
+
+// Each gives all entries, rising by name.
+func (i *Index) Each(take func(device.Entry) error) error {
+	all := i.read.NewIterator(util.BytesPrefix([]byte(prefixOfNames)), nil)
+	defer all.Release()
+	for all.Next() {
+		entry, err := entryOf(all.Value())
+		if err == nil {
+			err = take(entry)
+		}
+		if err != nil {
+			return err
+		}
+	}
+	return all.Error()
+}
+
+// Count counts the names.
+func (i *Index) Count() (count int64, err error) {
+	all := i.read.NewIterator(util.BytesPrefix([]byte(prefixOfNames)), nil)
+	defer all.Release()
+	for all.Next() {
+		count++
+	}
+	return count, all.Error()
+}
+
+// entryOf reads a record that was taken before. Its blocks' hashes are copied from it.
+func entryOf(text []byte) (device.Entry, error) {
+	read, err := entryIn(text, math.MaxInt)
+	if err != nil {
+		return device.Entry{}, err
+	}
+	return device.WireEntry(read), nil
+}
+
+// Put puts records, as they are sent, into the index.
+func (i *Index) Put(texts ...[]byte) error {
+	batch, highest := new(leveldb.Batch), i.Highest
+	for _, text := range texts {
+		entry, err := entryIn(text, math.MaxInt)
+		if err != nil {
+			return err
+		}
+		batch.Put(keyOf(entry.Name), text)
+		if entry.Sequence > highest {
+			highest = entry.Sequence
+		}
+	}
+	return i.write(batch, highest)
+}

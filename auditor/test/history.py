@@ -1,0 +1,139 @@
+#!/usr/bin/env python3
+"""Audits of two real Syncthing devices with a history: rot that Syncthing takes for a change and sends to all, and what is new from audit to
+audit.
+
+    auditor/test/history.py
+"""
+
+import json
+import os
+
+from exporting import Exporting, main, run
+from syncthing import wait_until
+
+
+class History(Exporting):
+    """Two devices in step, and a history beside them."""
+
+    def setUp(self):
+        super().setUp()
+        self.kept = self.room / self.id().rpartition(".")[2]
+
+    def audit(self, *words):
+        """An audit of all homes that is kept."""
+        return self.on_homes("check", [device.home for device in self.devices], "--syncaudit", self.auditor, "--history", self.kept, *words)
+
+    def since(self):
+        """What the history says to programs, and the status."""
+        ran = self.audit("--json")
+        return json.loads(ran.stdout)["since"], ran.returncode
+
+    def rot_with_its_time(self, path):
+        """Changes a byte of a file under its size and time, and gives what puts it back."""
+        before, times = path.read_bytes(), path.stat()
+
+        def put(data):
+            path.write_bytes(data)
+            os.utime(path, ns=(times.st_atime_ns, times.st_mtime_ns))
+
+        put(b"j" + before[1:])
+        return lambda: put(before)
+
+
+class RotThatSpread(History):
+    """Rot in a file whose mode changes: Syncthing's scan takes it for a change of bytes, and sends it to all devices under the old time."""
+
+    @classmethod
+    def synchronise(cls):
+        super().synchronise()
+        cls.one.scan()
+
+    def test_bytes_that_changed_everywhere_are_told(self):
+        """The devices are in step and firm again, and the history alone knows better."""
+        first, status = self.since()
+        self.assertEqual((status, first.get("audit_before"), first["bytes_changed_everywhere_count"]), (0, None, 0))
+        self.assertEqual({read["files"] for read in first["read"]}, {3})
+        one, two = self.one.files / "text", self.two.files / "text"
+        time = two.stat().st_mtime_ns
+        put_back = self.rot_with_its_time(one)
+        one.chmod(0o600)
+        self.start()
+        try:
+            self.one.scan()
+            wait_until("the rot is on the other device", lambda: two.read_bytes() == one.read_bytes())
+            wait_until("both are in step", lambda: self.one.is_in_step_with(self.two) and self.two.is_in_step_with(self.one))
+        finally:
+            self.stop()
+        self.assertEqual(two.stat().st_mtime_ns, time)
+        self.assertEqual(self.report()[0], "settled")
+        ran = self.audit()
+        self.assertEqual(ran.returncode, 6, ran.stderr)
+        self.assertIn("1 file has other bytes than before on all devices that have it, under one time and size", ran.stdout)
+        self.assertRegex(ran.stdout, r"  text in docs: its bytes changed between .* on \w{7}, \w{7}\. If nobody changed it, 'syncthing-audit find'")
+        self.assertIn("new: text in docs (BytesChangedEverywhere), since", ran.stdout)
+        told, = self.since()[0]["bytes_changed_everywhere"]
+        self.assertEqual((told["name"], told["size"], sorted(told["devices"])), ("text", 5, sorted(device.id for device in self.devices)))
+        self.assertRegex(self.audit("--lines").stdout, r"\nchanged everywhere: docs text between \S+ and \S+\n")
+        self.look_in_backups()
+        put_back()
+        self.start()
+        try:
+            self.one.scan()
+            one.touch()
+            self.one.scan()
+            wait_until("the edit is on the other device", lambda: two.read_bytes() == b"hello")
+            wait_until("both are in step", lambda: self.one.is_in_step_with(self.two) and self.two.is_in_step_with(self.one))
+        finally:
+            self.stop()
+        self.assertEqual(self.since()[0]["bytes_changed_everywhere_count"], 0)
+
+
+    def look_in_backups(self):
+        """The bytes before the change are found among backups, whatever their names and times are; none is told as such."""
+        backups = self.room / "backups"
+        (backups / "2025").mkdir(parents=True)
+        words = [self.program, "find", "--history", self.kept, "--folder", "docs", "text", backups]
+        (backups / "2025" / "rotten").write_bytes((self.one.files / "text").read_bytes())
+        ran = run(words)
+        self.assertEqual((ran.returncode, ran.stdout), (1, ""), ran.stderr)
+        self.assertIn("0 files of the bytes that were read of text in docs: 1 file of that size read, 0 not looked at", ran.stderr)
+        (backups / "2025" / "a good one").write_text("hello")
+        ran = run(words)
+        self.assertEqual((ran.returncode, ran.stdout), (0, f"'{backups}/2025/a good one'\n"), ran.stderr)
+        for kept, folder, told in ((self.room / "none", "docs", "there is no history"), (self.kept, "other", "the history has no bytes of text in other")):
+            ran = run([self.program, "find", "--history", kept, "--folder", folder, "text", backups])
+            self.assertEqual((ran.returncode, ran.stdout), (2, ""))
+            self.assertIn(told, ran.stderr)
+
+
+class FaultsFromAuditToAudit(History):
+    """A rotten file, from the audit that finds it first to the one that finds it mended."""
+
+    def test_what_is_new_lasts_and_is_mended(self):
+        def news():
+            since, _ = self.since()
+            return [sorted({fault["name"] for fault in since[kind]["first"]}) for kind in ("new", "lasting", "mended", "not_looked")]
+
+        self.assertEqual(news(), [[], [], [], []])
+        put_back = self.rot_with_its_time(self.two.files / "text")
+        try:
+            self.assertEqual(news(), [["text"], [], [], []])
+            self.assertEqual(news(), [[], ["text"], [], []])
+            other, _ = json.loads(self.audit("--json", "--names", "folder").stdout)["since"], 0
+            self.assertEqual([fault["name"] for fault in other["not_looked"]["first"]], ["text"])
+        finally:
+            put_back()
+        ran = self.audit()
+        self.assertRegex(ran.stdout, r"since the audit of .*: 0 faults are new, 1 is mended, 0 last\n  mended: text in docs on \w{7} \(StoreDiffers\), since ")
+        self.assertEqual(news(), [[], [], [], []])
+
+    def test_a_history_in_a_folder_is_refused(self):
+        self.kept = self.one.files / "history"
+        ran = self.audit()
+        self.assertEqual((ran.returncode, ran.stdout), (2, ""))
+        self.assertIn("whose devices would all get the history: name a directory elsewhere", ran.stderr)
+        self.assertFalse(self.kept.exists())
+
+
+if __name__ == "__main__":
+    main()
