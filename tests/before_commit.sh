@@ -30,7 +30,9 @@ is_formatted() {
 }
 
 mapfile -t go < <(staged '*.go')
-mapfile -t shell < <(staged '*.sh' test install package syncaudit .ci/run)
+mapfile -t shell < <(staged '*.sh' ':!tests/around/' test install package syncaudit .ci/run)
+# around.sh sources these, and has what they refer to
+[ -z "$(staged tests/around/)" ] || shell+=(tests/around.sh)
 mapfile -t python < <(staged '*.py')
 mapfile -t rattle < <(staged '*.rt' '*.antt')
 [ ${#go[@]} = 0 ] || look gofmt "gofmt would change Go files" is_formatted "${go[@]}"

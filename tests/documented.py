@@ -61,9 +61,10 @@ def numbers(crates, text):
 
 
 def reasons(crates, text):
-    """The reasons in their order, and the further ones of firm, by the page and by the code."""
-    for title, file, enum in (("The twelve reasons", "reason", "Reason"), ("Firm", "firm_reason", "FirmReason")):
-        source = (crates / f"bep_model/src/{file}.rt").read_text()
+    """The reasons in their order, the further ones of firm, and those of converging, by the page and by the code."""
+    for title, file, enum in (("The twelve reasons", "bep_model/src/reason", "Reason"), ("Firm", "bep_model/src/firm_reason", "FirmReason"),
+                              ("Converging", "bep_converge/src/converge_reason", "ConvergeReason")):
+        source = (crates / f"{file}.rt").read_text()
         body = re.search(rf"pub enum {enum} \{{(.*?)\n\}}", source, re.DOTALL)[1]
         listed = re.findall(r"^    ([A-Z]\w+),", body, re.MULTILINE)
         told = [row[:2] for heading, _, rows in tables(text) if heading == title for row in rows]
@@ -75,6 +76,6 @@ def check(count, top):
     text = (top / "docs/documents.md").read_text()
     found = [*members(top / "docs", text), *numbers(top / "crates", text),
              *reasons(top / "crates", (top / "docs/reasons.md").read_text())]
-    count.says("docs/documents.md: tables", "" if len(found) == 19 else f"{len(found)} things are compared")
+    count.says("docs/documents.md: tables", "" if len(found) == 20 else f"{len(found)} things are compared")
     for what, told, right in found:
         count.says(f"docs: {what}", "" if told == right else f"the page has {told}, and not {right}")

@@ -20,7 +20,7 @@ from edits import commits
 
 SECONDS, LONGEST, AT_ONCE = 40, 5, 2
 # The statuses of each command where memory is there and nothing stands in the way of reading and writing.
-CHECKS = {"check": {0, 1, 2}, "firm": {0, 1, 2}, "explain": {0, 1, 2}, "explain --json": {0, 1, 2},
+CHECKS = {"check": {0, 1, 2}, "firm": {0, 1, 2}, "converge": {0, 1, 2}, "explain": {0, 1, 2}, "explain --json": {0, 1, 2},
           "explain --firm": {0, 1, 2}, "explain --firm --json": {0, 1, 2}, "certify": {0, 1, 2},
           "certify --partial": {0, 2, 6}, "check --certify": {0, 1, 2}, "firm --certify": {0, 1, 2},
           "explain --certify": {0, 1, 2}, "explain --certify --json": {0, 1, 2}, "explain --certify --firm": {0, 1, 2}}
@@ -60,6 +60,7 @@ def contradictions(program, told):
         yield "explain and explain --json", status["explain"] != status["explain --json"]
         yield "firm and explain --firm", status["firm"] != status["explain --firm"]
         yield "firm and check", status["firm"] == 0 != status["check"] or (status["firm"] == 2) != (status["check"] == 2)
+        yield "certify and converge", (status["certify"] == 2) != (status["converge"] == 2)
         yield "certify and check --certify", (status["certify"] == 2) != (status["check --certify"] == 2)
         yield "check --certify and explain --certify", first_reason(told["check --certify"]) != first_reason(told["explain --certify"])
         yield "explain --certify and --json", status["explain --certify"] != status["explain --certify --json"]

@@ -1,9 +1,9 @@
 #!/usr/bin/env python3
 """pages.py: says whether the pages that are written by hand fit one another and the code: each link leads to a file and a
-heading, developing.md's map has each crate as crates.txt does, the functions on its three ways are there, and its counts are
-theirs; trust.md is short, and has no name or test that isn't there; documents.md has the schemas' members
-and the numbers of refusals, and reasons.md the reasons (documented.py); README.md is one screen, of at most 500 words. The
-last line is 'N passed, M failed'."""
+heading, and each path in code is there; developing.md's map has each crate as crates.txt does, the functions on its three
+ways are there, and its counts are theirs; trust.md is short, and has no name or test that isn't there; each row of
+SECURITY.md names tests that are there; documents.md has the schemas' members and the numbers of refusals, and reasons.md
+the reasons (documented.py); README.md is one screen, of at most 500 words. The last line is 'N passed, M failed'."""
 
 import re
 import subprocess
@@ -25,6 +25,7 @@ LINK = re.compile(r"\]\(([^)\s]+)\)")
 CODE = re.compile(r"^```.*?^```|`[^`\n]*`", re.MULTILINE | re.DOTALL)
 MOST_OF_README = 500
 MOST_OF_TRUST = 4000
+PLACE = re.compile(r"(?<![\w./~-])(\$PWD/)?([a-z.][\w.-]*(?:/[\w.-]+)*)(?![\w/*<{.\[$-])")
 STEP = re.compile(r"`([\w/]+\.rt):(\w+)`")
 
 
@@ -33,6 +34,17 @@ def untested(page):
     for name, path in re.findall(r"\[(\w+)\]\((\S+\.rt)\)", page.read_text()):
         text = (page.parent / path).read_text() if (page.parent / path).exists() else ""
         yield name, re.search(rf"#\[test\]\s*fn {name}\b", text) is None
+
+
+def untried(page):
+    """What is wrong with each row of the page on security: it names no test, or one that isn't there."""
+    texts = [path.read_text() for path in [*TOP.glob("auditor/src/syncthing-audit/**/*_test.go"), *TOP.glob("auditor/test/*.py")]]
+    for row in re.findall(r"^\| (.*) \|$", page.read_text(), re.MULTILINE)[2:]:
+        subject, tests = row.partition(" | ")[0], row.rpartition("|")[2]
+        names = re.findall(r"`((?:Test|Fuzz|test_)\w+)`", tests)
+        lacking = [name for name in names if not any(re.search(rf"\b(?:func|def) {name}\(", text) for text in texts)]
+        none = "" if names or re.search(r"`[\w/.-]+`|\]\(", tests) else "no test"
+        yield subject, none or ", ".join(f"{name} isn't there" for name in lacking)
 
 
 def anchors(page):
@@ -50,6 +62,18 @@ def broken(page, link):
     if not target.exists():
         return "there is no such file"
     return "" if not anchor or anchor in anchors(target) else "there is no such heading"
+
+
+def lost(page):
+    """The paths below $PWD or a folder of the repository that a page's code names, and that aren't there. A path with a word in
+    capitals stands for others."""
+    folders = {path.name for path in TOP.iterdir() if path.is_dir() and path.name != ".git"}
+    for code in CODE.findall(page.read_text()):
+        for below, path in PLACE.findall(code):
+            if not below and ("/" not in path or path.partition("/")[0] not in folders):
+                continue
+            if not re.search(r"\b[A-Z]+\b", path) and not (TOP / path).exists():
+                yield path
 
 
 def rows(text):
@@ -122,6 +146,7 @@ def main():
     for page in PAGES:
         for link in sorted(set(LINK.findall(CODE.sub("", page.read_text())))):
             count.says(f"{page.relative_to(TOP)}: {link}", broken(page, link))
+        count.says(f"{page.relative_to(TOP)}: paths", ", ".join(f"{path} isn't there" for path in sorted(set(lost(page)))))
     words = len((TOP / "README.md").read_text().split())
     count.says("README.md: length", "" if words <= MOST_OF_README else f"{words} words are more than {MOST_OF_README}")
     developing = (TOP / "docs/developing.md").read_text()
@@ -134,6 +159,8 @@ def main():
     count.says("tools/bench/README.md: table", "" if is_current else "it isn't that of results.csv: run tools/bench/table.py")
     for name, lacks in untested(TOP / "docs/trust.md"):
         count.says(f"docs/trust.md: {name}", "the file has no such test" if lacks else "")
+    for subject, why in untried(TOP / "SECURITY.md"):
+        count.says(f"SECURITY.md: {subject}", why)
     documented.check(count, TOP)
     found = [way for way in ways(developing) if way[1]]
     count.says("docs/developing.md: ways", "" if len(found) == 3 else f"{len(found)} are read")

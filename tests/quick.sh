@@ -3,19 +3,16 @@
 # Syncthing's packages are there. Nothing is proved or built by the kit. The last line says what it left out.
 set -euo pipefail
 cd "$(dirname "$0")/.."
+if [ $# != 0 ]; then
+  echo "usage: ./test --quick" >&2
+  exit 2
+fi
 top=$PWD
 . tools/release/put.sh
+. tests/keep.sh
 program=$top/tools/release/syncaudit
 logs=$(mktemp -d)
 trap 'rm -rf "$logs"' EXIT
-
-# keep PART COMMAND..: keeps what a part writes, and its status, for the sum.
-keep() {
-  local part=$1 status=0
-  shift
-  "$@" > "$logs/$part" 2>&1 || status=1
-  echo "$status" > "$logs/$part.status"
-}
 
 # go_tests: Go's tests of all packages, each of which counts as one.
 go_tests() {
@@ -35,15 +32,15 @@ go_tests() {
 
 parts=(rows.py pieces.sh steps.py turns.py around.sh memory.py compare.sh reference.py pages.py)
 for part in "${parts[@]}"; do
-  keep "$part" "tests/$part" "$program" &
+  keep "$part" "tests/$part" "$program" > "$logs/$part.told" 2>&1 &
 done
-keep fuzz.py tests/fuzz.py "$program" --seconds 20 &
-keep go go_tests &
+keep fuzz.py tests/fuzz.py "$program" --seconds 20 > "$logs/fuzz.py.told" 2>&1 &
+keep go go_tests > "$logs/go.told" 2>&1 &
 wait
 parts+=(fuzz.py go)
 for part in "${parts[@]}"; do
   echo "== $part"
-  cat "$logs/$part"
+  cat "$logs/$part.told"
 done
 echo "test: took $((SECONDS / 60)) min $((SECONDS % 60)) s"
 status=0

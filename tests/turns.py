@@ -18,6 +18,7 @@ from counting import Count
 
 TOP = Path(__file__).resolve().parents[1]
 TURNS = 3
+ENOUGH = 70000  # a scanner's turn leaves an event for each name, and a log has room for 65536
 # The certificate's line of a name: folder, name, device, type, mark and version, and of version 2 the block size.
 ROW = re.compile(r"(\S+ \S+) \d+ (\d (?:present|deleted)) \S+((?: \d+)?)")
 COPY = "notes.sync-conflict-2000-0000000000000002.txt"
@@ -107,6 +108,17 @@ def try_document(count, program, scenario, names):
     count.says(f"{scenario}, its version", f"it is {written} in place of {read}" if written != read else "")
 
 
+def try_full(count, program, scenario):
+    """More turns than a log has room for: which logs are full is told, once each, behind what else is told. With few turns
+    nothing is."""
+    full = [f"log full: device {device}" for device in (1, 2)]
+    for words, turns, expected in (((), ENOUGH, full), ((), TURNS, []), (("--document",), ENOUGH, full)):
+        _, error, status = run(program, scenario, *words, "--turns", str(turns))
+        told = error[-len(expected):] if words else error
+        of = " ".join(("the logs of", scenario, *words, str(turns)))
+        count.says(of, f"{told} with status {status}" if told != expected or status != 0 else "")
+
+
 def main(given, *_):
     count = Count("turns")
     program = Path(given).resolve()
@@ -117,6 +129,7 @@ def main(given, *_):
         try_report(count, program, scenario, names, settled)
         if settled:
             try_document(count, program, scenario, names)
+    try_full(count, program, "a-file-is-taken-over")
     return count.told()
 
 

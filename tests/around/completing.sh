@@ -16,14 +16,14 @@ audit_flags() {
 
 # The kinds of --leave-out.
 audit_kinds() {
-  sed -n '/^Leaves out what/,/^\.TP/p' "$page" | sed 's/.*say\(s\)* so: //' | tr -c 'a-z\n' '\n' |
-    grep -xE 'ignored|unreadable|changing|special|names|targets|records|rescan|large|absent|encrypted|unshared'
+  sed -n '/^leaves out these kinds/,/^\.TP/p' "$page" | sed 's/.*between: //' | tr -c 'a-z\n' '\n' |
+    grep -xE 'ignored|unreadable|changing|special|names|targets|records|rescan|large|absent|encrypted|unshared|moment|unknown'
 }
 
 expect "the man page of syncthing-audit has other commands: $(audit_commands | paste -sd ' ')" \
-  [ "$(audit_commands | paste -sd ' ')" = 'part check run export sum' ]
+  [ "$(audit_commands | paste -sd ' ')" = 'part check run watch observe disk export sum find' ]
 expect "too few flags in the man page of syncthing-audit: $(audit_flags | paste -sd ' ')" [ "$(audit_flags | wc -l)" -ge 10 ]
-expect "not twelve kinds in the man page of syncthing-audit" [ "$(audit_kinds | sort -u | wc -l)" = 12 ]
+expect "not fourteen kinds in the man page of syncthing-audit" [ "$(audit_kinds | sort -u | wc -l)" = 14 ]
 for file in "${of_audit[@]}"; do
   for word in $(audit_commands) $(audit_kinds); do
     expect "$file has no '$word'" has "$word" "$file"
@@ -50,17 +50,19 @@ while IFS='|' read -r words expected; do
   eval "set -- $words"
   expect "bash completes '$words' as '$(completed "$@")', and not as '$expected'" [ "$(completed "$@")" = "$expected" ]
 done << END
-''|--help --version check export part run sum
+''|--help --version check disk export find observe part run sum watch
 ch|check
-part -|--about --begin --data --end --folder --heed-input --help --home --jobs --leave-out --names --rescan --slice --still --tokens -o
+part -|--about --begin --data --end --folder --heed-input --help --home --jobs --leave-out --names --observer --paths --rescan --sign --slice --still --strict --tokens -o
 run --re|--remote-program --rescan
+observe --re|--records
 run $work/ho|$work/homes
 check --l|--leave-out --lines
 export --in|--into
 sum -|--help --json --lines
+watch -|--help --jobs --still --syncaudit
 sum --leave|
 check --leave-out a|absent
-check --leave-out absent,un|absent,unreadable absent,unshared
+check --leave-out absent,un|absent,unknown absent,unreadable absent,unshared
 check $work/l|$work/laptop.part
 check --folder d|
 part --home $work/ho|$work/homes
@@ -74,5 +76,5 @@ if command -v fish > /dev/null 2>&1; then
   offered=$(fish --no-config -c "source auditor/completions/syncthing-audit.fish; complete -C 'syncthing-audit check --l'" 2>&1 | cut -f 1 | sort | paste -sd ' ')
   expect "fish completes 'check --l' as '$offered'" [ "$offered" = '--leave-out --lines' ]
   offered=$(fish --no-config -c "source auditor/completions/syncthing-audit.fish; complete -C 'syncthing-audit '" 2>&1 | cut -f 1 | sort | paste -sd ' ')
-  expect "fish completes commands as '$offered'" [ "$offered" = 'check export part run sum' ]
+  expect "fish completes commands as '$offered'" [ "$offered" = 'check disk export find observe part run sum watch' ]
 fi

@@ -20,6 +20,25 @@ examples_named() {
 }
 
 expect "no example in the help and the man page: $(examples_named)" [ "$(examples_named | wc -l)" -ge 4 ]
+# A night has limits, and the strict drop-in lets it write nowhere else.
+for unit in auditor/nightly/systemd/*.service; do
+  expect "$unit has no limit of time or none of memory" [ "$(grep -cE '^(TimeoutStartSec|MemoryMax)=.' "$unit")" = 2 ]
+done
+for line in ProtectSystem=strict ProtectHome=read-only PrivateTmp=yes NoNewPrivileges=yes; do
+  expect "strict.conf lacks $line" grep -qx "$line" auditor/nightly/strict.conf
+done
+
+# Whatever builds with Go takes no settings of its user's, and no other Go than Debian's.
+for builder in $(grep -lE '^[^#]*\bgo build' tools/release/*.sh tools/disk-programs install package); do
+  expect "$builder builds with settings of its user's" \
+    [ "$(grep -c "GOENV=off GOFLAGS='' GOTOOLCHAIN=local " "$builder")" = "$(grep -cE '^[^#]*\bgo build' "$builder")" ]
+done
+
+for prefix in '' --help; do
+  status=0
+  "$place/install" "$prefix" > "$work/output" 2> "$work/error" || status=$?
+  expect "install into '$prefix' has status $status" [ "$status" = 3 ]
+done
 status=0
 "$place/install" "$work/prefix" > "$work/output" 2> "$work/error" || status=$?
 expect "install has status $status" [ "$status" = 0 ]
@@ -142,10 +161,12 @@ tools install mkdir
 bare_install
 expect "install without the program has status $status" [ "$status" = 127 ]
 expect "install without the program and Go puts something in place" [ ! -e "$work/bare" ]
+expect "install without Go says that it builds: $(cat "$work/error")" [ "$(grep -c 'built with Go' "$work/error")" = 0 ]
 if [ -d /usr/share/gocode/src/github.com/syncthing/syncthing/lib/db ]; then
   fake_go
   bare_install
   expect "install without the program doesn't tell so by its status: $status" [ "$status" = 127 ]
+  expect "install doesn't say that it builds: $(cat "$work/error")" says 'syncthing-audit is built with Go: a minute or two' "$work/error"
   expect "install without the program puts no syncthing-audit in place" [ "$(cat "$work/bare/bin/syncthing-audit")" = "exporter " ]
   expect "install puts a program in place that isn't there" [ ! -e "$work/bare/bin/syncaudit" ]
   expect "install puts what is of the program in place without it" [ "$(find "$work/bare" -path '*syncaudit*' | wc -l)" = 0 ]

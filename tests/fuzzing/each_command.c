@@ -18,6 +18,7 @@ struct command {
 
 static const struct command commands[] = {
     {{"check"}, "012"},           {{"firm"}, "012"},
+    {{"converge"}, "012"},
     {{"explain"}, "012"},         {{"explain", "--json"}, "012"},
     {{"explain", "--firm"}, "012"}, {{"explain", "--firm", "--json"}, "012"},
     {{"certify"}, "012"},         {{"certify", "--partial"}, "026"},
