@@ -22,7 +22,7 @@ go_tests() {
     return
   fi
   local told failed passed
-  told=$(SYNCAUDIT=$program GO111MODULE=off GOPATH=$top/auditor:$packages go test syncthing-audit/... 2>&1 || true)
+  told=$(SYNCAUDIT=$program GO111MODULE=off GOPATH=$top/auditor:$packages go test -count=1 syncthing-audit/... 2>&1 || true)
   grep -v '^ok\|no test files' <<< "$told" || true
   passed=$(grep -c '^ok' <<< "$told" || true)
   failed=$(grep -c '^FAIL.*syncthing-audit' <<< "$told" || true)

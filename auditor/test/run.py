@@ -110,7 +110,7 @@ def run_go(environment):
     """Builds and runs Go's tests, and gives how many passed and failed."""
     from exporting import PROGRAM
     status, said = run_until(time.monotonic() + 2 * SECONDS_OF_GO,
-                             ["go", "test", "-p", "1", "-v", f"-timeout={SECONDS_OF_GO}s", f"{PROGRAM}/..."], env=environment)
+                             ["go", "test", "-p", "1", "-count=1", "-v", f"-timeout={SECONDS_OF_GO}s", f"{PROGRAM}/..."], env=environment)
     passed = len(re.findall(r"^--- PASS", said, re.MULTILINE))
     failed = len(re.findall(r"^--- FAIL", said, re.MULTILINE))
     if status != 0 or not passed:

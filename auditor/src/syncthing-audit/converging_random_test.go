@@ -7,6 +7,7 @@ import (
 
 	"syncthing-audit/device"
 	"syncthing-audit/finding"
+	"syncthing-audit/forecast"
 	"syncthing-audit/outlook"
 	"syncthing-audit/part"
 )
@@ -73,8 +74,24 @@ func drawChained(t *testing.T, random *rand.Rand, devices []*drawn, name string,
 	}
 }
 
+// losesToEmptied says whether all that a name loses are bytes of files over which an empty file is recorded, which comes to all devices. That is a
+// change as any other to what is proved; the answer warns of it, since a scan may have taken a harmed file for a change.
+func losesToEmptied(name *outlook.Name, devices int) bool {
+	for _, thing := range name.Loses {
+		if thing.Type != forecast.File || thing.Content.Size == 0 {
+			return false
+		}
+	}
+	if len(name.Ends) != 1 || len(name.Ends[0]) != 1 {
+		return false
+	}
+	end := name.Ends[0][0]
+	return end.Type == forecast.File && end.Content.Size == 0 && len(end.Members) == devices
+}
+
 // What is proved and what the model of Syncthing foretells go together: of a folder whose records lead to one end the model foretells
-// no loss, no conflict copy, and no other end. So it is in many rounds; and each reason that hinders a folder is seen in some.
+// no conflict copy and no other end, and no loss but of bytes over which an empty file is recorded. So it is in many rounds; and each
+// reason that hinders a folder is seen in some.
 func TestWhatConvergesComesRight(t *testing.T) {
 	seen, rounds := map[string]int{}, int64(100)
 	isSlow := auditor().Path == "../../test/"+standIn
@@ -100,16 +117,23 @@ func TestWhatConvergesComesRight(t *testing.T) {
 			t.Errorf("seed %d: the folder converges, and nothing is foretold: %+v", seed, told)
 			continue
 		}
-		for _, fate := range []outlook.Fate{outlook.Lost, outlook.Depends, outlook.Stays, outlook.Changed} {
-			if told.Count[fate] > 0 {
-				t.Errorf("seed %d: the folder converges, and the model foretells %q: %+v", seed, fate, told.Listed)
+		for place := range told.Listed {
+			name := &told.Listed[place]
+			switch name.Fate {
+			case outlook.Lost:
+				if !losesToEmptied(name, len(folder.Members)) {
+					t.Errorf("seed %d: the folder converges, and the model foretells a loss: %+v", seed, name)
+				}
+				seen["emptied"]++
+			case outlook.Depends, outlook.Stays, outlook.Changed:
+				t.Errorf("seed %d: the folder converges, and the model foretells %q: %+v", seed, name.Fate, name)
 			}
 		}
 		if told.Count[outlook.Unknown] == 0 {
 			seen["foretold"]++
 		}
 	}
-	if seen["foretold"] == 0 || !isSlow && (seen["WouldCopy"] == 0 || seen["NothingPrevails"] == 0 || seen["StoreUnclean"] == 0) {
+	if seen["foretold"] == 0 || !isSlow && (seen["emptied"] == 0 || seen["WouldCopy"] == 0 || seen["NothingPrevails"] == 0 || seen["StoreUnclean"] == 0) {
 		t.Error(seen)
 	}
 }
