@@ -19,8 +19,8 @@ sys.path[1:1] = [str(TOP / "tools/reference"), str(TOP / "tools/reference/genera
 
 from write_reference import pages  # noqa: E402
 
-PAGES = [*sorted(TOP.glob("docs/*.md")), *sorted(TOP.glob("*.md")),
-         *(TOP / folder / "README.md" for folder in ("tools/bench", "second", "auditor/nightly", "examples", "auditor", "tests"))]
+GENERATED = TOP / "docs/reference"
+PAGES = sorted(page for page in TOP.rglob("*.md") if GENERATED not in page.parents)
 LINK = re.compile(r"\]\(([^)\s]+)\)")
 CODE = re.compile(r"^```.*?^```|`[^`\n]*`", re.MULTILINE | re.DOTALL)
 MOST_OF_README = 500

@@ -3,7 +3,7 @@
 
     auditor/test/slow_message.py
 
-It is the shorter run of docs/firm-story.md, and takes a minute. Anna's messages to Cleo's device go through a slow line,
+It is the shorter run of docs/argument/README.md, and takes a minute. Anna's messages to Cleo's device go through a slow line,
 which keeps back what the story wants to be late. It installs nothing, and ends all that it starts. Where the run goes
 otherwise it says what differs, and has status 1.
 """

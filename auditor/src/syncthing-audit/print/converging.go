@@ -12,6 +12,6 @@ func (p *Person) Converging(folder string, o *Outlook, pairs *int64) {
 	if pairs != nil {
 		p.line("  still to come: %s of a name and a device", Counted(*pairs, "pair", "pairs"))
 	}
-	p.line("  proved for devices that keep a few rules (docs/orderly-peers.md): whatever comes first, nothing goes but what a recorded change replaces,")
+	p.line("  proved for devices that keep a few rules (docs/argument/orderly-peers.md): whatever comes first, nothing goes but what a recorded change replaces,")
 	p.line("  and no conflict copy is made")
 }
