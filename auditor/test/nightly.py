@@ -267,7 +267,7 @@ class NightlySlices(Audited):
         self.settings = {"SLICES": str(self.SLICES), "SLICE_HOUR": str(self.hour)}
 
     def slice_of(self, name):
-        """The slice of a name, as auditor/README.md has it."""
+        """The slice of a name, as the man page has it."""
         return 1 + int.from_bytes(hashlib.sha256(b"docs\0" + name.encode()).digest()[:8], "big") % self.SLICES
 
     def names(self, is_due):

@@ -18,7 +18,7 @@ SLICES = 7
 
 
 def slice_of(name):
-    """The slice of a name in the folder, as auditor/README.md has it."""
+    """The slice of a name in the folder, as the man page has it."""
     first = hashlib.sha256(FOLDER.encode() + b"\0" + name.encode()).digest()[:8]
     return 1 + int.from_bytes(first, "big") % SLICES
 
