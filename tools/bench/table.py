@@ -1,6 +1,6 @@
 #!/usr/bin/env python3
-"""table.py: writes the table of README.md anew: of each figure in results.csv the newest line. 'table.py --check' only says
-whether it is current."""
+"""table.py: writes the table of README.md anew: of each figure of asked.csv the newest line of results.csv, beside what is
+asked. 'table.py --check' only says whether it is current. 'table.py --all' prints the newest line of every figure."""
 
 import csv
 import sys
@@ -11,34 +11,52 @@ HERE = Path(__file__).resolve().parent
 BEGIN, END = "<!-- table.py writes from here -->\n", "<!-- to here -->\n"
 
 
+def lines_of(name):
+    """The lines of a table of this folder."""
+    with (HERE / name).open(newline="") as file:
+        return list(csv.DictReader(file))
+
+
 def newest():
-    """The newest line of each figure; the figures of a command side by side, in the order in which they first came."""
-    found, commands = {}, {}
-    with (HERE / "results.csv").open(newline="") as file:
-        for row in csv.DictReader(file):
-            commands.setdefault(row["command"], len(commands))
-            found[row["command"], row["figure"]] = row
-    return sorted(found.values(), key=lambda row: commands[row["command"]])
+    """The newest line of each figure, by its command and figure."""
+    return {(row["command"], row["figure"]): row for row in lines_of("results.csv")}
 
 
-def table():
-    """The table's lines."""
-    lines = ["| Command | Figure | Value | Measured |", "|---|---|---|---|"]
-    for command, rows in groupby(newest(), key=lambda row: row["command"]):
+def measured(row):
+    """When and where a figure was measured."""
+    return ", ".join(part for part in (row["date"], row["revision"], row["circumstances"]) if part)
+
+
+def every_figure():
+    """The newest lines, those of a command side by side, in the order in which the commands first came."""
+    found = newest()
+    first = {command: place for place, (command, _) in reversed(list(enumerate(found)))}
+    return sorted(found.values(), key=lambda row: first[row["command"]])
+
+
+def table(asked, found):
+    """The table's lines: what is asked, and what was measured last."""
+    lines = ["| Command | Figure | Asked | Value | Measured |", "|---|---|---|---|---|"]
+    for command, rows in groupby(asked, key=lambda row: row["command"]):
         first = f"`{command}`"
         for row in rows:
-            where = ", ".join(part for part in (row["date"], row["revision"], row["circumstances"]) if part)
-            lines.append(f"| {first} | {row['figure']} | {row['value']} {row['unit']} | {where} |".replace("  ", " "))
+            line = found[row["command"], row["figure"]]
+            value = f"{line['value']} {line['unit']}".strip()
+            lines.append(f"| {first} | {row['figure']} | {row['asked']} | {value} | {measured(line)} |".replace("  ", " "))
             first = ""
     return "\n".join(lines) + "\n"
 
 
 def main():
+    if sys.argv[1:] == ["--all"]:
+        for row in every_figure():
+            print(f"{row['command']}: {row['figure']}: {row['value']} {row['unit']} ({measured(row)})")
+        return 0
     page = HERE / "README.md"
     text = page.read_text()
     before, _, rest = text.partition(BEGIN)
     after = rest.partition(END)[2]
-    made = before + BEGIN + table() + END + after
+    made = before + BEGIN + table(lines_of("asked.csv"), newest()) + END + after
     if sys.argv[1:] == ["--check"]:
         return int(made != text)
     page.write_text(made)
