@@ -1,11 +1,9 @@
-"""What the pages say, beside the schemas, the definitions and the code: members, numbers, reasons."""
+"""What the pages say, beside the definitions and the code: numbers, reasons. And whether the schemas describe each member."""
 
 import json
 import re
 
-TABLES = {"Member of the document": None, "Member of the cut": "cut", "Member of a device": "device", "Member of a view": "view",
-          "Member of a link": "link", "Member of a message": "message"}
-UNDER = {"Records": ("check-document", "record"), "Nodes": ("check-document", "node"), "The scenario": ("scenario", None)}
+SCHEMAS = ("check-document", "explanation", "scenario")
 
 
 def tables(text):
@@ -21,31 +19,24 @@ def tables(text):
             heading = line.lstrip("# ")
 
 
-def quoted(cell):
-    return set(re.findall(r"`([^`]+)`", cell))
+def undescribed(schema):
+    """The members in a schema's objects that neither they themselves nor what they refer to describe."""
+    def is_described(member):
+        name = member.get("$ref", "").removeprefix("#/$defs/")
+        return "description" in member or name and is_described(schema["$defs"][name])
 
+    def look(value, name):
+        if isinstance(value, list):
+            for item in value:
+                yield from look(item, name)
+        if isinstance(value, dict):
+            # what forbids further members is where they are told; elsewhere one is only narrowed
+            if value.get("additionalProperties") is False:
+                yield from (f"{name}: {member}" for member, of in value["properties"].items() if not is_described(of))
+            for inner, of in value.items():
+                yield from look(of, inner)
 
-def schema_of(docs, file, name):
-    """An object of a schema."""
-    schema = json.loads((docs / f"{file}.schema.json").read_text())
-    return schema["$defs"][name] if name else schema
-
-
-def members(docs, text):
-    """For each table of members: what it is of, the members and those that must be there, by the page and by the schema."""
-    for heading, head, rows in tables(text):
-        if head[0] in TABLES:
-            file, name = "check-document", TABLES[head[0]]
-        elif head[0] == "Member" and heading in UNDER:
-            file, name = UNDER[heading]
-        else:
-            continue
-        schema = schema_of(docs, file, name)
-        said = set().union(*(quoted(row[0]) for row in rows))
-        yield f"{file} {name or 'as a whole'}", said, set(schema["properties"])
-        if "Default" in head and name != "node":
-            needed = set().union(*(quoted(row[0]) for row in rows if row[-1] == "must be there"))
-            yield f"what must be there of {name}", needed, set(schema["required"])
+    yield from look(schema, "")
 
 
 def numbers(crates, text):
@@ -72,10 +63,13 @@ def reasons(crates, text):
 
 
 def check(count, top):
-    """Counts what the pages say as the schemas and the definitions do."""
+    """Counts what the pages say as the definitions do, and which schemas describe all of their members."""
     text = (top / "docs/documents.md").read_text()
-    found = [*members(top / "docs", text), *numbers(top / "crates", text),
+    for name in SCHEMAS:
+        lacks = list(undescribed(json.loads((top / "docs" / f"{name}.schema.json").read_text())))
+        count.says(f"docs/{name}.schema.json: descriptions", f"nothing describes {', '.join(lacks)}" if lacks else "")
+    found = [*numbers(top / "crates", text),
              *reasons(top / "crates", (top / "docs/reasons.md").read_text())]
-    count.says("docs/documents.md: tables", "" if len(found) == 20 else f"{len(found)} things are compared")
+    count.says("docs/documents.md: tables", "" if len(found) == 5 else f"{len(found)} things are compared")
     for what, told, right in found:
         count.says(f"docs: {what}", "" if told == right else f"the page has {told}, and not {right}")
