@@ -1,9 +1,9 @@
 #!/usr/bin/env python3
 """pages.py: says whether the pages that are written by hand fit one another and the code: each link leads to a file and a
-heading, and each path in code is there; developing.md's map has each crate as crates.txt does, the functions on its three
-ways are there, and its counts are theirs; trust.md is short, and has no name or test that isn't there; each row of
-SECURITY.md names tests that are there; documents.md has the schemas' members and the numbers of refusals, and reasons.md
-the reasons (documented.py); README.md is one screen, of at most 500 words. The last line is 'N passed, M failed'."""
+heading, and each path in code is there; crates.txt says what each crate is about; the functions on developing.md's three ways
+are there, and its counts are theirs; trust.md is short, and has no name or test that isn't there; each row of SECURITY.md
+names tests that are there; documents.md has the numbers of refusals, reasons.md the reasons, and the schemas describe their
+members (documented.py); README.md is one screen, of at most 500 words. The last line is 'N passed, M failed'."""
 
 import re
 import subprocess
@@ -122,22 +122,12 @@ def subjects(text):
     found, heading, about = {}, "", ""
     for line in text.splitlines():
         if line.startswith("# == "):
-            heading = line.removeprefix("# == ")
+            heading, about = line.removeprefix("# == "), ""
         elif line.startswith("# "):
             about = line.removeprefix("# ")
         elif ":" in line:
             found[line.partition(":")[0]] = (heading, about)
-    return found
-
-
-def on_map(text):
-    """The crates of developing.md's map, likewise."""
-    found, heading = {}, ""
-    for row in rows(text.partition("| Crate | What it is about |")[2].partition("\n\n")[0]):
-        if row[0].startswith("**"):
-            heading = row[0].strip("*")
-        elif row[0].startswith("`"):
-            found[row[0].strip("`")] = (heading, row[1])
+            about = ""
     return found
 
 
@@ -150,10 +140,9 @@ def main():
     words = len((TOP / "README.md").read_text().split())
     count.says("README.md: length", "" if words <= MOST_OF_README else f"{words} words are more than {MOST_OF_README}")
     developing = (TOP / "docs/developing.md").read_text()
-    crates, mapped = subjects((TOP / "crates.txt").read_text()), on_map(developing)
-    for crate in sorted(crates.keys() | mapped.keys()):
-        count.says(f"docs/developing.md: {crate}", "" if crates.get(crate) == mapped.get(crate) else
-                   "its row of the map isn't what crates.txt says of it")
+    crates = subjects((TOP / "crates.txt").read_text())
+    for crate, (heading, about) in sorted(crates.items()):
+        count.says(f"crates.txt: {crate}", "" if heading and about else "it has no heading, or nothing says what it is about")
     check_trust(count, crates)
     is_current = subprocess.run([TOP / "tools/bench/table.py", "--check"]).returncode == 0
     count.says("tools/bench/README.md: table", "" if is_current else "it isn't that of results.csv: run tools/bench/table.py")
