@@ -4,7 +4,6 @@ import (
 	"fmt"
 	"net/http"
 	"net/http/httptest"
-	"os"
 	"strings"
 	"testing"
 
@@ -78,36 +77,5 @@ func TestAddressesOfThisMachine(t *testing.T) {
 		if is := localAddress(config.GUIConfiguration{RawAddress: address}); is != local {
 			t.Errorf("%s: %s, not %s", address, is, local)
 		}
-	}
-}
-
-// No connection is left open, whatever comes of a question.
-func TestNoConnectionIsLeft(t *testing.T) {
-	sockets := func() int {
-		entries, err := os.ReadDir("/proc/self/fd")
-		if err != nil {
-			t.Skip(err)
-		}
-		count := 0
-		for _, entry := range entries {
-			if to, err := os.Readlink("/proc/self/fd/" + entry.Name()); err == nil && strings.HasPrefix(to, "socket:") {
-				count++
-			}
-		}
-		return count
-	}
-	refused := Syncthing{Home: homeOf(t), GUI: config.GUIConfiguration{APIKey: "key"}} // nobody runs there
-	server := httptest.NewServer(http.NotFoundHandler())
-	defer server.Close()
-	refused.GUI.RawAddress = server.Listener.Addr().String()
-	before := sockets()
-	for try := 0; try < 5; try++ {
-		if err := refused.Scan("docs", ""); err == nil {
-			t.Fatal("a stranger is asked")
-		}
-	}
-	server.CloseClientConnections()
-	if after := sockets(); after > before {
-		t.Errorf("%d sockets are open, and %d were", after, before)
 	}
 }

@@ -140,10 +140,12 @@ func (s Syncthing) ask(method, what string, most time.Duration) (*http.Response,
 // stay follows no redirection: the key would go with it.
 func stay(*http.Request, []*http.Request) error { return http.ErrUseLastResponse }
 
-// transport gives how Syncthing is spoken to: at its own address alone, and where it is seen to be this home's, with TLS by its certificate.
+// transport gives how Syncthing is spoken to: at its own address alone, and where it is seen to be this home's, with TLS by its certificate. Each
+// question has a connection of its own, which ends with the answer: one that is kept would stay open on both sides.
 func (s Syncthing) transport() *http.Transport {
 	return &http.Transport{
-		DialContext: func(ctx context.Context, _, _ string) (net.Conn, error) { return s.dial(ctx) },
+		DisableKeepAlives: true,
+		DialContext:       func(ctx context.Context, _, _ string) (net.Conn, error) { return s.dial(ctx) },
 		TLSClientConfig: &tls.Config{InsecureSkipVerify: true, VerifyPeerCertificate: func(raw [][]byte, _ [][]*x509.Certificate) error {
 			return checkCertificate(filepath.Join(s.Home, "https-cert.pem"), raw)
 		}},
