@@ -2,10 +2,11 @@
 // and runs the package's tests. No file is changed: the compiler is given the changed files in place of the others. It compiles
 // the tests once with nearly all mutants, each behind a switch, and runs for each mutant the tests that come to it.
 //
-//	tools/mutants/run [--turn K/N] [--sample N] [--seconds S] [--jobs N] PACKAGE..
+//	tools/mutants/run [--turn K/N] [--sample N [--seed S]] [--seconds S] [--jobs N] PACKAGE..
 //
 // Each mutant that all tests let pass is printed with file, line and change. One that stands in same.txt, with the reason why
-// nobody could see it, isn't counted. The last line is 'N passed, M failed'. A mutant that a test sees has passed.
+// nobody could see it, isn't counted. A line there of a package that is tried, and that names none of its mutants, has failed.
+// The last line is 'N passed, M failed'. A mutant that a test sees has passed.
 package main
 
 import (
@@ -23,6 +24,7 @@ import (
 type asked struct {
 	turn, turns int
 	sample      int
+	seed        int64 // another one chooses another sample
 	until       time.Time
 	jobs        int
 	most        float64 // how many of a hundred mutants may survive
@@ -32,12 +34,13 @@ type asked struct {
 func main() {
 	turn := flag.String("turn", "1/1", "only each N-th mutant, from the K-th on")
 	sample := flag.Int("sample", 0, "so many mutants of each package, chosen by chance; 0 is all")
+	seed := flag.Int64("seed", 0, "another one chooses another sample")
 	seconds := flag.Int("seconds", 0, "begin no mutant after so many seconds")
 	jobs := flag.Int("jobs", 2, "how many at once")
 	most := flag.Float64("most", 5, "how many of a hundred mutants may survive")
 	same := flag.String("same", "", "the file of mutants that are the same program")
 	flag.Parse()
-	given := asked{sample: *sample, jobs: *jobs, most: *most}
+	given := asked{sample: *sample, seed: *seed, jobs: *jobs, most: *most}
 	if _, err := fmt.Sscanf(*turn, "%d/%d", &given.turn, &given.turns); err != nil || given.turn < 1 || given.turn > given.turns {
 		fail(fmt.Errorf("--turn is K/N, with K from 1 to N"))
 	}
@@ -55,10 +58,9 @@ func main() {
 			fail(err)
 		}
 		skipped += counts.left
-		if counts.isEnough(given.most) {
-			passed += counts.seen
-		} else {
-			passed += counts.seen
+		passed += counts.seen
+		failed += counts.stale
+		if !counts.isEnough(given.most) {
 			failed += counts.survived
 		}
 		fmt.Printf("%s: %d mutants seen, %d survived (%.1f %%), %d the same, %d not compiled, %d not begun\n", path, counts.seen, counts.survived,
@@ -106,7 +108,7 @@ func readSame(path string) (map[string]bool, error) {
 }
 
 // counts is how many mutants of a package had which outcome.
-type counts struct{ seen, survived, same, notCompiled, left int }
+type counts struct{ seen, survived, same, notCompiled, left, stale int }
 
 // isEnough says whether so few survived that the package counts as tested.
 func (c counts) isEnough(most float64) bool {
@@ -140,7 +142,29 @@ func judge(path string, given asked) (counts, error) {
 	if err != nil {
 		return counts{}, err
 	}
-	return tryAll(on, due, given)
+	counts, err := tryAll(on, due, given)
+	for _, line := range staleOf(path, given.same, due) {
+		counts.stale++
+		fmt.Printf("same.txt has no mutant of that name: %s\n", line)
+	}
+	return counts, err
+}
+
+// staleOf gives what same.txt has of a package and none of its mutants is, rising.
+func staleOf(path string, same map[string]bool, all []keyed) []string {
+	isThere := map[string]bool{}
+	for _, found := range all {
+		isThere[found.name] = true
+	}
+	var stale []string
+	for line := range same {
+		file, _, _ := strings.Cut(line, " ")
+		if file[:strings.LastIndex(file, "/")+1] == path+"/" && !isThere[line] {
+			stale = append(stale, line)
+		}
+	}
+	sort.Strings(stale)
+	return stale
 }
 
 // benchOf compiles the package's tests with all mutants, and finds which test comes to which.
@@ -226,7 +250,7 @@ func (a *asked) chosen(count int) []int {
 	if a.sample == 0 || a.sample >= len(places) {
 		return places
 	}
-	rand.New(rand.NewSource(int64(count))).Shuffle(len(places), func(i, j int) { places[i], places[j] = places[j], places[i] })
+	rand.New(rand.NewSource(int64(count)+a.seed)).Shuffle(len(places), func(i, j int) { places[i], places[j] = places[j], places[i] })
 	places = places[:a.sample]
 	sort.Ints(places)
 	return places

@@ -5,6 +5,7 @@ import (
 	"os"
 	"path/filepath"
 	"reflect"
+	"strings"
 	"testing"
 )
 
@@ -75,6 +76,50 @@ func TestAMutantThatIsTheSameHasAReason(t *testing.T) {
 		}
 		if _, err := readSame(file); (err == nil) != is {
 			t.Errorf("%q: %v", text, err)
+		}
+	}
+}
+
+// A line of a package that names none of its mutants is stale; those of others, also of packages within it, aren't looked at.
+func TestStaleLines(t *testing.T) {
+	same := map[string]bool{"a/p/x.go f: one more: 0": true, "a/p/x.go f: one more: 1": true, "a/p/q/x.go f: one more: 0": true, "a/x.go f: one more: 0": true, "odd": true}
+	if stale := staleOf("a/p", same, []keyed{{name: "a/p/x.go f: one more: 1"}}); !reflect.DeepEqual(stale, []string{"a/p/x.go f: one more: 0"}) {
+		t.Errorf("%q", stale)
+	}
+}
+
+// A sample is the same one each time, and another one by another seed.
+func TestSamples(t *testing.T) {
+	one := asked{turn: 1, turns: 1, sample: 10}
+	other := one
+	other.seed = 1
+	if first := one.chosen(1000); len(first) != 10 || !reflect.DeepEqual(first, one.chosen(1000)) || reflect.DeepEqual(first, other.chosen(1000)) {
+		t.Errorf("%v", first)
+	}
+}
+
+// Each line of same.txt names a mutant that is there. It needs the packages' sources where 'go list' finds them, as 'run' sets it.
+func TestEachLineNamesAMutant(t *testing.T) {
+	same, err := readSame("same.txt")
+	if err != nil {
+		t.Fatal(err)
+	}
+	packages := map[string]bool{}
+	for line := range same {
+		file, _, _ := strings.Cut(line, " ")
+		packages[filepath.Dir(file)] = true
+	}
+	for path := range packages {
+		of, err := load(path)
+		if err != nil {
+			t.Skip(err)
+		}
+		all, err := of.mutants()
+		if err != nil {
+			t.Fatal(err)
+		}
+		for _, line := range staleOf(path, same, all) {
+			t.Error(line)
 		}
 	}
 }
