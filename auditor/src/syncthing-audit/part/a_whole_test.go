@@ -13,6 +13,8 @@ var (
 	thisDevice  = protocol.DeviceID{7: 1}.String()
 	otherDevice = protocol.DeviceID{7: 2}.String()
 	thirdDevice = protocol.DeviceID{7: 3}.String()
+
+	fourthDevice = protocol.DeviceID{7: 4}.String()
 )
 
 // aWhole is a part with all that a name may have, by the places of its lines: 0 begins docs; 1 is a file whose blocks differ, 2 a directory,

@@ -4,6 +4,7 @@ import (
 	"bufio"
 	"bytes"
 	"compress/gzip"
+	"fmt"
 	"io"
 	"reflect"
 	"strings"
@@ -51,14 +52,32 @@ func TestWhatIsReadAhead(t *testing.T) {
 		}
 		ahead.Close()
 	}
-	reader, err := NewReader(bytes.NewReader(good.written(t)))
-	if err != nil {
-		t.Fatal(err)
+}
+
+// Who closes a reader ahead, having taken few lines or none, doesn't wait for the rest of the part.
+func TestWhatIsReadAheadIsClosed(t *testing.T) {
+	long := aPart()
+	begin, end := long.lines[:1:1], []Line{{End: &End{Folder: "docs", Names: 50 * linesAhead, Max: 9}}, long.lines[7], long.lines[8]}
+	for number := 0; number < 50*linesAhead; number++ {
+		begin = append(begin, Line{Name: &Name{Name: Bytes(fmt.Sprintf("%05d", number)), Out: []LeftOut{{Kind: Special, Why: "x"}}}})
 	}
-	unread := NewAhead(reader)
-	unread.Close() // ends though nobody took a line
-	if _, isOpen := <-unread.lines; isOpen {
-		t.Error("it still reads")
+	long.lines = append(begin, end...)
+	written := long.written(t)
+	for taken := 0; taken < 2; taken++ {
+		reader, err := NewReader(bytes.NewReader(written))
+		if err != nil {
+			t.Fatal(err)
+		}
+		ahead := NewAhead(reader)
+		for line := 0; line < taken; line++ {
+			if _, err := ahead.Next(); err != nil {
+				t.Error(err)
+			}
+		}
+		ahead.Close()
+		if _, isOpen := <-ahead.lines; isOpen || reader.count > 25*linesAhead {
+			t.Errorf("it still reads, or has read %d lines", reader.count)
+		}
 	}
 }
 

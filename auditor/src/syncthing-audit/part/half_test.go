@@ -2,6 +2,8 @@ package part
 
 import (
 	"bytes"
+	"math"
+	"reflect"
 	"strings"
 	"testing"
 	"time"
@@ -47,6 +49,7 @@ func TestHeadsOfDisks(t *testing.T) {
 		"times of whole days":        {func(h *Head) { h.Half.Resolution = 86400e9 }, "of its system"},
 		"times of no length":         {func(h *Head) { h.Half.Resolution = 0 }, "of its system"},
 		"coarse times on Linux":      {func(h *Head) { h.Half.Resolution = 100 }, "of its system"},
+		"one size of blocks twice":   {func(h *Head) { h.Half.BlockSizes = []int64{bep.MinBlockSize, bep.MinBlockSize} }, "no size of blocks"},
 		"blocks of no size":          {func(h *Head) { h.Half.BlockSizes = []int64{1} }, "no size of blocks"},
 		"blocks out of their places": {func(h *Head) { h.Half.BlockSizes = []int64{2 * bep.MinBlockSize, bep.MinBlockSize} }, "no size of blocks"},
 		"no folder":                  {func(h *Head) { h.Folders = nil }, "no folder"},
@@ -54,6 +57,9 @@ func TestHeadsOfDisks(t *testing.T) {
 		"a folder of a kind":         {func(h *Head) { h.Folders[0].Kind = "send-only" }, "in part"},
 		"a folder with a window":     {func(h *Head) { h.Folders[0].TimeWindow = 2 }, "in part"},
 		"a folder at rest":           {func(h *Head) { h.Folders[0].Rest = &Rest{State: RestIdle} }, "in part"},
+		"a folder with options":      {func(h *Head) { h.Folders[0].Options = &Options{} }, "in part"},
+		"a window below 0":           {func(h *Head) { configured(&h.Folders[0]).TimeWindow = -1 }, "in part"},
+		"a window that is too long":  {func(h *Head) { configured(&h.Folders[0]).TimeWindow = math.MaxInt32 + 1 }, "in part"},
 		"a folder of another kind": {func(h *Head) {
 			h.Folders[0].Kind, h.Folders[0].Rest, h.Folders[0].Options = KindEncrypted, &Rest{State: RestIdle}, &Options{}
 		}, "its kind is"},
@@ -65,6 +71,63 @@ func TestHeadsOfDisks(t *testing.T) {
 		one.change(head)
 		if err := checkHead(head); err == nil || !strings.Contains(err.Error(), one.told) {
 			t.Errorf("%s: %v", what, err)
+		}
+	}
+}
+
+// configured gives a folder what is configured of it.
+func configured(one *Folder) *Folder {
+	one.Kind, one.Rest, one.Options = "send-receive", &Rest{State: RestIdle}, &Options{}
+	return one
+}
+
+// A head of disks may come up to each limit, and what a program says of its own system is what another one knows of.
+func TestWhatAHeadOfDisksMayHave(t *testing.T) {
+	sizes := []int64{4 * bep.MinBlockSize, bep.MinBlockSize, 4 * bep.MinBlockSize}
+	for what, change := range map[string]func(*Head){
+		"a configuration":          func(h *Head) { configured(&h.Folders[0]) },
+		"the longest window":       func(h *Head) { configured(&h.Folders[0]).TimeWindow = math.MaxInt32 },
+		"times of whole seconds":   func(h *Head) { h.Half.Resolution = 1e9 },
+		"as many patterns":         func(h *Head) { h.Folders[0].Ignores.Lines = make([]string, mostIgnoreLines) },
+		"blocks in any order":      func(h *Head) { h.Half = NewHalf(someWalk, someLook, "linux", sizes) },
+		"Windows, as it is walked": func(h *Head) { h.Half = NewHalf(someWalk, someLook, "windows", sizes) },
+	} {
+		head := headOfDisks()
+		change(head)
+		if err := checkHead(head); err != nil {
+			t.Errorf("%s: %v", what, err)
+		}
+	}
+	if made := NewHalf(someWalk, someLook, "linux", sizes); made.Resolution != 1 || made.NoModes || !reflect.DeepEqual(sizes, []int64{4 * bep.MinBlockSize, bep.MinBlockSize, 4 * bep.MinBlockSize}) {
+		t.Errorf("%+v", made)
+	}
+}
+
+// What isn't seen of a device over the wire and on its disks together is told by what its disks and its configuration say.
+func TestWhatIsStillUnseen(t *testing.T) {
+	for _, one := range []struct {
+		system     string
+		configured []bool
+		unseen     []string
+	}{
+		{"linux", []bool{true}, []string{}},
+		{"linux", []bool{true, true}, []string{}},
+		{"linux", []bool{false}, []string{UnseenKind, UnseenScans}},
+		{"linux", []bool{false, true}, []string{UnseenKind, UnseenScans}},
+		{"linux", []bool{true, false}, []string{UnseenKind, UnseenScans}},
+		{"windows", []bool{true}, []string{UnseenPermissions}},
+		{"windows", []bool{false}, []string{UnseenKind, UnseenPermissions, UnseenScans}},
+	} {
+		head := &Head{Half: NewHalf(someWalk, someLook, one.system, nil)}
+		for _, is := range one.configured {
+			folder := Folder{}
+			if is {
+				configured(&folder)
+			}
+			head.Folders = append(head.Folders, folder)
+		}
+		if unseen := head.StillUnseen(); !reflect.DeepEqual(unseen, one.unseen) {
+			t.Errorf("%+v: %q", one, unseen)
 		}
 	}
 }
@@ -119,8 +182,21 @@ func TestNamesOfDisks(t *testing.T) {
 			t.Errorf("%s is read", what)
 		}
 	}
-	if checkHalfName(file(), NewHalf(someWalk, someLook, "windows", nil)) == nil {
+	windows := NewHalf(someWalk, someLook, "windows", nil)
+	if checkHalfName(file(), windows) == nil {
 		t.Error("modes of Windows are read")
+	}
+	for _, permissions := range []uint32{0, 1} {
+		plain := file()
+		if plain.Disk.Permissions = permissions; (checkHalfName(plain, windows) == nil) != (permissions == 0) {
+			t.Errorf("on Windows, permissions %d", permissions)
+		}
+	}
+	for size, is := range map[int64]bool{bep.BlockSize(1 << 40): true, 8 * bep.MinBlockSize: true, 4 * bep.MinBlockSize: false} {
+		large := &Name{Name: "a", Disk: &Node{Size: 1 << 40, Contents: []Content{{Size: 1 << 40, BlockSize: size}}}}
+		if (checkHalfName(large, NewHalf(someWalk, someLook, "linux", []int64{8 * bep.MinBlockSize})) == nil) != is {
+			t.Errorf("blocks of %d bytes", size)
+		}
 	}
 }
 

@@ -215,7 +215,7 @@ func checkName(one *Name, in *Folder, hasBytes bool) error {
 	if one.Disk == nil {
 		return nil
 	}
-	err := checkNode(one.Disk, len(one.Out) > 0 || len(one.Moved) > 0, hasBytes)
+	err := checkNode(one.Disk, len(one.Out) > 0, hasBytes)
 	if err == nil && one.Disk.Differ != nil {
 		err = checkDiffer(one)
 	}

@@ -26,12 +26,14 @@ func TestWhatAPartMayHave(t *testing.T) {
 		"a file that is empty":       func(w *aWhole) { emptied(w, protocol.MinBlockSize) },
 		"a block as long as any":     func(w *aWhole) { emptied(w, math.MaxInt32) },
 		"a window of 68 years":       func(w *aWhole) { w.head.Folders[0].TimeWindow = math.MaxInt32 },
+		"a view of nothing yet":      func(w *aWhole) { w.head.Folders[0].Views = append(w.head.Folders[0].Views, View{Device: fourthDevice}) },
 		"a count":                    func(w *aWhole) { w.head.Folders[0].Indexed = 8 },
 		"what can't be read of it":   func(w *aWhole) { w.name(1).Disk.Unread = w.name(1).Disk.Size },
 		"all blocks differ":          func(w *aWhole) { w.name(1).Disk.Differ = &Differ{Count: 3, Ranges: [][2]int64{{0, 2}}} },
 		"more blocks than are told":  manyDiffer,
 		"a name that isn't UTF-8":    func(w *aWhole) { w.name(5).Name = "\xff" },
-		"a disk of what is left out": func(w *aWhole) { w.name(5).Disk = &Node{Size: 5} },
+		"an odd name that is empty":  func(w *aWhole) { w.lines[1].Name = &Name{Out: []LeftOut{{Kind: OddName, Why: "x"}}} },
+		"a disk of what is left out": func(w *aWhole) { w.name(5).Out, w.name(5).Disk = w.name(5).Out[:1], &Node{Size: 5} },
 		"a symlink without a target": func(w *aWhole) { w.name(5).Disk = &Node{Type: symlink} },
 		"a name of two looks": func(w *aWhole) {
 			looking(lookID)(w)
@@ -369,31 +371,4 @@ func (s *small) Write(data []byte) (int, error) {
 	}
 	s.room -= len(data)
 	return len(data), nil
-}
-
-// Hashes and names as text: each length but the right one is refused.
-func TestTextsOfHashesAndNames(t *testing.T) {
-	text, err := (Hash{1, 31: 0xff}).MarshalText()
-	var hash Hash
-	if err != nil || hash.UnmarshalText(text) != nil || hash != (Hash{1, 31: 0xff}) {
-		t.Errorf("%s: %v", text, hash)
-	}
-	for _, wrong := range []string{"", string(text[1:]), string(text) + "0", "x" + string(text[1:])} {
-		if hash.UnmarshalText([]byte(wrong)) == nil {
-			t.Errorf("%s is read as a hash", wrong)
-		}
-	}
-	for _, name := range []Bytes{"", "a", "\xff\x00a", "\"", "ü"} {
-		var read Bytes
-		text, err := name.MarshalJSON()
-		if err != nil || read.UnmarshalJSON(text) != nil || read != name {
-			t.Errorf("%q: %s is read as %q", name, text, read)
-		}
-	}
-	for _, wrong := range []string{"", "1", `{"hex":"x"}`, `"`} {
-		var read Bytes
-		if read.UnmarshalJSON([]byte(wrong)) == nil {
-			t.Errorf("%s is read as %q", wrong, read)
-		}
-	}
 }
