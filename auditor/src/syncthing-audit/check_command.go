@@ -48,6 +48,7 @@ func checkDevices(asked options, output, log io.Writer) (int, error) {
 		return 0, err
 	}
 	defer kept.close()
+	opened.tellLeft(log)
 	if asked.lines {
 		tellDevices(log, opened.devices)
 	}
@@ -60,7 +61,7 @@ func checkDevices(asked options, output, log io.Writer) (int, error) {
 
 // answerOf audits what was opened.
 func answerOf(opened *inputs, asked options, program ask.Program) (*finding.Answer, error) {
-	plan, err := join.NewPlanWithout(opened.unreached, opened.devices, asked.folders, asked.knownObservers()...)
+	plan, err := join.NewPlanWithout(whyLeft(opened.left), opened.devices, asked.folders, asked.knownObservers()...)
 	if err != nil {
 		return nil, err
 	}
@@ -79,6 +80,7 @@ func answerOf(opened *inputs, asked options, program ask.Program) (*finding.Answ
 	if err != nil {
 		return nil, err
 	}
+	addLeft(answer, opened.left)
 	return answer, replies.AddTo(answer)
 }
 

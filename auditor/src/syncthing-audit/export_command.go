@@ -28,6 +28,7 @@ func runExport(words []string, output, log io.Writer) (int, error) {
 	if err := checkPlace(to, opened); err != nil {
 		return 0, err
 	}
+	opened.tellLeft(log)
 	tellDevices(log, opened.devices)
 	answer, err := opened.audited(asked, log, func() (*finding.Answer, error) { return export(opened, asked, to) })
 	if err == nil {
@@ -77,9 +78,13 @@ func readExportOptions(words []string, output io.Writer) (options, error) {
 
 // export writes the documents of what was opened, and gives what no document says.
 func export(opened *inputs, asked options, to *outlet) (*finding.Answer, error) {
-	plan, err := join.NewPlan(opened.devices, asked.folders, asked.knownObservers()...)
+	plan, err := join.NewPlanWithout(whyLeft(opened.left), opened.devices, asked.folders, asked.knownObservers()...)
 	if err != nil {
 		return nil, err
 	}
-	return audit.Collect(plan, opened.auditOptions(asked), to.take)
+	answer, err := audit.Collect(plan, opened.auditOptions(asked), to.take)
+	if err == nil {
+		addLeft(answer, opened.left)
+	}
+	return answer, err
 }

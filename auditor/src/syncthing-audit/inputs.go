@@ -21,12 +21,13 @@ import (
 // inputs are the homes and parts that are read, to be closed.
 type inputs struct {
 	devices []*join.Device
-	homes   []*device.Home
+	homes   []*device.Home // those that are left out, too, as far as their configuration is read
 	pool    *disk.Pool
 	work    work
 	closers []func()
 
-	unreached map[string]string // why devices weren't reached, by their ids
+	left   []leftPlace // homes and machines that are left out
+	failed error       // why the first home is left out
 }
 
 // skip has no bytes read from now on.
@@ -85,39 +86,49 @@ func openInputs(asked options) (*inputs, error) {
 }
 
 func (i *inputs) open(asked options) error {
-	var homes []*device.Home
+	homes := []*device.Home{}
 	for place, dir := range asked.homes {
-		home, err := device.Open(dir, asked.data[place])
+		home, err := i.openHome(asked, dir, asked.data[place])
 		if err != nil {
 			return err
 		}
-		i.closers = append(i.closers, home.Close)
-		homes = append(homes, home)
+		if home != nil {
+			homes = append(homes, home)
+		}
 	}
-	i.homes = homes
 	if err := i.openParts(asked.parts, asked.signers); err != nil {
 		return err
+	}
+	if len(homes)+len(i.devices) == 0 {
+		return i.failed
 	}
 	if err := i.checkNames(asked.names); err != nil {
 		return err
 	}
-	labels := folderLabels(homes, i.devices)
-	if err := i.checkInParts(labels, asked.folders); err != nil {
+	if err := i.checkWanted(homes, asked.folders); err != nil {
 		return err
-	}
-	if err := join.CheckWanted(labels, asked.folders); err != nil {
-		return fmt.Errorf("refused: %w", err)
 	}
 	asked.paths = true // they are homes of this machine
 	for _, home := range homes {
-		read, err := i.deviceOf(home, asked)
-		if err != nil {
+		if err := i.addHome(asked, home); err != nil {
 			return err
 		}
-		stream := read.Stream()
-		i.closers = append(i.closers, stream.Close)
-		i.devices = append(i.devices, join.NewDevice(stream, home.Dir))
 	}
+	if len(i.devices) == 0 {
+		return i.failed
+	}
+	return nil
+}
+
+// addHome adds the device of a home, unless its indexes can't be opened.
+func (i *inputs) addHome(asked options, home *device.Home) error {
+	read, err := i.deviceOf(home, asked)
+	if err != nil {
+		return i.orLeaveOut(asked, home.Dir, err)
+	}
+	stream := read.Stream()
+	i.closers = append(i.closers, stream.Close)
+	i.devices = append(i.devices, join.NewDevice(stream, home.Dir))
 	return nil
 }
 
@@ -189,10 +200,13 @@ func (i *inputs) deviceOf(home *device.Home, asked options) (*gather.Device, err
 	sort.Slice(folders, func(a, b int) bool { return folders[a].ID < folders[b].ID })
 	for _, one := range folders {
 		index, err := home.Index(one)
+		if err == nil {
+			i.closers = append(i.closers, index.Close)
+			_, err = index.Patterns() // before anything is hashed
+		}
 		if err != nil {
 			return nil, fmt.Errorf("%s: %w", home.Dir, shell.Labelled(err, one.ID, one.Label))
 		}
-		i.closers = append(i.closers, index.Close)
 		i.work.toHash += index.Bytes()
 		made.Folders = append(made.Folders, index)
 	}

@@ -20,8 +20,7 @@ func becomeOwner(homes []string) error {
 	for _, home := range homes {
 		owner := ownerOf(home)
 		switch {
-		case owner == nil:
-			return nil // who reads the home says what is wrong with it
+		case owner == nil: // who reads the home says what is wrong with it
 		case first == nil:
 			first = owner
 		case owner.Uid != first.Uid:
@@ -29,7 +28,7 @@ func becomeOwner(homes []string) error {
 				shell.Quoted(home))
 		}
 	}
-	if first.Uid == 0 {
+	if first == nil || first.Uid == 0 {
 		return nil
 	}
 	if err := become(first); err != nil {

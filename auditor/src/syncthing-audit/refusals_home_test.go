@@ -48,6 +48,9 @@ var ofAHome = []aRefusal{
 	{"refused: %s: version %d is of a newer Syncthing than those that are read (up to %d)", "", func(t *testing.T, room string) []string {
 		return makingPart(reconfigured(t, `<configuration version="\d+"`, `<configuration version="9999"`), filepath.Join(room, "a.part"))
 	}},
+	{"refused: %w, and a home is left out: %v", "no index", func(t *testing.T, _ string) []string {
+		return []string{"check", "--folder", "pics", "--home", homeOf(t, "x", nil), "--home", unopenedHomes["no index"](t)}
+	}},
 	{"refused: the device has no folder", "", func(t *testing.T, room string) []string {
 		return makingPart(reconfigured(t, `(?s)<folder id="docs".*?</folder>`, ""), filepath.Join(room, "a.part"))
 	}},

@@ -325,12 +325,11 @@ func (r *running) answer(program ask.Program, output io.Writer) (int, error) {
 	if read.lines {
 		tellDevices(r.log, opened.devices)
 	}
-	opened.unreached = r.unreached()
+	opened.left = r.left()
 	answer, err := opened.audited(read, r.log, func() (*finding.Answer, error) { return answerOf(opened, read, program) })
 	if err != nil {
 		return 0, renamed(err, names)
 	}
-	r.addUnreached(answer)
 	r.time(answer)
 	return kept.tell(output, r.log, read, answer)
 }

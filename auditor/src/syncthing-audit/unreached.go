@@ -3,13 +3,10 @@ package main
 import (
 	"fmt"
 
-	"golang.org/x/exp/slices"
 	"syncthing-audit/audit"
-	"syncthing-audit/finding"
 	"syncthing-audit/join"
 	"syncthing-audit/outside"
 	"syncthing-audit/part"
-	"syncthing-audit/shell"
 )
 
 // endedCommand is why a command at a place gave nothing: the machine isn't reached, say, or the home there can't be audited. The other places go on.
@@ -60,31 +57,20 @@ func (r *running) checkPresent() error {
 	return fmt.Errorf("%w: each device is left out", audit.ErrNothing)
 }
 
-// unreached gives why places are left out, by the ids of their devices as far as these are known.
-func (r *running) unreached() map[string]string {
-	made := map[string]string{}
-	for at, why := range r.out {
-		one := r.places[at]
+// left gives the places that are left out.
+func (r *running) left() []leftPlace {
+	made := []leftPlace{}
+	for at, one := range r.places {
+		if !r.isOut(at) {
+			continue
+		}
 		id := one.device
 		if id == "" {
 			id = r.known.ids[atPlace(one)]
 		}
-		if id != "" {
-			made[id] = shell.Printable(why)
-		}
+		made = append(made, leftPlace{one.called(), id, r.out[at]})
 	}
 	return made
-}
-
-// addUnreached adds the places that are left out and of which no folder tells that, since their ids aren't known, say.
-func (r *running) addUnreached(answer *finding.Answer) {
-	for at, one := range r.places {
-		why := shell.Printable(r.out[at])
-		isTold := func(had finding.Refusal) bool { return had.Why == why }
-		if r.isOut(at) && slices.IndexFunc(answer.LeftOut, isTold) < 0 {
-			answer.LeftOut = append(answer.LeftOut, finding.Refusal{Kind: part.Absent, Device: one.called(), Why: why})
-		}
-	}
 }
 
 // leaveOutAway leaves out a place that has none of the wanted folders there, where that is since their directories aren't.
