@@ -16,6 +16,7 @@ complete -c syncthing-audit -l help -d 'Tell how to use the program'
 
 complete -c syncthing-audit -n "__fish_seen_subcommand_from part check observe export" -l home -x -a '(__fish_complete_directories)' -d 'The home of a device'
 complete -c syncthing-audit -n "__fish_seen_subcommand_from part check run export" -l data -x -a '(__fish_complete_directories)' -d 'Where the database of the home or device before is'
+complete -c syncthing-audit -n "__fish_seen_subcommand_from part check run export" -l map -x -d 'Where a path of its configuration is on its machine: FROM=TO'
 complete -c syncthing-audit -n "__fish_seen_subcommand_from part check run observe export find" -l folder -x -d 'Only this folder'
 complete -c syncthing-audit -n "__fish_seen_subcommand_from part check run observe disk export" -l names -x -d 'Only names that begin so'
 complete -c syncthing-audit -n "__fish_seen_subcommand_from part check run observe disk export" -l slice -x -d 'Only names of slice K of N: K/N'

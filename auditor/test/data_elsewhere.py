@@ -38,7 +38,7 @@ class DataElsewhere(Exporting):
         return path, run([self.program, "part", "--home", self.two.home, "-o", path, *words])
 
     def test_a_home_without_a_database_is_refused_with_the_flag(self):
-        for ran in (self.part_of_two()[1], self.check(), self.part_of_two("--begin")[1]):
+        for ran in (self.part_of_two()[1], self.check("--strict"), self.part_of_two("--begin")[1]):
             self.assertEqual(ran.returncode, 2, ran.stderr)
             self.assertIn(f"{self.two.home}: no index {INDEX}", ran.stderr)
             self.assertIn("name that behind the home as --data DIR: 'syncthing --paths' says where it is, with the same --home, --config and --data", ran.stderr)
@@ -56,7 +56,7 @@ class DataElsewhere(Exporting):
         documents = self.room / "documents"
         ran = run([self.program, "export", *homes, "--into", documents])
         self.assertEqual((ran.returncode, (documents / "cut-0001.json").exists()), (0, True), ran.stderr)
-        ran = run([self.program, "check", "--home", self.one.home, "--data", self.two.data, "--home", self.two.home, "--syncaudit", self.auditor])
+        ran = run([self.program, "check", "--home", self.one.home, "--data", self.two.data, "--home", self.two.home, "--strict", "--syncaudit", self.auditor])
         self.assertEqual(ran.returncode, 2)
         self.assertIn(f"{self.two.home}: no index {INDEX}", ran.stderr)
 

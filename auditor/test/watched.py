@@ -223,7 +223,7 @@ class Watched(Audited):
                   env={"HOME": str(self.user), "PATH": f"{self.tools}:{os.environ['PATH']}", "SYNCAUDIT": auditor()})
         self.assertEqual(ran.returncode, 6, ran.stderr)
         commented = re.findall(r"<!-- (<.*>) -->", example)
-        self.assertEqual(len(commented), 9)
+        self.assertEqual(len(commented), 10)
         for line in commented:
             self.assertRegex(line, "^<(device|folder|slices|notify|ping|metrics|parts|observed|state) ")
         for name in re.findall(r"auditor/nightly/([\w./-]+\w)", (CONTRIB / "README.md").read_text()):

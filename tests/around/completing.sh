@@ -52,7 +52,7 @@ while IFS='|' read -r words expected; do
 done << END
 ''|--help --version check disk export find observe part run sum watch
 ch|check
-part -|--about --begin --data --end --folder --heed-input --help --home --jobs --leave-out --names --observer --paths --rescan --sign --slice --still --strict --tokens -o
+part -|--about --begin --data --end --folder --heed-input --help --home --jobs --leave-out --map --names --observer --paths --rescan --sign --slice --still --strict --tokens -o
 run --re|--remote-program --rescan
 observe --re|--records
 run $work/ho|$work/homes

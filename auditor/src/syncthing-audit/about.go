@@ -17,7 +17,7 @@ import (
 // before any of them hashes its files, so it is known by then which folder's disk isn't mounted. An index that isn't found is refused. A folder
 // that is asked for needn't be there: another device may have it.
 func tellAbout(asked options, write writing, log io.Writer) error {
-	id, about, err := device.About(asked.homes[0])
+	id, about, err := device.About(asked.homes[0], asked.maps[0]...)
 	if err != nil {
 		return err
 	}

@@ -15,7 +15,7 @@ const timeBetweenQuestions = 500 * time.Millisecond
 // waitForRest says of each folder how Syncthing is seen with it, after the first look and before the second one reads the index. If Syncthing isn't
 // idle, it is asked on for as long as --still says.
 func waitForRest(asked options) (map[string]*part.Rest, error) {
-	about, err := device.ReadConfig(asked.homes[0])
+	about, err := device.ReadConfig(asked.homes[0], asked.maps[0]...)
 	if err != nil {
 		return nil, err
 	}

@@ -87,13 +87,14 @@ func openInputs(asked options) (*inputs, error) {
 
 func (i *inputs) open(asked options) error {
 	homes := []*device.Home{}
-	for place, dir := range asked.homes {
-		home, err := i.openHome(asked, dir, asked.data[place])
+	places := map[*device.Home]int{}
+	for place := range asked.homes {
+		home, err := i.openHome(asked, place)
 		if err != nil {
 			return err
 		}
 		if home != nil {
-			homes = append(homes, home)
+			homes, places[home] = append(homes, home), place
 		}
 	}
 	if err := i.openParts(asked.parts, asked.signers); err != nil {
@@ -110,7 +111,7 @@ func (i *inputs) open(asked options) error {
 	}
 	asked.paths = true // they are homes of this machine
 	for _, home := range homes {
-		if err := i.addHome(asked, home); err != nil {
+		if err := i.addHome(asked, home, asked.maps[places[home]]); err != nil {
 			return err
 		}
 	}
@@ -121,10 +122,10 @@ func (i *inputs) open(asked options) error {
 }
 
 // addHome adds the device of a home, unless its indexes can't be opened.
-func (i *inputs) addHome(asked options, home *device.Home) error {
+func (i *inputs) addHome(asked options, home *device.Home, maps device.Maps) error {
 	read, err := i.deviceOf(home, asked)
 	if err != nil {
-		return i.orLeaveOut(asked, home.Dir, err)
+		return i.orLeaveOut(asked, home.Dir, maps, err)
 	}
 	stream := read.Stream()
 	i.closers = append(i.closers, stream.Close)

@@ -112,12 +112,12 @@ func findIndex(asked options, log io.Writer) (bool, error) {
 		return false, nil
 	}
 	home := asked.homes[0]
-	about, err := device.ReadConfig(home)
+	about, err := device.ReadConfig(home, asked.maps[0]...)
 	if err != nil {
 		return false, err
 	}
 	if !device.HasIndex(home) {
-		asked.data[0] = askedWhere(home, about.GUI, log)
+		asked.data[0], _ = asked.maps[0].Path(askedWhere(home, about.GUI, log))
 		return asked.data[0] != "", nil
 	}
 	if device.IsHeld(home) {
@@ -127,7 +127,10 @@ func findIndex(asked options, log io.Writer) (bool, error) {
 	if isOwn || !isKnown {
 		return isOwn, nil
 	}
-	asked.data[0], err = whereElse(home, about.GUI)
+	data, err := whereElse(home, about.GUI)
+	if err == nil {
+		asked.data[0], _ = asked.maps[0].Path(data)
+	}
 	return err == nil, err
 }
 

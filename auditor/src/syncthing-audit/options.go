@@ -11,6 +11,7 @@ import (
 	"strings"
 
 	"syncthing-audit/choice"
+	"syncthing-audit/device"
 	"syncthing-audit/part"
 	"syncthing-audit/summary"
 )
@@ -18,7 +19,8 @@ import (
 // options are what the command line asks for.
 type options struct {
 	homes      []string
-	data       map[int]string // where the databases of homes, or of devices of 'run', are, by their places; nothing of one where it is in the home
+	data       map[int]string      // where the databases of homes, or of devices of 'run', are, by their places; nothing of one where it is in the home
+	maps       map[int]device.Maps // where the paths of their configurations are on their machines
 	parts      []string
 	folders    []string
 	names      choice.Names
@@ -94,6 +96,8 @@ Says whether Syncthing devices are in step and, if they aren't, which device is 
                        (~/.local/state/syncthing-audit/observer)
   --data DIR           behind a --home, or with run behind a device's DIR: where its database is, if it isn't in the home, as with
                        Syncthing's own --data
+  --map FROM=TO        behind a --home, or with run behind a device's DIR: what its config.xml has at FROM is at TO on its machine, as where
+                       Syncthing runs in a container; may be given more than once
   --folder ID          only this folder; may be given more than once. Without it, all folders. part takes those that its device has,
                        and says which it hasn't
   --names PREFIX       only names that begin with these bytes
@@ -197,8 +201,36 @@ func (d databaseOf) Set(value string) error {
 	return nil
 }
 
-// ofHome is this flag behind a --home.
-func ofHome(read *options) databaseOf { return databaseOf{read, &read.homes, "--home"} }
+// mapOf is the flag that says where paths of the home before it are on its machine, of 'run' of the device before it.
+type mapOf struct {
+	read   *options
+	before *[]string
+	called string // what stands before it
+}
+
+func (m mapOf) String() string { return "" }
+
+// Set takes FROM=TO.
+func (m mapOf) Set(value string) error {
+	of := len(*m.before) - 1
+	if of < 0 {
+		return fmt.Errorf("it stands behind the %s whose paths these are", m.called)
+	}
+	one, err := device.ParseMap(value)
+	if err != nil {
+		return err
+	}
+	all := m.read.maps[of]
+	err = all.Add(one)
+	m.read.maps[of] = all
+	return err
+}
+
+// homeFlags are the flags behind a --home.
+func homeFlags(flags *flag.FlagSet, read *options) {
+	flags.Var(databaseOf{read, &read.homes, "--home"}, "data", "")
+	flags.Var(mapOf{read, &read.homes, "--home"}, "map", "")
+}
 
 // kinds is the flag of what may be left out.
 type kinds map[string]bool
@@ -226,7 +258,7 @@ var errHelp = errors.New("help")
 
 // readOptions reads the words behind a command, with the flags that it has.
 func readOptions(name string, words []string, flagsOf func(*flag.FlagSet, *options)) (options, error) {
-	read := options{leaveOut: map[string]bool{}, data: map[int]string{}, disks: map[int]string{}}
+	read := options{leaveOut: map[string]bool{}, data: map[int]string{}, maps: map[int]device.Maps{}, disks: map[int]string{}}
 	flags := flag.NewFlagSet(name, flag.ContinueOnError)
 	flags.SetOutput(io.Discard)
 	flags.Usage = func() {}
@@ -304,7 +336,7 @@ func (o *options) checkInputs() error {
 
 // inputFlags are the flags of commands that join devices.
 func inputFlags(flags *flag.FlagSet, read *options) {
-	flags.Var(ofHome(read), "data", "")
+	homeFlags(flags, read)
 	consentFlags(flags, read)
 	flags.BoolVar(&read.bytes, "bytes", false, "")
 	flags.Var((*filled)(&read.signers), "allowed-signers", "")

@@ -46,7 +46,7 @@ func runPart(words []string, output, log io.Writer) (int, error) {
 func readPartOptions(words []string) (options, error) {
 	asked, err := readOptions("part", words, func(flags *flag.FlagSet, read *options) {
 		flags.StringVar(&read.output, "o", "", "")
-		flags.Var(ofHome(read), "data", "")
+		homeFlags(flags, read)
 		flags.BoolVar(&read.about, "about", false, "")
 		flags.BoolVar(&read.begin, "begin", false, "")
 		flags.BoolVar(&read.end, "end", false, "")
@@ -112,8 +112,8 @@ func (s *source) tellDoubts(log io.Writer) {
 }
 
 // openSource opens the home, and those of its folders that are asked for, or all.
-func openSource(open func(dir, data string) (*device.Home, error), asked options, log io.Writer) (*source, error) {
-	home, err := open(asked.homes[0], asked.data[0])
+func openSource(open func(dir, data string, maps ...device.Map) (*device.Home, error), asked options, log io.Writer) (*source, error) {
+	home, err := open(asked.homes[0], asked.data[0], asked.maps[0]...)
 	if err != nil {
 		return nil, err
 	}

@@ -15,6 +15,7 @@ import (
 
 	"syncthing-audit/ask"
 	"syncthing-audit/bounded"
+	"syncthing-audit/device"
 	"syncthing-audit/part"
 	"syncthing-audit/regular"
 	"syncthing-audit/shell"
@@ -22,11 +23,12 @@ import (
 
 // place is where a device is: a home on this machine or, by ssh, on another one.
 type place struct {
-	given  string // as the command line has it
-	host   string // nothing for this machine
-	home   string // nothing for the one that Syncthing takes by itself
-	data   string // where its database is; nothing where that isn't said
-	self   string // this program
+	given  string      // as the command line has it
+	host   string      // nothing for this machine
+	home   string      // nothing for the one that Syncthing takes by itself
+	data   string      // where its database is; nothing where that isn't said
+	maps   device.Maps // where paths of its configuration are on its machine
+	self   string      // this program
 	ssh    []string
 	looked time.Time
 
@@ -45,7 +47,7 @@ func placesOf(asked options) ([]*place, error) {
 	made := []*place{}
 	seen := map[string]bool{}
 	for at, word := range asked.parts {
-		one := &place{given: word, home: word, data: asked.data[at], self: self}
+		one := &place{given: word, home: word, data: asked.data[at], maps: asked.maps[at], self: self}
 		if host, home, is := strings.Cut(word, ":"); is && !strings.Contains(host, "/") {
 			one.host, one.home, one.data = host, strings.TrimPrefix(home, "~/"), strings.TrimPrefix(one.data, "~/")
 			if host == "" || strings.HasPrefix(host, "-") {
@@ -55,6 +57,9 @@ func placesOf(asked options) ([]*place, error) {
 		}
 		if one.data != "" && one.home == "" {
 			return nil, &wrongUsage{fmt.Sprintf("--data behind %q says where the database of a home is: name that home, too, as %sDIR", word, word)}
+		}
+		if len(one.maps) > 0 && one.home == "" {
+			return nil, &wrongUsage{fmt.Sprintf("--map behind %q says where paths of a home are: name that home, too, as %sDIR", word, word)}
 		}
 		if err := one.checkHere(); err != nil {
 			return nil, err
@@ -66,6 +71,14 @@ func placesOf(asked options) ([]*place, error) {
 		made = append(made, one)
 	}
 	return made, nil
+}
+
+// hostOf gives the machine of a place; nothing for this one.
+func hostOf(word string) string {
+	if host, _, is := strings.Cut(word, ":"); is && !strings.Contains(host, "/") {
+		return host
+	}
+	return ""
 }
 
 // checkHere says of a word that may be a machine's that it needs a colon.
@@ -134,6 +147,9 @@ func (p *place) chosen(asked options) []string {
 	}
 	if p.data != "" {
 		words = append(words, "--data", p.data)
+	}
+	for _, one := range p.maps {
+		words = append(words, "--map", one.Word())
 	}
 	folders := asked.folders
 	if len(folders) > 0 && len(p.folders) > 0 {

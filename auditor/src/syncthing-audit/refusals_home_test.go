@@ -51,6 +51,9 @@ var ofAHome = []aRefusal{
 	{"refused: %w, and a home is left out: %v", "no index", func(t *testing.T, _ string) []string {
 		return []string{"check", "--folder", "pics", "--home", homeOf(t, "x", nil), "--home", unopenedHomes["no index"](t)}
 	}},
+	{"refused: %s: folder %s is at %s in config.xml, and no --map has that: say where it is on this machine, as --map %s=DIR", "files", func(t *testing.T, room string) []string {
+		return append(makingPart(homeOf(t, "x", nil), filepath.Join(room, "a.part")), "--map", "/elsewhere=/x")
+	}},
 	{"refused: the device has no folder", "", func(t *testing.T, room string) []string {
 		return makingPart(reconfigured(t, `(?s)<folder id="docs".*?</folder>`, ""), filepath.Join(room, "a.part"))
 	}},

@@ -12,7 +12,7 @@ import (
 
 // rescan has the folders of a home that are asked for scanned, or all.
 func rescan(asked options) error {
-	about, err := device.ReadConfig(asked.homes[0])
+	about, err := device.ReadConfig(asked.homes[0], asked.maps[0]...)
 	if err != nil {
 		return err
 	}

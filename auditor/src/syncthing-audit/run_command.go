@@ -32,6 +32,7 @@ const secondsOfPatience = 10
 func runRun(words []string, output, log io.Writer) (int, error) {
 	asked, err := readOptions("run", words, func(flags *flag.FlagSet, read *options) {
 		flags.Var(databaseOf{read, &read.parts, "device"}, "data", "")
+		flags.Var(mapOf{read, &read.parts, "device"}, "map", "")
 		consentFlags(flags, read)
 		answerFlags(flags, read)
 		flags.StringVar(&read.program, "syncaudit", defaultProgram(), "")

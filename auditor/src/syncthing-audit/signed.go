@@ -35,7 +35,7 @@ type signing struct {
 
 // signTarget has a part be signed. A new key is told, as those who read the part are to know it.
 func (o options) signTarget(to *target, log io.Writer) error {
-	id, about, err := device.About(o.homes[0])
+	id, about, err := device.About(o.homes[0], o.maps[0]...)
 	if err != nil {
 		return err
 	}

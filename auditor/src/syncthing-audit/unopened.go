@@ -13,10 +13,11 @@ import (
 )
 
 // openHome opens a home. One that can't be opened is left out where others go on without it: nothing is given then.
-func (i *inputs) openHome(asked options, dir, data string) (*device.Home, error) {
-	home, err := device.Open(dir, data)
+func (i *inputs) openHome(asked options, place int) (*device.Home, error) {
+	dir := asked.homes[place]
+	home, err := device.Open(dir, asked.data[place], asked.maps[place]...)
 	if err != nil {
-		return nil, i.orLeaveOut(asked, dir, err)
+		return nil, i.orLeaveOut(asked, dir, asked.maps[place], err)
 	}
 	i.closers = append(i.closers, home.Close)
 	i.homes = append(i.homes, home)
@@ -24,12 +25,12 @@ func (i *inputs) openHome(asked options, dir, data string) (*device.Home, error)
 }
 
 // orLeaveOut leaves a home out, or gives its error where the audit is strict.
-func (i *inputs) orLeaveOut(asked options, dir string, err error) error {
+func (i *inputs) orLeaveOut(asked options, dir string, maps device.Maps, err error) error {
 	if err == nil || !asked.consent().Has(part.Absent) {
 		return err
 	}
 	left := leftPlace{called: dir, why: strings.TrimPrefix(strings.TrimPrefix(err.Error(), "refused:"), " ")}
-	if id, about, unread := device.About(dir); unread == nil {
+	if id, about, unread := device.About(dir, maps...); unread == nil {
 		left.device = id.String()
 		i.homes = append(i.homes, &device.Home{Dir: dir, ID: id, Config: about}) // nothing is written into its folders
 	}

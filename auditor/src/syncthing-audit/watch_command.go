@@ -11,6 +11,7 @@ import (
 	"time"
 
 	"syncthing-audit/choice"
+	"syncthing-audit/device"
 	"syncthing-audit/outside"
 	"syncthing-audit/shell"
 	"syncthing-audit/summary"
@@ -71,7 +72,7 @@ type audited struct {
 }
 
 // path gives a path of the configuration.
-func (n *night) path(path string) string { return watch.Path(n.home, path) }
+func (n *night) path(path string) string { return watch.Expand(n.home, path) }
 
 // directory gives the directory of the state.
 func (n *night) directory() string {
@@ -145,7 +146,7 @@ func (n *night) auditAll() {
 
 // options gives what each audit is asked.
 func (n *night) options(name string, folders []watch.Folder) options {
-	made := options{program: n.asked.program, jobs: n.asked.jobs, hasJobs: n.asked.hasJobs, names: n.due, leaveOut: map[string]bool{}, data: map[int]string{},
+	made := options{program: n.asked.program, jobs: n.asked.jobs, hasJobs: n.asked.hasJobs, names: n.due, leaveOut: map[string]bool{}, data: map[int]string{}, maps: map[int]device.Maps{},
 		still: n.asked.still, hasStill: n.asked.hasStill, history: filepath.Join(n.directory(), "history of "+name)}
 	for _, one := range folders {
 		made.folders = append(made.folders, one.ID)
@@ -158,8 +159,12 @@ func (n *night) optionsOfRun() options {
 	for at, one := range n.config.Devices {
 		made.parts = append(made.parts, n.path(one.Place))
 		if one.Data != "" {
-			made.data[at] = n.path(one.Data)
+			made.data[at] = one.Data
+			if hostOf(one.Place) == "" {
+				made.data[at] = n.path(one.Data)
+			}
 		}
+		made.maps[at], _ = one.Maps() // what is wrong with them was told before
 	}
 	return made
 }

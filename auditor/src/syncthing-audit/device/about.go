@@ -6,8 +6,8 @@ import (
 )
 
 // About reads whose home a directory is, and how it is configured. No index is read.
-func About(dir string) (protocol.DeviceID, config.Configuration, error) {
-	read, err := readAbout(dir)
+func About(dir string, maps ...Map) (protocol.DeviceID, config.Configuration, error) {
+	read, err := readAbout(dir, maps)
 	if err != nil {
 		return protocol.DeviceID{}, config.Configuration{}, err
 	}

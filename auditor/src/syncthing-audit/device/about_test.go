@@ -36,7 +36,7 @@ func TestAHomeIsOfOneConfiguration(t *testing.T) {
 		}
 	}()
 	for turn := 0; turn < 500; turn++ {
-		read, err := readAbout(dir)
+		read, err := readAbout(dir, nil)
 		if err != nil || len(read.Config.Folders) != 1 || read.attributes["docs"] != strings.Contains(read.Config.Folders[0].Path, "true") {
 			t.Fatalf("%+v, %v", read, err)
 		}

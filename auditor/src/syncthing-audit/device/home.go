@@ -71,13 +71,13 @@ type Home struct {
 }
 
 // Open reads a home on which no Syncthing runs and opens a copy of its index, which is in another directory where one is named. Nothing of the home is changed.
-func Open(dir, data string) (*Home, error) {
-	return openWith(dir, data, (*Home).openIndex)
+func Open(dir, data string, maps ...Map) (*Home, error) {
+	return openWith(dir, data, maps, (*Home).openIndex)
 }
 
 // openWith reads a home and has its index opened.
-func openWith(dir, data string, open func(*Home) error) (*Home, error) {
-	opened, err := readAbout(dir)
+func openWith(dir, data string, maps Maps, open func(*Home) error) (*Home, error) {
+	opened, err := readAbout(dir, maps)
 	if err != nil {
 		return nil, err
 	}
@@ -133,7 +133,7 @@ func HasIndex(dir string) bool { return isThere(dir, databaseName) || isThere(di
 
 // readAbout reads whose home a directory is, and how it is configured. The configuration is read once: a Syncthing that runs may put another one in its
 // place between.
-func readAbout(dir string) (*Home, error) {
+func readAbout(dir string, maps Maps) (*Home, error) {
 	id, err := readDeviceID(filepath.Join(dir, "cert.pem"))
 	if err != nil {
 		return nil, withHint(err)
@@ -147,7 +147,10 @@ func readAbout(dir string) (*Home, error) {
 		return nil, err
 	}
 	made := &Home{Dir: dir, ID: id}
-	if made.Config, err = readConfig(path, text, id); err != nil {
+	if made.Config, err = readConfig(path, text, id); err == nil {
+		err = maps.apply(dir, &made.Config)
+	}
+	if err != nil {
 		return nil, err
 	}
 	if made.attributes, err = attributesIn(text); err != nil {
@@ -186,8 +189,8 @@ func isThere(dir, place string) bool {
 }
 
 // ReadConfig reads the configuration of a home.
-func ReadConfig(dir string) (config.Configuration, error) {
-	_, read, err := About(dir)
+func ReadConfig(dir string, maps ...Map) (config.Configuration, error) {
+	_, read, err := About(dir, maps...)
 	return read, err
 }
 

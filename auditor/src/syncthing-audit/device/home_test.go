@@ -37,7 +37,7 @@ func TestHintsOnAHome(t *testing.T) {
 		t.Fatal(err)
 	}
 	for _, dir := range []string{t.TempDir(), file, filepath.Join(file, "nowhere")} {
-		if _, err := readAbout(dir); err == nil || !strings.Contains(err.Error(), "is this a Syncthing home? "+SaysWhere) {
+		if _, err := readAbout(dir, nil); err == nil || !strings.Contains(err.Error(), "is this a Syncthing home? "+SaysWhere) {
 			t.Errorf("%s: %v", dir, err)
 		}
 	}

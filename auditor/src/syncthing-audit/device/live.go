@@ -15,8 +15,8 @@ import (
 
 // OpenLive reads a home whose Syncthing may run, and opens a copy of its index as it was at one moment after the call. No
 // lock is taken, and nothing of the home is changed.
-func OpenLive(dir, data string) (*Home, error) {
-	return openWith(dir, data, (*Home).openLiveIndex)
+func OpenLive(dir, data string, maps ...Map) (*Home, error) {
+	return openWith(dir, data, maps, (*Home).openLiveIndex)
 }
 
 // Identity gives a text that is the same for one home's index on one machine alone.

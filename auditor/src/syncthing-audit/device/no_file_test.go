@@ -30,8 +30,8 @@ func TestWhatIsNoFileIsNotRead(t *testing.T) {
 		at   string
 		read func(room string) error
 	}{
-		{"cert.pem", func(room string) error { _, err := readAbout(room); return err }},
-		{"config.xml", func(room string) error { _, err := readAbout(room); return err }},
+		{"cert.pem", func(room string) error { _, err := readAbout(room, nil); return err }},
+		{"config.xml", func(room string) error { _, err := readAbout(room, nil); return err }},
 		{"LOCK", func(room string) error { _, err := lockShared(room, room); return err }},
 		{"CURRENT", func(room string) error { _, err := currentManifest(room); return err }},
 		{"MANIFEST-000001", func(room string) error { _, err := readManifest(room); return err }},

@@ -153,7 +153,7 @@ func TestAHomeOfSyncthing2(t *testing.T) {
 		if err := os.MkdirAll(filepath.Join(home, one.directory), 0o700); err != nil {
 			t.Fatal(err)
 		}
-		for _, open := range []func(dir, data string) (*Home, error){Open, OpenLive} {
+		for _, open := range []func(dir, data string, maps ...Map) (*Home, error){Open, OpenLive} {
 			if _, err := open(home, ""); err == nil || !strings.HasPrefix(err.Error(), "refused: "+home) || !strings.HasSuffix(err.Error(), one.told) {
 				t.Errorf("%s: %v", one.directory, err)
 			}
@@ -175,7 +175,7 @@ func TestAnIndexElsewhere(t *testing.T) {
 			t.Fatal(err)
 		}
 	}
-	for _, open := range []func(dir, data string) (*Home, error){Open, OpenLive} {
+	for _, open := range []func(dir, data string, maps ...Map) (*Home, error){Open, OpenLive} {
 		for given, named := range map[string]string{"": home, data: data} {
 			_, err := open(home, given)
 			if err == nil || !strings.HasPrefix(err.Error(), named+": no index "+databaseName) || !strings.Contains(err.Error(), "name that behind the home as --data DIR") {

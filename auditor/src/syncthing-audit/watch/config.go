@@ -11,6 +11,7 @@ import (
 	"strings"
 
 	"syncthing-audit/choice"
+	"syncthing-audit/device"
 	"syncthing-audit/regular"
 	"syncthing-audit/shell"
 )
@@ -35,7 +36,33 @@ type Config struct {
 type Device struct {
 	Place string `xml:"place,attr"`
 	Data  string `xml:"data,attr"`
+	Paths []Path `xml:"map"`
 	unknown
+}
+
+// Path says where something is on the device's machine that its configuration has elsewhere, as of a container.
+type Path struct {
+	From string `xml:"from,attr"`
+	To   string `xml:"to,attr"`
+	unknown
+}
+
+// Maps gives where the paths of the device's configuration are on its machine.
+func (d *Device) Maps() (device.Maps, error) {
+	made := device.Maps{}
+	for _, one := range d.Paths {
+		if strings.Contains(one.From, "=") {
+			return nil, fmt.Errorf("<map from=%q>: a path with = isn't taken", one.From)
+		}
+		read, err := device.ParseMap(one.From + "=" + one.To)
+		if err == nil {
+			err = made.Add(read)
+		}
+		if err != nil {
+			return nil, fmt.Errorf("<map>: %w", err)
+		}
+	}
+	return made, nil
 }
 
 // Parts is a directory to which devices send their parts.
@@ -156,6 +183,9 @@ func (c *Config) checkKnown() error {
 	add := func(of unknown, in string) { errs = append(errs, of.check(in)) }
 	for _, one := range c.Devices {
 		add(one.unknown, "device")
+		for _, path := range one.Paths {
+			add(path.unknown, "map")
+		}
 	}
 	for _, one := range c.Parts {
 		add(one.unknown, "parts")
@@ -202,6 +232,9 @@ func (c *Config) checkDevices() error {
 	empty := map[string]bool{}
 	for _, one := range c.Devices {
 		empty["device place"] = empty["device place"] || one.Place == ""
+		if _, err := one.Maps(); err != nil {
+			return err
+		}
 	}
 	for _, one := range c.Observed {
 		empty["observed id"] = empty["observed id"] || one.ID == ""
@@ -252,8 +285,8 @@ func (c *Config) checkNumbers() error {
 	return nil
 }
 
-// Path gives a path whose ~ is the user's home.
-func Path(home, path string) string {
+// Expand gives a path whose ~ is the user's home.
+func Expand(home, path string) string {
 	if rest := strings.TrimPrefix(path, "~/"); rest != path {
 		return filepath.Join(home, rest)
 	}

@@ -12,7 +12,7 @@ import (
 )
 
 // all is a configuration with each element that there is.
-const all = `<watch><device place="laptop:"/><device place="~/home" data="~/data"/><parts directory="~/parts" hours="8.5" signers="s"/>` +
+const all = `<watch><device place="laptop:"/><device place="~/home" data="~/data"><map from="~" to="/srv"/></device><parts directory="~/parts" hours="8.5" signers="s"/>` +
 	`<observed id="A" address="tcp://a:22000"/><folder id="docs"/><slices count="7" hour="3"/><state path="s"/><metrics path="m"/><mail to="me"/>` +
 	`<notify command="n"/><ping command="p"/></watch>`
 
@@ -28,14 +28,14 @@ func TestAConfigurationIsRead(t *testing.T) {
 	if read, err = parse([]byte(`<watch><parts directory="a"/></watch>`)); err != nil || read.Parts[0].Hours != usualHours {
 		t.Errorf("%+v, %v", read, err)
 	}
-	if path := Path("/home/me", "~/a"); path != "/home/me/a" || Path("/home/me", "laptop:a") != "laptop:a" {
+	if path := Expand("/home/me", "~/a"); path != "/home/me/a" || Expand("/home/me", "laptop:a") != "laptop:a" {
 		t.Error(path)
 	}
 }
 
 // Each word that isn't known is refused, wherever it stands: a word that is passed over leaves a device out.
 func TestNoWordIsPassedOver(t *testing.T) {
-	for _, name := range []string{"watch", "device", "parts", "observed", "folder", "slices", "state", "metrics", "mail", "notify", "ping"} {
+	for _, name := range []string{"watch", "device", "map", "parts", "observed", "folder", "slices", "state", "metrics", "mail", "notify", "ping"} {
 		for _, text := range []string{strings.Replace(all, "<"+name, "<"+name+` odd="1"`, 1), strings.Replace(all, "<"+name, "<"+name+"s", 1)} {
 			if _, err := parse([]byte(text)); err == nil {
 				t.Errorf("it is read: %s", text)
@@ -45,6 +45,24 @@ func TestNoWordIsPassedOver(t *testing.T) {
 	inside := strings.Replace(all, `<folder id="docs"/>`, `<folder id="docs"><device place="x"/></folder>`, 1)
 	if _, err := parse([]byte(inside)); err == nil || !strings.Contains(err.Error(), "<folder> has no element <device>") {
 		t.Error(err)
+	}
+}
+
+// Paths of a container that nobody can follow are refused as the configuration is read.
+func TestMapsOfADevice(t *testing.T) {
+	read, err := parse([]byte(all))
+	if err != nil {
+		t.Fatal(err)
+	}
+	maps, err := read.Devices[1].Maps()
+	if path, is := maps.Path("~/docs"); err != nil || path != "/srv/docs" || !is {
+		t.Errorf("%s, %v, %v", path, is, err)
+	}
+	for _, wrong := range []string{`from="" to="/a"`, `from="a" to="/a"`, `from="/a=b" to="/a"`, `from="/a" to="b"`, `from="/a" to="~/b"`, `from="/a"`, `to="/a"`,
+		`from="/a" to="/b"/><map from="/a/" to="/c"`} {
+		if _, err := parse([]byte(`<watch><device place="x"><map ` + wrong + `/></device></watch>`)); err == nil || !strings.Contains(err.Error(), "<map") {
+			t.Errorf("%s: %v", wrong, err)
+		}
 	}
 }
 
