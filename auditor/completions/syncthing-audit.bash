@@ -30,7 +30,7 @@ _syncthing_audit() {
   local command=${COMP_WORDS[1]}
   COMPREPLY=()
   if [ "$COMP_CWORD" = 1 ]; then
-    mapfile -t COMPREPLY < <(compgen -W 'part check run observe watch disk export sum find --help --version' -- "$word")
+    mapfile -t COMPREPLY < <(compgen -W 'part check run observe watch disk export sum find --about --help --version' -- "$word")
     return
   fi
   case $before in

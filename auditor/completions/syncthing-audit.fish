@@ -11,6 +11,7 @@ complete -c syncthing-audit -n "$none" -a watch -d 'Make the audit of a night as
 complete -c syncthing-audit -n "$none" -a export -d 'Write the check documents of such an answer'
 complete -c syncthing-audit -n "$none" -a sum -d 'Join the answers to exported documents'
 complete -c syncthing-audit -n "$none" -a find -d 'Look in backups for the bytes that a history has of a name'
+complete -c syncthing-audit -n "$none" -l about -d 'Tell what an answer means'
 complete -c syncthing-audit -n "$none" -l version -d 'Tell its version'
 complete -c syncthing-audit -l help -d 'Tell how to use the program'
 

@@ -1,5 +1,6 @@
 """Real Syncthing devices in step, stopped, and the audit run on them."""
 
+import contextlib
 import functools
 import gzip
 import json
@@ -37,6 +38,15 @@ def make_endless(directory):
     for number in range(512):
         with (directory / f"{number:03}").open("wb") as file:
             file.truncate(1 << 32)
+
+
+def to_the_end(terminal):
+    """What is told to a terminal until nobody writes there any more."""
+    told = b""
+    with contextlib.suppress(OSError):  # so a terminal ends
+        while more := os.read(terminal, 4096):
+            told += more
+    return told
 
 
 def missing_packages():

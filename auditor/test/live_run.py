@@ -15,7 +15,7 @@ import sys
 from pathlib import Path
 
 from answers import SCHEMA, STATUS_MISSING
-from exporting import in_step, main, make_endless, run
+from exporting import in_step, main, make_endless, run, to_the_end
 from live_looks import Live, rot
 from syncthing import FOLDER, SECONDS_TO_WAIT, wait_until, wait_until_in_step
 
@@ -98,11 +98,11 @@ cd "{room}/$machine/user" && HOME=$PWD PATH={programs}:$PATH exec sh -c "$*"
         self.assert_no_look()
 
     def test_a_pipe_is_told_nothing_of_steps(self):
-        """What an answer means is told there, and the devices' numbers where lines have these."""
+        """The devices' numbers are told there, where lines have these."""
         ran = self.run_on("--lines")
         self.assertEqual(ran.returncode, 0, ran.stderr)
         lines = [line for line in ran.stderr.splitlines() if line.startswith("syncthing-audit: ") and WAITING not in line]
-        self.assertEqual([line.split()[1] for line in lines], ["device", "device", "device", "what"], ran.stderr)
+        self.assertEqual([line.split()[1] for line in lines], ["device", "device", "device"], ran.stderr)
         self.assertIn("--begin", self.commands.read_text())
 
     def test_a_terminal_is_told_each_step_once(self):
@@ -111,11 +111,9 @@ cd "{room}/$machine/user" && HOME=$PWD PATH={programs}:$PATH exec sh -c "$*"
         process = subprocess.Popen([self.program, "run", "one:", f"two:{self.two.home}", self.three.home, "--still", "1", "--syncaudit", self.auditor],
                                    env=self.environment, stdout=subprocess.DEVNULL, stderr=other_end)
         os.close(other_end)
-        told = b""
-        while b"what an answer means" not in told:
-            told += os.read(terminal, 4096)
+        told = to_the_end(terminal)
         self.assertEqual(process.wait(SECONDS_TO_WAIT), 0)
-        steps = [line.partition("\r")[0] for line in told.decode().split("syncthing-audit: ")[1:-1] if WAITING not in line]
+        steps = [line.partition("\r")[0] for line in told.decode().split("syncthing-audit: ")[1:] if WAITING not in line]
         looks = {f"{name}: {look} look done in 0 s" for name in ("one", f"two:{self.two.home}", str(self.three.home)) for look in ("first", "second")}
         waits = [step for step in steps if step.startswith("second look in ")]
         self.assertEqual(sorted(re.sub(r"done in \d+ s", "done in 0 s", step) for step in steps[2:] if step not in waits), sorted(looks))

@@ -16,7 +16,7 @@ import unittest
 from pathlib import Path
 from types import SimpleNamespace
 
-from exporting import PROGRAM, auditor, built, in_step, is_over, main, make_endless, run
+from exporting import PROGRAM, auditor, built, in_step, is_over, main, make_endless, run, to_the_end
 from syncthing import SECONDS_TO_WAIT, wait_until
 
 FILES = 2000
@@ -92,13 +92,11 @@ class Manners(unittest.TestCase):
         while b"read 100 % of the parts; joined 2020 names; syncaudit answered 0 of " not in told:
             told += os.read(terminal, 4096)
         allowed.touch()
-        while b"what an answer means" not in told:
-            told += os.read(terminal, 4096)
         output, _ = check.communicate(timeout=SECONDS_TO_WAIT)
+        told += to_the_end(terminal)
         self.assertEqual((check.returncode, output.decode()[:len(SETTLED)]), (0, SETTLED))
-        before, _, _ = told.partition(b"syncthing-audit: what")
-        self.assertTrue(before.endswith(b"\r\x1b[K"), "the line isn't taken away")
-        self.assertNotIn(b"\n", before)
+        self.assertTrue(told.endswith(b"\r\x1b[K"), "the line isn't taken away")
+        self.assertNotIn(b"\n", told)
 
     def test_a_pipe_is_told_nothing_of_progress(self):
         program, allowed = self.waiting_auditor()
@@ -107,7 +105,7 @@ class Manners(unittest.TestCase):
         allowed.touch()
         output, error = check.communicate(timeout=SECONDS_TO_WAIT)
         self.assertEqual((check.returncode, output.decode()[:len(SETTLED)]), (0, SETTLED))
-        self.assertEqual((error[:38], error.count(b"\r")), (b"syncthing-audit: what an answer means:", 0))
+        self.assertEqual(error, b"")
 
     def test_a_signal_while_a_part_is_made_leaves_nothing(self):
         """The index is copied and the part begun; then nothing of both is left, and the status is the signal's."""

@@ -50,7 +50,7 @@ while IFS='|' read -r words expected; do
   eval "set -- $words"
   expect "bash completes '$words' as '$(completed "$@")', and not as '$expected'" [ "$(completed "$@")" = "$expected" ]
 done << END
-''|--help --version check disk export find observe part run sum watch
+''|--about --help --version check disk export find observe part run sum watch
 ch|check
 part -|--about --begin --data --end --folder --heed-input --help --home --jobs --leave-out --map --names --observer --paths --rescan --sign --slice --still --strict --tokens -o
 run --re|--remote-program --rescan

@@ -9,7 +9,6 @@ import (
 
 	"syncthing-audit/finding"
 	"syncthing-audit/history"
-	"syncthing-audit/outside"
 	"syncthing-audit/report"
 	"syncthing-audit/summary"
 )
@@ -55,7 +54,6 @@ func tell(output, log io.Writer, asked options, answer *finding.Answer, since *h
 	if asked.take != nil {
 		asked.take(told)
 	}
-	outside.Print(log, meaningOf(answer))
 	if status := statusOfAnswer(answer); status != statusDone || since == nil || since.Count == 0 && since.Unkept == "" {
 		return status, nil
 	}

@@ -20,7 +20,7 @@ func runDisk(words []string, output, log io.Writer) (int, error) {
 	var wrong *diskhalf.Usage
 	switch {
 	case errors.Is(err, flag.ErrHelp):
-		return 0, errHelp
+		return 0, &wantsHelp{"disk"}
 	case errors.As(err, &wrong):
 		return 0, &wrongUsage{wrong.Reason}
 	case err != nil:

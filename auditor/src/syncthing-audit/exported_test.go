@@ -32,7 +32,7 @@ func TestWhatAnExportLeft(t *testing.T) {
 		status int
 		told   string
 	}{
-		{"as it was", func(text string) string { return text }, statusDone, "what an answer means"},
+		{"as it was", func(text string) string { return text }, statusDone, ""},
 		{"nothing", func(string) string { return "" }, statusRefused, "isn't what 'export' writes: EOF"},
 		{"no answer", func(string) string { return "{}\n" }, statusRefused, "isn't what 'export' writes: it has no answer"},
 		{"no JSON", func(text string) string { return text[1:] }, statusRefused, "isn't what 'export' writes: "},

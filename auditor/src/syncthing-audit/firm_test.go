@@ -7,12 +7,9 @@ import (
 	"strings"
 	"testing"
 
-	"golang.org/x/exp/slices"
 	"syncthing-audit/ask"
-	"syncthing-audit/choice"
 	"syncthing-audit/device"
 	"syncthing-audit/finding"
-	"syncthing-audit/join"
 	"syncthing-audit/part"
 )
 
@@ -121,78 +118,6 @@ func TestAnAnswerThatDiffersIsRefused(t *testing.T) {
 			t.Errorf("%d: %v", versions, err)
 		}
 	}
-}
-
-// What an answer means is said as far as it rests on that: nothing is promised of what isn't in step.
-func TestMeaning(t *testing.T) {
-	const caveat, argued, old, scan, page = "merge versions", "argued", "too old", "next scan", "'man syncthing-audit', under WHAT AN ANSWER MEANS"
-	const attributes = "owners or extended attributes"
-	scans := finding.Permissions{Name: "a", At: []finding.Bits{{Has: true, Index: 0o644, OnDisk: true, Disk: 0o600}}}
-	firm := &finding.Folder{Firmness: finding.Firmness{Asked: true}}
-	scanned, failed := &finding.Folder{Firmness: firm.Firmness}, &finding.Folder{Firmness: firm.Firmness}
-	scanned.Permissions.Add(scans)
-	failed.Permissions.Add(scans)
-	failed.Failures.Add(finding.Failure{Reason: "StoreDiffers", Name: "a", Device: 1})
-	wide := &finding.Folder{Firmness: firm.Firmness, Members: []join.Member{{About: &part.Folder{ScansAttributes: true}}}}
-	isnt := &finding.Folder{Firmness: finding.Firmness{Asked: true, First: &finding.Failure{Reason: finding.VersionDiffers, Name: "a", Device: 1}}}
-	unasked := &finding.Folder{}
-	for _, one := range []struct {
-		folders []*finding.Folder
-		told    []string
-	}{{[]*finding.Folder{firm}, []string{argued, page}}, {[]*finding.Folder{scanned}, []string{argued, scan, page}}, {[]*finding.Folder{isnt}, []string{caveat, page}},
-		{[]*finding.Folder{unasked}, []string{caveat, old, page}}, {[]*finding.Folder{failed}, nil}, {[]*finding.Folder{failed, firm}, []string{argued, page}},
-		{[]*finding.Folder{isnt, firm, failed}, []string{caveat, argued, page}}, {[]*finding.Folder{wide}, []string{argued, scan, attributes, page}}} {
-		text := meaningOf(&finding.Answer{Folders: one.folders})
-		for _, words := range []string{caveat, argued, old, scan, attributes, page} {
-			if strings.Contains(text, words) != slices.Contains(one.told, words) {
-				t.Errorf("%s: %q", one.told, text)
-			}
-		}
-	}
-	manual, err := os.ReadFile("../../syncthing-audit.1")
-	if err != nil || !strings.Contains(string(manual), "\n.SH WHAT AN ANSWER MEANS\n") {
-		t.Error("the man page hasn't the section that is told")
-	}
-}
-
-// Nothing is promised where names or devices weren't audited, also where a command asked for some names alone. It is said of folders in step.
-func TestMeaningOfAPart(t *testing.T) {
-	of := func(change func(folder *finding.Folder)) *finding.Folder {
-		made := &finding.Folder{ID: "docs", Firmness: finding.Firmness{Asked: true}, Members: make([]join.Member, 2)}
-		for place := range made.Members {
-			made.Members[place].Device = join.NewDevice(headAlone{&part.Head{}}, "")
-		}
-		change(made)
-		return made
-	}
-	slice := of(func(folder *finding.Folder) { folder.Members[0].Head.Names = choice.Names{Slice: 1, Slices: 7} })
-	whole := of(func(*finding.Folder) {})
-	for words, one := range map[string]struct {
-		answer finding.Answer
-		isTold bool
-	}{
-		"whole":              {finding.Answer{Folders: []*finding.Folder{whole}}, false},
-		"a slice":            {finding.Answer{Folders: []*finding.Folder{slice}}, true},
-		"a slice by choice":  {finding.Answer{Folders: []*finding.Folder{whole, slice}, ByNames: true}, true},
-		"a name":             {finding.Answer{Folders: []*finding.Folder{of(func(folder *finding.Folder) { folder.LeftOut = []*finding.LeftOut{{Name: "a"}} })}}, true},
-		"a name in motion":   {finding.Answer{Folders: []*finding.Folder{of(func(folder *finding.Folder) { folder.Live = &finding.Live{Moving: 1} })}}, true},
-		"one device alone":   {finding.Answer{Folders: []*finding.Folder{of(func(folder *finding.Folder) { folder.Members = folder.Members[:1] })}}, true},
-		"its one device":     {finding.Answer{Folders: []*finding.Folder{of(func(folder *finding.Folder) { folder.Members, folder.Own = folder.Members[:1], "A" })}}, false},
-		"a device":           {finding.Answer{Folders: []*finding.Folder{whole}, LeftOut: []finding.Refusal{{Folder: "docs"}}}, true},
-		"of another folder":  {finding.Answer{Folders: []*finding.Folder{whole}, LeftOut: []finding.Refusal{{Folder: "photos"}}}, false},
-		"what isn't in step": {finding.Answer{Folders: []*finding.Folder{failedSlice(slice)}}, false},
-	} {
-		if told := meaningOf(&one.answer); strings.Contains(told, butAPart) != one.isTold {
-			t.Errorf("%s: %q", words, told)
-		}
-	}
-}
-
-// failedSlice gives a folder that isn't in step, with the names of another one.
-func failedSlice(like *finding.Folder) *finding.Folder {
-	made := &finding.Folder{ID: like.ID, Firmness: like.Firmness, Members: like.Members}
-	made.Failures.Add(finding.Failure{Reason: "StoreDiffers", Name: "a", Device: 1})
-	return made
 }
 
 // A program that is too old to be asked leaves an answer as it was, and says that.

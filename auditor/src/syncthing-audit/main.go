@@ -63,7 +63,14 @@ func takeStandardOutput() (*os.File, error) {
 // run runs the command that the words name and gives the exit status.
 func run(words []string, output, log io.Writer) int {
 	if len(words) > 0 && isHelp(words[0]) {
-		return statusOfText(usage, output, log)
+		text := usage
+		if len(words) > 1 && commands[words[1]] != nil {
+			text = helpOf(words[1])
+		}
+		return statusOfText(text, output, log)
+	}
+	if len(words) > 0 && words[0] == "--about" {
+		return statusOfText(about, output, log)
 	}
 	if len(words) > 0 && words[0] == "--version" {
 		return statusOfText("syncthing-audit "+version+"\n", output, log)
@@ -85,12 +92,13 @@ func isHelp(word string) bool { return word == "--help" || word == "-h" || word 
 
 // statusOf tells the log what is wrong, unless it was told before, and gives the exit status.
 func statusOf(err error, output, log io.Writer) int {
+	var help *wantsHelp
 	var wrong *wrongUsage
 	var failed *ask.Failed
 	var unwritten *fault
 	switch {
-	case errors.Is(err, errHelp):
-		return statusOfText(usage, output, log)
+	case errors.As(err, &help):
+		return statusOfText(helpOf(help.command), output, log)
 	case errors.As(err, &wrong):
 		outside.Printf(log, "syncthing-audit: %v\n'syncthing-audit --help' tells how to use it\n", err)
 		return statusUsage

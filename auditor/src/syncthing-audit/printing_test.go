@@ -78,13 +78,9 @@ func checkPrinting(t *testing.T, path string, call *ast.CallExpr) int {
 	return 0
 }
 
-// isOwnText says whether a text is the program's own: what an answer means, a text of main.go that is asked for (usage, version), or what a night tells,
+// isOwnText says whether a text is the program's own: a text of main.go that is asked for (usage, version), or what a night tells,
 // whose lines are made by outside.Sprintf.
 func isOwnText(path string, one ast.Expr) bool {
-	if call, is := one.(*ast.CallExpr); is {
-		name, is := call.Fun.(*ast.Ident)
-		return is && name.Name == "meaningOf"
-	}
 	name, is := one.(*ast.Ident)
 	return is && name.Name == "text" && (path == "main.go" || path == "watch_command.go" || path == "watch_tell.go")
 }
