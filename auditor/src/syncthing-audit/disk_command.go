@@ -4,7 +4,6 @@ import (
 	"errors"
 	"flag"
 	"io"
-	"strings"
 
 	"syncthing-audit/disk"
 	"syncthing-audit/diskhalf"
@@ -72,11 +71,14 @@ func writeHalf(read *diskhalf.Command, write writing, log io.Writer) error {
 }
 
 // commandOfHalf gives the command that makes the part of a device's disks.
-func commandOfHalf(token, folder, file string, blockSizes []string, names []string) string {
+func commandOfHalf(token string, folders []string, file string, blockSizes []string, names []string) string {
 	words := []string{"syncthing-audit-disk", "--after", token}
 	for _, size := range blockSizes {
 		words = append(words, "--block-size", size)
 	}
-	words = append(append(words, names...), "-o", file)
-	return shell.Words(words) + " " + strings.TrimSpace(folder) + "=DIR"
+	line := shell.Words(append(append(words, names...), "-o", file))
+	for _, id := range folders {
+		line += " " + shell.Words([]string{id + "=DIR"})
+	}
+	return line
 }

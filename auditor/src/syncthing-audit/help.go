@@ -15,7 +15,7 @@ var usage = fmt.Sprintf(`usage: syncthing-audit part [--home DIR [--data DIR]] [
        syncthing-audit run [MACHINE:[DIR] | DIR [--data DIR] ..] [--folder ID ..]
        syncthing-audit watch CONFIG
        syncthing-audit observe --init [--home DIR]
-       syncthing-audit observe --folder ID [--records] [--listen tcp://:PORT] [DEVICE-ID[@tcp://HOST:PORT] [--disk FILE] ..]
+       syncthing-audit observe [--folder ID ..] [--records] [--listen tcp://:PORT] [DEVICE-ID[@tcp://HOST:PORT] [--disk FILE] ..]
        syncthing-audit disk --after TOKEN [--block-size BYTES ..] [--names PREFIX] [--slice K/N] [--config FILE] [--sign KEY] -o FILE FOLDER-ID=DIR ..
        syncthing-audit part (--begin [--rescan] | --end --tokens FILE ..) [--home DIR [--data DIR]] [--folder ID ..] -o FILE
        syncthing-audit part --about [--rescan] [--home DIR [--data DIR]] [--folder ID ..]
@@ -52,8 +52,8 @@ Says whether Syncthing devices are in step and, if they aren't, which device is 
                        Syncthing's own --data
   --map FROM=TO        behind a --home, or with run behind a device's DIR: what its config.xml has at FROM is at TO on its machine, as where
                        Syncthing runs in a container; may be given more than once
-  --folder ID          only this folder; may be given more than once. Without it, all folders. part takes those that its device has,
-                       and says which it hasn't
+  --folder ID          only this folder; may be given more than once. Without it, all folders; of observe, all that the devices share with the
+                       observer. part takes those that its device has, and says which it hasn't
   --names PREFIX       only names that begin with these bytes
   --slice K/N          only names of slice K of N, as 3/7, of at most %d. So a slow disk can be read in N nights. A name's slice is the
                        same on all devices and for ever, so slices 1/N to N/N have each name once

@@ -75,8 +75,6 @@ func (o *options) checkObserve() error {
 		return &wrongUsage{"--init makes the observer's home, and asks no device"}
 	case o.init:
 		return nil
-	case len(o.folders) != 1:
-		return &wrongUsage{"'observe' asks for one --folder ID at a time"}
 	case o.still < 0:
 		return &wrongUsage{"--still is at least 0"}
 	case o.history != "" && o.into != "":
@@ -126,12 +124,12 @@ type address struct {
 // formOfAddress is a device's id with the address at which it listens.
 var formOfAddress = regexp.MustCompile(`^([A-Za-z0-9-]+)(?:@(?:tcp[46]?://)?([^/@]+:[0-9]+))?$`)
 
-// addressesOf reads where devices are. Of one that is given by its id alone it is where it was reached last; without any, all that were asked of the folder
-// before are.
+// addressesOf reads where devices are. Of one that is given by its id alone it is where it was reached last; without any, all that were asked of one of the
+// folders before are.
 func addressesOf(asked options, kept *observe.Addresses) ([]address, error) {
 	made, words := []address{}, asked.parts
 	if len(words) == 0 {
-		words = kept.Of(asked.folders[0])
+		words = kept.Of(asked.folders)
 	}
 	if len(words) == 0 {
 		return nil, &wrongUsage{"no device is given: its id and address as ID@tcp://HOST:22000, or its id alone with --listen"}

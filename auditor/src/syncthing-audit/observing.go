@@ -36,16 +36,16 @@ type observing struct {
 	room      string
 	log       io.Writer
 	progress  io.Writer
-	mutex     sync.Mutex // of the log, and of what failed
-	failed    map[int]bool
+	mutex     sync.Mutex        // of the log, and of what failed
+	failed    map[int]error     // why a device couldn't be looked at
 	devices   []*observe.Device // by their places among the addresses; nothing of one that failed
 	incoming  net.Listener
 	awaited   map[protocol.DeviceID]chan *wire.Connection
-	next      map[protocol.DeviceID]*wire.Index // what a look puts its device's index into
-	kept      []*observe.Kept                   // by the devices' places among the addresses
-	since     []*wire.Index                     // of the second looks
-	found     string                            // a directory for what is found
-	isWaited  map[protocol.DeviceID]bool        // whether a look waits for the device now
+	looks     map[protocol.DeviceID]wire.Look                // what a look asks of its device, and puts its indexes into
+	kept      map[protocol.DeviceID]map[string]*observe.Kept // by folder
+	since     []*wire.Index                                  // of the second looks
+	found     string                                         // a directory for what is found
+	isWaited  map[protocol.DeviceID]bool                     // whether a look waits for the device now
 	read      atomic.Int64
 	first     time.Time // when the last first look was over
 	second    time.Time // when the first second look began
@@ -54,14 +54,14 @@ type observing struct {
 
 // wants gives what is asked of a device. Where its disks are walked, no bytes are asked for over the wire.
 func (o *observing) wants(at int) observe.Asked {
-	return observe.Asked{Folder: o.asked.folders[0], Names: o.asked.names, Records: o.asked.records || o.asked.disks[at] != "", Limits: wire.Usual, Room: o.found}
+	return observe.Asked{Names: o.asked.names, Records: o.asked.records || o.asked.disks[at] != "", Room: o.found}
 }
 
 // listen begins to take connections that devices open, if that is asked for.
 func (o *observing) listen() error {
-	o.failed, o.devices = map[int]bool{}, make([]*observe.Device, len(o.addresses))
-	o.awaited, o.next = map[protocol.DeviceID]chan *wire.Connection{}, map[protocol.DeviceID]*wire.Index{}
-	o.isWaited, o.kept = map[protocol.DeviceID]bool{}, make([]*observe.Kept, len(o.addresses))
+	o.failed, o.devices = map[int]error{}, make([]*observe.Device, len(o.addresses))
+	o.awaited, o.looks = map[protocol.DeviceID]chan *wire.Connection{}, map[protocol.DeviceID]wire.Look{}
+	o.isWaited, o.kept = map[protocol.DeviceID]bool{}, map[protocol.DeviceID]map[string]*observe.Kept{}
 	if o.asked.listen == "" {
 		return nil
 	}
@@ -107,7 +107,7 @@ func (o *observing) accept() {
 
 // takeIncoming takes the connection of a device that is awaited, and closes each other one before anything is said.
 func (o *observing) takeIncoming(raw net.Conn) {
-	connection, err := o.observer.Accept(context.Background(), raw, o.asked.folders[0], wire.Usual, o.wanted)
+	connection, err := o.observer.Accept(context.Background(), raw, wire.Usual, o.wanted)
 	if err != nil {
 		raw.Close()
 		return
@@ -119,12 +119,12 @@ func (o *observing) takeIncoming(raw net.Conn) {
 	}
 }
 
-// wanted gives what a look puts a device's index into, and whether the device is awaited at this moment: one that came back before the second looks
-// begin would say what it had then.
-func (o *observing) wanted(id protocol.DeviceID) (*wire.Index, bool) {
+// wanted gives what a look asks of a device, and whether the device is awaited at this moment: one that came back before the second looks begin would
+// say what it had then.
+func (o *observing) wanted(id protocol.DeviceID) (wire.Look, bool) {
 	o.mutex.Lock()
 	defer o.mutex.Unlock()
-	return o.next[id], o.isWaited[id]
+	return o.looks[id], o.isWaited[id]
 }
 
 // await says whether a device is awaited from now on.
@@ -142,8 +142,8 @@ func (o *observing) close() {
 	for _, one := range o.since {
 		one.Close()
 	}
-	for _, one := range o.kept {
-		if one != nil {
+	for _, folders := range o.kept {
+		for _, one := range folders {
 			one.Close()
 		}
 	}
@@ -161,10 +161,8 @@ func (o *observing) close() {
 func (o *observing) connect(at int) (*wire.Connection, error) {
 	one := o.addresses[at]
 	if one.where != "" {
-		o.mutex.Lock()
-		next := o.next[one.id]
-		o.mutex.Unlock()
-		return o.observer.Dial(context.Background(), one.where, one.id, o.asked.folders[0], next, wire.Usual)
+		look, _ := o.wanted(one.id)
+		return o.observer.Dial(context.Background(), one.where, one.id, look, wire.Usual)
 	}
 	o.await(one.id, true)
 	defer o.await(one.id, false)
@@ -198,7 +196,7 @@ func (o *observing) each(what string, do func(at int) error) {
 func (o *observing) hasFailed(at int) bool {
 	o.mutex.Lock()
 	defer o.mutex.Unlock()
-	return o.failed[at]
+	return o.failed[at] != nil
 }
 
 // fail tells that a device couldn't be looked at.
@@ -208,7 +206,7 @@ func (o *observing) fail(at int, what string, err error) {
 	if o.devices[at] != nil {
 		o.devices[at].Close()
 	}
-	o.failed[at], o.devices[at] = true, nil
+	o.failed[at], o.devices[at] = err, nil
 	outside.Printf(o.log, "syncthing-audit: %s: %s: %v\n", o.addresses[at].given, what, err)
 }
 
@@ -237,14 +235,16 @@ func (o *observing) look() error {
 	o.tellStep("first look")
 	o.each("first look", func(at int) error {
 		defer connections[at].Close()
-		made, err := observe.Begin(context.Background(), connections[at], o.kept[at], o.wants(at), func(bytes int64) { o.read.Add(bytes) })
+		kept := func(folder string) *observe.Kept { return o.keptOf(connections[at].Device, folder) }
+		made, err := observe.Begin(context.Background(), connections[at], kept, o.wants(at), func(bytes int64) { o.read.Add(bytes) })
 		if err != nil {
 			return err
 		}
 		o.mutex.Lock()
+		defer o.mutex.Unlock()
 		o.devices[at], o.first = made, time.Now()
-		o.mutex.Unlock()
-		return o.keepSince(made)
+		o.looks[made.ID] = o.lookSince(made)
+		return nil
 	})
 	if err := o.endFirstLooks(); err != nil {
 		return err
@@ -294,9 +294,11 @@ func (o *observing) checkAll(connections []*wire.Connection) error {
 		if connection == nil {
 			continue
 		}
-		for _, one := range connection.Folder.Devices {
-			if one.Device != o.observer.ID && !o.isAsked(one.Device) {
-				lacking[fmt.Sprintf("%s (%s)", one.Name, one.Device)] = true
+		for _, folder := range connection.Folders {
+			for _, one := range folder.Devices {
+				if one.Device != o.observer.ID && !o.isAsked(one.Device) {
+					lacking[fmt.Sprintf("%s (%s)", one.Name, one.Device)] = true
+				}
 			}
 		}
 	}
@@ -368,6 +370,7 @@ func (o *observing) answer(program ask.Program, files map[string]string, output 
 		return 0, renamed(err, files)
 	}
 	defer opened.close()
+	opened.unreached = o.unreached()
 	for _, one := range opened.devices {
 		one.From, one.IsUnsigned = files[one.From], false // the devices said all that themselves
 	}
@@ -383,6 +386,7 @@ func (o *observing) answer(program ask.Program, files map[string]string, output 
 	if err != nil {
 		return 0, renamed(err, files)
 	}
+	o.addUnreached(answer)
 	for _, one := range answer.Folders {
 		if one.Live != nil {
 			one.Live.Seconds, one.Live.Timed = o.second.Sub(o.first).Seconds(), true

@@ -102,9 +102,15 @@ func (o *observing) tellCommand(at int) error {
 	for _, size := range found {
 		sizes = append(sizes, strconv.FormatInt(size, 10))
 	}
-	path := o.asked.disks[at]
-	command := commandOfHalf(looks.Token(device.ID.String(), o.lookID), o.asked.folders[0], filepath.Base(path), sizes, o.asked.names.Flags())
-	outside.Printf(o.log, "syncthing-audit: now on %s (%s), with the folder's directory in place of DIR:\n  %s\nsyncthing-audit: waiting for that file at %s\n",
+	path, folders, directory := o.asked.disks[at], []string{}, "the folder's directory"
+	for _, one := range device.Folders {
+		folders = append(folders, one.ID())
+	}
+	if len(folders) > 1 {
+		directory = "each folder's directory"
+	}
+	command := commandOfHalf(looks.Token(device.ID.String(), o.lookID), folders, filepath.Base(path), sizes, o.asked.names.Flags())
+	outside.Printf(o.log, "syncthing-audit: now on %s (%s), with "+directory+" in place of DIR:\n  %s\nsyncthing-audit: waiting for that file at %s\n",
 		shell.Printable(device.Hello.Name), device.ID.String()[:7], command, shell.Quoted(path))
 	return nil
 }

@@ -8,66 +8,98 @@ import (
 	"github.com/syncthing/syncthing/lib/protocol"
 	"syncthing-audit/leftover"
 	"syncthing-audit/observe"
+	"syncthing-audit/wire"
 )
 
-// open opens what is kept of all devices. Another run that looks at one of them keeps this one from that.
+// open makes room for what is found, and says what the first looks ask of their devices.
 func (o *observing) open() error {
 	found, err := leftover.Directory()
 	if err != nil {
 		return err
 	}
 	o.found = found
-	o.each("not looked at", func(at int) error {
-		id := o.addresses[at].id
-		kept, err := observe.OpenKept(keptOf(o.asked.homes[0], o.asked.folders[0], id))
-		if err != nil {
-			return err
-		}
-		o.mutex.Lock()
-		defer o.mutex.Unlock()
-		o.kept[at], o.next[id] = kept, kept.Next()
-		return nil
-	})
+	for _, one := range o.addresses {
+		o.looks[one.id] = wire.Look{Folders: o.asked.folders, Kept: o.keeperOf(one.id)}
+	}
 	return nil
 }
 
-// keptOf gives the directory in which the index of a folder at a device is kept.
-func keptOf(home, folder string, id protocol.DeviceID) string {
+// keeperOf gives what opens the indexes that are kept of a device. Another run that looks at one of them keeps this one from that.
+func (o *observing) keeperOf(id protocol.DeviceID) wire.Keeper {
+	return func(folder string) (*wire.Index, error) {
+		o.mutex.Lock()
+		defer o.mutex.Unlock()
+		if kept := o.kept[id][folder]; kept != nil {
+			return kept.Next(), nil
+		}
+		kept, err := observe.OpenKept(directoryOfKept(o.asked.homes[0], folder, id))
+		if err != nil {
+			return nil, err
+		}
+		if o.kept[id] == nil {
+			o.kept[id] = map[string]*observe.Kept{}
+		}
+		o.kept[id][folder] = kept
+		return kept.Next(), nil
+	}
+}
+
+// keptOf gives what is kept of a folder at a device.
+func (o *observing) keptOf(id protocol.DeviceID, folder string) *observe.Kept {
+	o.mutex.Lock()
+	defer o.mutex.Unlock()
+	return o.kept[id][folder]
+}
+
+// directoryOfKept gives the directory in which the index of a folder at a device is kept.
+func directoryOfKept(home, folder string, id protocol.DeviceID) string {
 	sum := sha256.Sum256(append(id[:], folder...))
 	return filepath.Join(home, "indexes", hex.EncodeToString(sum[:16]))
 }
 
-// keepSince has the second look at a device put what came since the first one into an index of its own.
-func (o *observing) keepSince(made *observe.Device) error {
-	since, err := made.Kept(o.found)
-	if err != nil {
-		return err
+// lookSince gives what the second look asks of a device: what came since the first one, in indexes of their own.
+func (o *observing) lookSince(made *observe.Device) wire.Look {
+	look := wire.Look{}
+	for _, one := range made.Folders {
+		look.Folders = append(look.Folders, one.ID())
 	}
-	o.mutex.Lock()
-	defer o.mutex.Unlock()
-	o.next[made.ID], o.since = since, append(o.since, since)
-	return nil
+	look.Kept = func(folder string) (*wire.Index, error) {
+		o.mutex.Lock()
+		defer o.mutex.Unlock()
+		since, err := made.Since(o.found, folder)
+		if err == nil {
+			o.since = append(o.since, since)
+		}
+		return since, err
+	}
+	return look
 }
 
 // finish puts the indexes that were taken in place of those of the last run.
 func (o *observing) finish() error {
-	for at, one := range o.kept {
-		if one == nil || o.devices[at] == nil {
+	for _, device := range o.devices {
+		if device == nil {
 			continue
 		}
-		o.kept[at] = nil
-		if err := one.Finish(); err != nil {
-			return faultOf(err)
+		for _, folder := range device.Folders {
+			kept := o.kept[device.ID][folder.ID()]
+			delete(o.kept[device.ID], folder.ID())
+			if err := kept.Finish(); err != nil {
+				return faultOf(err)
+			}
 		}
 	}
 	return nil
 }
 
-// keepAddresses keeps where the devices were reached that were looked at twice.
+// keepAddresses keeps where the devices were reached that were looked at twice, and of which folders.
 func (o *observing) keepAddresses(kept *observe.Addresses) error {
 	for at, one := range o.addresses {
-		if o.devices[at] != nil {
-			kept.Add(o.asked.folders[0], one.id.String(), one.where)
+		if o.devices[at] == nil {
+			continue
+		}
+		for _, folder := range o.devices[at].Folders {
+			kept.Add(folder.ID(), one.id.String(), one.where)
 		}
 	}
 	return faultOf(kept.Keep())

@@ -128,7 +128,7 @@ func (p *Plan) foldersOf(id string) []*Folder {
 	made := &Folder{ID: id}
 	for _, device := range p.Devices {
 		if about := device.Head.Folder(id); about != nil {
-			made.Members = append(made.Members, Member{Device: device, About: about})
+			made.Members = append(made.Members, Member{Device: device.in(about), About: about})
 			if made.Label == "" {
 				made.Label = about.Label
 			}
@@ -182,6 +182,9 @@ func (p *Plan) device(id string) *Device {
 
 // whyWithout says why a device's part hasn't a folder, as far as the part says that.
 func (d *Device) whyWithout(folder string) string {
+	if d.Head.IsOverWire() {
+		return d.whyUnseen(folder)
+	}
 	if d.Head.Other(folder) != nil {
 		return "its part is without the folder: make it without --folder, or with it for this one, too"
 	}
@@ -224,7 +227,7 @@ func checkDirectories(folders []*Folder) error {
 	for _, folder := range folders {
 		for _, one := range folder.Members {
 			other, taken := seen[one.About.Directory]
-			if taken && other.Device != one.Device {
+			if taken && other.Head.Device != one.Head.Device {
 				return fmt.Errorf("refused: folder %s, %s: its directory%s is that of %s for folder %s, too. A copied home's "+
 					"config.xml is to name the directory of the copied folder", folder.Called(), one.Label(), behind(one.About.Path), other.Label(), other.folder)
 			}

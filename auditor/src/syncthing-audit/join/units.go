@@ -93,7 +93,7 @@ func (p *Plan) checkSharing(folder *Folder, told map[string]bool) {
 			}
 			told[other.Device] = true
 			if here := p.device(other.Device); here != nil {
-				p.refuse(part.Unshared, folder, other.Device, other.Name, here.whyWithout(folder.ID)+"; "+one.Label()+" shares it with this one")
+				p.refuse(here.kindWithout(folder.ID), folder, other.Device, other.Name, here.whyWithout(folder.ID)+"; "+one.Label()+" shares it with this one")
 			} else {
 				p.refuse(part.Absent, folder, other.Device, other.Name, p.whyAbsent(other.Device))
 			}

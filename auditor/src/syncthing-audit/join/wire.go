@@ -5,6 +5,7 @@ import (
 
 	"golang.org/x/exp/slices"
 	"syncthing-audit/part"
+	"syncthing-audit/shell"
 )
 
 // Unseen counts what isn't seen over the wire of a member, and what a document takes to be as the device recorded it.
@@ -104,6 +105,38 @@ func permissionsOf(own *part.Record) uint32 {
 		return 0
 	}
 	return *own.Permissions
+}
+
+// in gives the device as it is seen in a folder. Of several that were asked over the wire each index may have gone back by itself.
+func (d *Device) in(folder *part.Folder) *Device {
+	if d.Head.Wire == nil || len(d.Head.Folders) < 2 || d.Head.Wire.WentBackFrom == folder.WentBackFrom {
+		return d
+	}
+	made, head, wire := *d, *d.Head, *d.Head.Wire
+	wire.WentBackFrom = folder.WentBackFrom
+	head.Wire = &wire
+	made.Head = &head
+	return &made
+}
+
+// kindWithout gives the kind of what is left out where a device's part is without a folder that another one shares with it.
+func (d *Device) kindWithout(folder string) string {
+	without := d.Head.WhyWithout(folder)
+	switch {
+	case without != nil && without.IsEncrypted:
+		return part.Encrypted
+	case d.Head.IsOverWire(): // nobody knows whether it shares the folder with others
+		return part.Absent
+	}
+	return part.Unshared
+}
+
+// whyUnseen says why an observer has nothing of a folder at a device.
+func (d *Device) whyUnseen(folder string) string {
+	if without := d.Head.WhyWithout(folder); without != nil {
+		return shell.Printable(without.Why)
+	}
+	return "it doesn't share the folder with the observer"
 }
 
 // observers gives the devices that made parts over the wire. They share the folders, and keep none of their files.

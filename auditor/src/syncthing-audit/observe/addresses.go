@@ -8,6 +8,7 @@ import (
 	"path/filepath"
 	"sort"
 
+	"golang.org/x/exp/slices"
 	"syncthing-audit/regular"
 )
 
@@ -46,11 +47,18 @@ func OpenAddresses(home string) (*Addresses, error) {
 	return made, nil
 }
 
-// Of gives the devices that were asked of a folder, rising.
-func (a *Addresses) Of(folder string) []string {
+// Of gives the devices that were asked of one of these folders or, without any, of whichever, rising.
+func (a *Addresses) Of(folders []string) []string {
 	made := []string{}
-	for device := range a.Folders[folder] {
-		made = append(made, device)
+	for folder, devices := range a.Folders {
+		if len(folders) > 0 && !slices.Contains(folders, folder) {
+			continue
+		}
+		for device := range devices {
+			if !slices.Contains(made, device) {
+				made = append(made, device)
+			}
+		}
 	}
 	sort.Strings(made)
 	return made

@@ -11,18 +11,24 @@ import (
 func TestAddresses(t *testing.T) {
 	home := t.TempDir()
 	made, err := OpenAddresses(home)
-	if err != nil || len(made.Of("docs")) != 0 {
+	if err != nil || len(made.Of([]string{"docs"})) != 0 {
 		t.Fatal(made, err)
 	}
 	made.Add("docs", "B", "laptop:22000")
 	made.Add("docs", "A", "")
 	made.Add("more", "C", "nas:22000")
+	made.Add("more", "B", "laptop:22000")
 	if err := made.Keep(); err != nil {
 		t.Fatal(err)
 	}
 	read, err := OpenAddresses(home)
-	if err != nil || !reflect.DeepEqual(read.Of("docs"), []string{"A", "B"}) || read.Devices["B"] != "laptop:22000" || read.Devices["A"] != "" || len(read.Of("none")) != 0 {
+	if err != nil || !reflect.DeepEqual(read.Of([]string{"docs"}), []string{"A", "B"}) || read.Devices["B"] != "laptop:22000" || read.Devices["A"] != "" || len(read.Of([]string{"none"})) != 0 {
 		t.Errorf("%+v, %v", read, err)
+	}
+	for _, folders := range [][]string{nil, {"more", "docs"}} {
+		if all := read.Of(folders); !reflect.DeepEqual(all, []string{"A", "B", "C"}) {
+			t.Errorf("of %v: %v", folders, all)
+		}
 	}
 	if left, err := filepath.Glob(filepath.Join(home, "*-*")); err != nil || len(left) != 0 {
 		t.Errorf("%q is left", left)

@@ -6,68 +6,45 @@ import (
 	"errors"
 	"fmt"
 	"os"
+	"sort"
 	"time"
 
 	"github.com/syncthing/syncthing/lib/protocol"
 	"syncthing-audit/choice"
-	"syncthing-audit/device"
 	"syncthing-audit/wire"
 )
 
 // Asked says what is asked of devices.
 type Asked struct {
-	Folder  string
 	Names   choice.Names
-	Records bool // records alone, and no bytes
-	Limits  wire.Limits
+	Records bool   // records alone, and no bytes
 	Room    string // a directory for what is found
 }
 
-// Device is what an observer has seen of a folder at a device.
+// Device is what an observer has seen of a device.
 type Device struct {
-	ID    protocol.DeviceID
-	Hello wire.Hello
-	Half  string      // the id of the walk of its disks, which has what stands there; nothing where none was awaited
-	said  wire.Folder // at the first look
-	heard wire.Folder // at the second look
-	index *wire.Index
-	since *wire.Index // what came between the looks
-	disks *disks
-	room  string // of what came between the looks
-	bytes int64
-	names int64 // of the device's own index
+	ID      protocol.DeviceID
+	Hello   wire.Hello
+	Half    string           // the id of the walk of its disks, which has what stands there; nothing where none was awaited
+	Folders []*Folder        // rising by id
+	Out     map[string]error // why others that were asked for weren't looked at, by their ids
 
-	wentBack   int64     // from which sequence of an earlier look its index went back; 0 where it didn't
-	isReceiver bool      // whether it has local changes, as a device that only receives has
-	first      time.Time // when the first look was over
-	again      time.Time // when the second look began
+	room  string    // a directory for what came between the looks
+	first time.Time // when the first look was over
+	again time.Time // when the second look began
 }
 
-// errWentBack says that a device's index isn't the one of the first look.
+// errWentBack says that an index isn't the one of the first look.
 var errWentBack = errors.New("its index was made anew or went back between the looks: look again")
 
-// Begin makes the first look at a device on a connection: its index, which goes into the next one that is kept, and then its bytes. It calls read with
-// how many bytes it has read.
-func Begin(ctx context.Context, connection *wire.Connection, kept *Kept, asked Asked, read func(bytes int64)) (*Device, error) {
-	made := &Device{ID: connection.Device, Hello: connection.Hello, said: connection.Folder}
-	var err error
-	if made.index, err = connection.Index(ctx); err != nil {
-		return nil, err
+// Begin makes the first look at a device on a connection: all its indexes, which go into the next ones that are kept, and then its bytes. It calls read
+// with how many bytes it has read.
+func Begin(ctx context.Context, connection *wire.Connection, kept func(folder string) *Kept, asked Asked, read func(bytes int64)) (*Device, error) {
+	made := &Device{ID: connection.Device, Hello: connection.Hello, Out: map[string]error{}}
+	for id, why := range connection.Out {
+		made.Out[id] = why
 	}
-	if made.wentBack, err = kept.WentBackFrom(); err != nil {
-		return nil, err
-	}
-	if made.disks, err = newDisks(asked.Room); err != nil {
-		return nil, err
-	}
-	if err = made.count(); err == nil && !asked.Records {
-		isWanted := func(name string) bool { return asked.Names.Has(asked.Folder, name) }
-		err = connection.Bytes(ctx, made.index, isWanted, func(entry device.Entry, found wire.Found) error {
-			made.bytes += found.Size - found.Unread
-			read(found.Size - found.Unread)
-			return made.disks.put(entry.Name, diskOf(connection.Device, entry.Name, found))
-		})
-	}
+	err := made.begin(ctx, connection, kept, asked, read)
 	if err != nil {
 		made.Close()
 		return nil, err
@@ -76,52 +53,94 @@ func Begin(ctx context.Context, connection *wire.Connection, kept *Kept, asked A
 	return made, nil
 }
 
-// count counts the names of the device's own index, and sees whether it has local changes.
-func (d *Device) count() error {
-	return d.index.Each(func(entry device.Entry) error {
-		d.names++
-		d.isReceiver = d.isReceiver || entry.Record != nil && isLocalChange(entry.Record)
-		return nil
-	})
+func (d *Device) begin(ctx context.Context, connection *wire.Connection, kept func(folder string) *Kept, asked Asked, read func(bytes int64)) error {
+	for _, one := range connection.Folders {
+		folder, err := beginFolder(ctx, one, kept(one.ID), asked.Room, d.ID)
+		if err != nil {
+			return inFolder(one.ID, err)
+		}
+		d.Folders = append(d.Folders, folder)
+	}
+	for place, one := range connection.Folders {
+		if err := d.Folders[place].read(ctx, one, asked, read); err != nil {
+			return inFolder(one.ID, err)
+		}
+	}
+	return nil
 }
+
+// inFolder says in which folder something failed.
+func inFolder(id string, err error) error { return fmt.Errorf("folder %q: %w", id, err) }
 
 // Close lets go of what was found.
 func (d *Device) Close() {
-	if d.disks != nil {
-		d.disks.close()
+	for _, one := range d.Folders {
+		one.disks.close()
 	}
 	if d.room != "" {
 		os.RemoveAll(d.room)
 	}
 }
 
-// Kept gives an index for the second look, which says that it has what the first one had, and takes what comes since. It stands in a directory of
-// its own in the room.
-func (d *Device) Kept(room string) (*wire.Index, error) {
+// Since gives an index of a folder for the second look, which says that it has what the first one had, and takes what comes since. It stands in a
+// directory of its own in the room.
+func (d *Device) Since(room, folder string) (*wire.Index, error) {
 	var err error
-	if d.room, err = os.MkdirTemp(room, "since-"); err != nil {
+	if d.room == "" {
+		if d.room, err = os.MkdirTemp(room, "since-"); err != nil {
+			return nil, err
+		}
+	}
+	directory, err := os.MkdirTemp(d.room, "index-")
+	if err != nil {
 		return nil, err
 	}
-	made, err := wire.OpenIndex(d.room)
-	if err == nil {
-		made.ID, made.Highest = d.index.ID, d.index.Highest
+	made, err := wire.OpenIndex(directory)
+	if first := d.Folder(folder); err == nil && first != nil {
+		made.ID, made.Highest = first.index.ID, first.index.Highest
 	}
 	return made, err
 }
 
-// End makes the second look, on another connection: what came since.
+// Folder gives the folder of this id, or nothing.
+func (d *Device) Folder(id string) *Folder {
+	place := sort.Search(len(d.Folders), func(place int) bool { return d.Folders[place].ID() >= id })
+	if place < len(d.Folders) && d.Folders[place].ID() == id {
+		return d.Folders[place]
+	}
+	return nil
+}
+
+// End makes the second look, on another connection: what came since. A folder that isn't shared with the observer any more is out.
 func (d *Device) End(ctx context.Context, connection *wire.Connection) error {
-	d.again, d.heard = time.Now().UTC(), connection.Folder
-	since, err := connection.Index(ctx)
-	if err != nil {
-		return err
-	}
-	if since.ID != d.index.ID || since.Highest < d.index.Highest {
-		return errWentBack
-	}
+	d.again = time.Now().UTC()
 	if connection.Device != d.ID {
 		return fmt.Errorf("another device, %s", connection.Device)
 	}
-	d.since = since
+	kept := d.Folders[:0:0]
+	for _, one := range d.Folders {
+		id := one.ID()
+		again := connection.Shared(id)
+		if again == nil {
+			d.Out[id] = fmt.Errorf("at the second look: %w", whyOut(connection, id))
+			one.disks.close()
+			continue
+		}
+		if err := one.end(ctx, again); err != nil {
+			return inFolder(id, err)
+		}
+		kept = append(kept, one)
+	}
+	if d.Folders = kept; len(kept) == 0 {
+		return wire.NotShared
+	}
 	return nil
+}
+
+// whyOut says why a folder isn't observed on a connection.
+func whyOut(connection *wire.Connection, folder string) error {
+	if why := connection.Out[folder]; why != nil {
+		return why
+	}
+	return wire.NotShared
 }

@@ -11,18 +11,25 @@ import (
 	"syncthing-audit/wire"
 )
 
-var asked = Asked{Folder: "docs"}
+var asked = Asked{}
 
-// seen gives a device with these records, of which some came again at the second look.
+// seen gives a device that shares one folder.
 func seen(t *testing.T, records map[string][]byte, since ...string) *Device {
 	t.Helper()
-	made := &Device{ID: protocol.DeviceID{0: 1, 7: 1}, index: wire.NewIndex(7), since: wire.NewIndex(7), said: wire.Folder{ID: "docs"}, first: time.Unix(1, 0),
-		again: time.Unix(2, 0)}
+	made := &Device{ID: protocol.DeviceID{0: 1, 7: 1}, Out: map[string]error{}, first: time.Unix(1, 0), again: time.Unix(2, 0)}
+	made.Folders = []*Folder{seenIn(t, "docs", records, since...)}
+	return made
+}
+
+// seenIn gives a folder of that device with these records, of which some came again at the second look.
+func seenIn(t *testing.T, id string, records map[string][]byte, since ...string) *Folder {
+	t.Helper()
+	made := &Folder{of: protocol.DeviceID{0: 1, 7: 1}, index: wire.NewIndex(7), since: wire.NewIndex(7), said: wire.Folder{ID: id}}
 	var err error
 	if made.disks, err = newDisks(t.TempDir()); err != nil {
 		t.Fatal(err)
 	}
-	t.Cleanup(made.Close)
+	t.Cleanup(made.disks.close)
 	for _, record := range records {
 		if err := made.index.Put(record); err != nil {
 			t.Fatal(err)
@@ -55,8 +62,8 @@ func fileOf(name string, sequence uint64, hasVersion bool, more ...byte) []byte 
 // invalid is the field of a record that its device marks as invalid.
 var invalid = message.AppendNumber(nil, 7, 1)
 
-// linesOf gives the lines of a device's part by name, whose names rise.
-func linesOf(t *testing.T, of *Device) map[string]*part.Name {
+// linesOf gives the lines of a folder by name, whose names rise.
+func linesOf(t *testing.T, of *Folder) map[string]*part.Name {
 	t.Helper()
 	made, last := map[string]*part.Name{}, ""
 	err := of.each(asked, func(line *part.Name) error {
@@ -76,11 +83,11 @@ func linesOf(t *testing.T, of *Device) map[string]*part.Name {
 func TestLines(t *testing.T) {
 	made := seen(t, map[string][]byte{"failed": fileOf("failed", 1, true), "ignored": fileOf("ignored", 2, true), "same": fileOf("same", 3, true),
 		"moved": fileOf("moved", 4, true), "invalid": fileOf("invalid", 5, true, invalid...), "local": fileOf("local", 6, false, invalid...),
-		"unknown": fileOf("unknown", 7, true), "missing": fileOf("missing", 8, true)}, "a new one", "moved", "new")
+		"unknown": fileOf("unknown", 7, true), "missing": fileOf("missing", 8, true)}, "a new one", "moved", "new").Folders[0]
 	found := map[string]wire.Found{"same": {State: wire.Same, Size: 3, BlockSize: protocol.MinBlockSize, Blocks: [][32]byte{{1}}}, "failed": {State: wire.Failed},
 		"ignored": {State: wire.Ignored}, "moved": {State: wire.Same, Size: 3}, "unknown": {State: wire.NotKnown}, "missing": {State: wire.Missing}}
 	for name, one := range found {
-		if err := made.disks.put(name, diskOf(made.ID, name, one)); err != nil {
+		if err := made.disks.put(name, diskOf(made.of, name, one)); err != nil {
 			t.Fatal(err)
 		}
 	}
@@ -112,7 +119,7 @@ func TestLines(t *testing.T) {
 // A name that is too long for a part is told by a hash, behind all others, and one that no document has by its reason.
 func TestOddNames(t *testing.T) {
 	long := strings.Repeat("a", part.MostNameBytes+1)
-	made := seen(t, map[string][]byte{"long": fileOf(long, 1, true), "odd": fileOf("../out", 2, true), "z": fileOf("z", 3, true)})
+	made := seen(t, map[string][]byte{"long": fileOf(long, 1, true), "odd": fileOf("../out", 2, true), "z": fileOf("z", 3, true)}).Folders[0]
 	names := linesOf(t, made)
 	if len(names) != 3 || names[long] != nil || names["../out"].Out[0].Kind != part.OddName || len(names["z"].Out) > 0 {
 		t.Errorf("%+v", names)
@@ -122,15 +129,15 @@ func TestOddNames(t *testing.T) {
 // Views and devices are told without the observer, and views have what was heard at both looks.
 func TestFolder(t *testing.T) {
 	observer, other := protocol.DeviceID{0: 9, 7: 1}, protocol.DeviceID{0: 2, 7: 1}
-	made := seen(t, nil)
-	made.said.Devices = []wire.Sharing{{Device: made.ID}, {Device: observer, IndexID: 3}, {Device: other, Name: "other", IndexID: 4, Sequence: 5}}
+	made := seen(t, nil).Folders[0]
+	made.said.Devices = []wire.Sharing{{Device: made.of}, {Device: observer, IndexID: 3}, {Device: other, Name: "other", IndexID: 4, Sequence: 5}}
 	made.heard.Devices = []wire.Sharing{{Device: other, IndexID: 4, Sequence: 8}}
-	folder := made.folder(observer)
+	folder := made.head(observer)
 	if len(folder.Sharing) != 1 || len(folder.Views) != 1 || folder.Views[0].Max != 5 || folder.Views[0].Heard != 8 {
 		t.Errorf("%+v", folder)
 	}
 	made.heard.Devices[0].IndexID = 5
-	if folder := made.folder(observer); folder.Views[0].Heard != 0 {
+	if folder := made.head(observer); folder.Views[0].Heard != 0 {
 		t.Errorf("%+v", folder.Views)
 	}
 }

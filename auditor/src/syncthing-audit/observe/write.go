@@ -25,33 +25,42 @@ func (d *Device) Write(to io.Writer, asked Asked, observer protocol.DeviceID, lo
 
 // lines gives the lines of a part to take.
 func (d *Device) lines(asked Asked, head *part.Head, take part.Sink) error {
-	folder := &head.Folders[0]
-	if err := take(part.Line{Begin: &part.Begin{Folder: folder.ID}}); err != nil {
+	for place, one := range d.Folders {
+		if err := one.lines(asked, head.Folders[place].Max, place == len(d.Folders)-1, take); err != nil {
+			return err
+		}
+	}
+	return nil
+}
+
+// lines gives the lines of a folder to take.
+func (f *Folder) lines(asked Asked, highest int64, isLast bool, take part.Sink) error {
+	id, names := f.ID(), int64(0)
+	if err := take(part.Line{Begin: &part.Begin{Folder: id}}); err != nil {
 		return err
 	}
-	names := int64(0)
-	err := d.each(asked, func(line *part.Name) error {
+	err := f.each(asked, func(line *part.Name) error {
 		names++
 		return take(part.Line{Name: line})
 	})
 	if err != nil {
 		return err
 	}
-	return take(part.Line{End: &part.End{Folder: folder.ID, Names: names, Bytes: d.bytes, Max: folder.Max, Last: true}})
+	return take(part.Line{End: &part.End{Folder: id, Names: names, Bytes: f.bytes, Max: highest, Last: isLast}})
 }
 
 // each gives the lines of all names that were asked for, in the order of a part: names that are too long for one stand behind all others.
-func (d *Device) each(asked Asked, take func(*part.Name) error) error {
-	news, err := d.news()
+func (f *Folder) each(asked Asked, take func(*part.Name) error) error {
+	news, err := f.news()
 	if err != nil {
 		return err
 	}
 	long := []*part.Name{}
 	tell := func(entry device.Entry) error {
-		if !asked.Names.Has(asked.Folder, entry.Name) {
+		if !asked.Names.Has(f.ID(), entry.Name) {
 			return nil
 		}
-		line, err := d.line(asked, entry)
+		line, err := f.line(entry)
 		if err == nil && part.IsLongName(entry.Name) {
 			long = append(long, line)
 			return nil
@@ -61,7 +70,7 @@ func (d *Device) each(asked Asked, take func(*part.Name) error) error {
 		}
 		return err
 	}
-	err = d.index.Each(func(entry device.Entry) error {
+	err = f.index.Each(func(entry device.Entry) error {
 		for len(news) > 0 && news[0] < entry.Name {
 			if err := tell(device.Entry{Name: news[0]}); err != nil {
 				return err
@@ -81,10 +90,10 @@ func (d *Device) each(asked Asked, take func(*part.Name) error) error {
 }
 
 // news gives the names that came between the looks, rising.
-func (d *Device) news() ([]string, error) {
+func (f *Folder) news() ([]string, error) {
 	made := []string{}
-	err := d.since.Each(func(entry device.Entry) error {
-		_, is, err := d.index.Get(entry.Name)
+	err := f.since.Each(func(entry device.Entry) error {
+		_, is, err := f.index.Get(entry.Name)
 		if err == nil && !is {
 			made = append(made, entry.Name)
 		}
@@ -94,14 +103,14 @@ func (d *Device) news() ([]string, error) {
 }
 
 // line gives what was seen of a name.
-func (d *Device) line(asked Asked, entry device.Entry) (*part.Name, error) {
+func (f *Folder) line(entry device.Entry) (*part.Name, error) {
 	made := &part.Name{Name: part.Bytes(entry.Name)}
 	if part.IsLongName(entry.Name) {
-		made.Name = part.HiddenLongName(asked.Folder, entry.Name).Bytes()
+		made.Name = part.HiddenLongName(f.ID(), entry.Name).Bytes()
 		made.Out = []part.LeftOut{{Kind: part.OddName, Why: fmt.Sprintf("its name has %d bytes, or begins with bytes that stand before hashes in a part", len(entry.Name))}}
 		return made, nil
 	}
-	_, isMoved, err := d.since.Get(entry.Name)
+	_, isMoved, err := f.since.Get(entry.Name)
 	if err != nil {
 		return nil, err
 	}
@@ -109,7 +118,7 @@ func (d *Device) line(asked Asked, entry device.Entry) (*part.Name, error) {
 		made.Moved = []string{part.MovedRecord}
 		return made, nil
 	}
-	found, err := d.disks.get(entry.Name)
+	found, err := f.disks.get(entry.Name)
 	if err != nil {
 		return nil, err
 	}

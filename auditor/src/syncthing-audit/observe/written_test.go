@@ -18,8 +18,7 @@ import (
 // written gives a device with names of each kind: before, between and behind those that came between the looks, and two that are too long for a part.
 func written(t *testing.T) *Device {
 	made := seen(t, map[string][]byte{"b": fileOf("b", 1, true), "d": fileOf("d", 2, true), long("x"): fileOf(long("x"), 3, true), long("y"): fileOf(long("y"), 4, true)}, "a", "c", "e", "d")
-	made.since.Highest = 9
-	made.bytes = 7
+	made.Folders[0].since.Highest, made.Folders[0].bytes = 9, 7
 	return made
 }
 
@@ -28,9 +27,9 @@ func long(first string) string { return first + strings.Repeat("l", part.MostNam
 // A part that an observer writes is one: it is read to its end, with all names in their places, their number and their bytes.
 func TestAPartThatIsWritten(t *testing.T) {
 	device, other := written(t), &Device{ID: protocol.DeviceID{0: 2, 7: 1}}
-	device.wentBack, device.Hello = 5, wire.Hello{Name: "laptop", Version: "v1"}
+	device.Folders[0].wentBack, device.Hello = 5, wire.Hello{Name: "laptop", Version: "v1"}
 	for number := byte(8); number > 2; number-- { // others in no order
-		device.said.Devices = append(device.said.Devices, wire.Sharing{Device: protocol.DeviceID{0: number, 7: number}, IndexID: uint64(number), Sequence: 3})
+		device.Folders[0].said.Devices = append(device.Folders[0].said.Devices, wire.Sharing{Device: protocol.DeviceID{0: number, 7: number}, IndexID: uint64(number), Sequence: 3})
 	}
 	look := strings.Repeat("0", 32)
 	var text bytes.Buffer
@@ -78,6 +77,57 @@ func TestAPartThatIsWritten(t *testing.T) {
 	}
 }
 
+// A part has several folders one after another, each with its own index and from where that went back. It says which the device didn't show, and why.
+func TestAPartOfSeveralFolders(t *testing.T) {
+	device := written(t)
+	device.Folders[0].wentBack = 5
+	device.Folders = append(device.Folders, seenIn(t, "photos", map[string][]byte{"p": fileOf("p", 1, true)}, "q"))
+	device.Folders[1].since.Highest = 12
+	device.Out["secret"], device.Out["other"] = wire.EncryptedFolder, wire.Paused
+	var text bytes.Buffer
+	if err := device.Write(&text, asked, protocol.DeviceID{0: 9, 7: 1}, strings.Repeat("0", 32), []*Device{device}); err != nil {
+		t.Fatal(err)
+	}
+	read, err := part.NewReader(&text)
+	if err != nil {
+		t.Fatal(err)
+	}
+	names, folder, ends := map[string]int{}, "", []part.End{}
+	for {
+		line, err := read.Next()
+		if err == io.EOF {
+			break
+		}
+		if err != nil {
+			t.Fatal(err)
+		}
+		switch {
+		case line.Begin != nil:
+			folder = line.Begin.Folder
+		case line.End != nil:
+			ends = append(ends, *line.End)
+		default:
+			names[folder]++
+		}
+	}
+	if expected := []part.End{{Folder: "docs", Names: 7, Bytes: 7, Max: 9}, {Folder: "photos", Names: 2, Max: 12, Last: true}}; !reflect.DeepEqual(ends, expected) {
+		t.Errorf("%+v", ends)
+	}
+	head := read.Head()
+	without := []part.Without{{Folder: "other", Why: wire.Paused.Error()}, {Folder: "secret", Why: wire.EncryptedFolder.Error(), IsEncrypted: true}}
+	if !reflect.DeepEqual(names, map[string]int{"docs": 7, "photos": 2}) || !reflect.DeepEqual(head.Wire.Without, without) {
+		t.Errorf("%v, %+v", names, head.Wire)
+	}
+	if head.Wire.WentBackFrom != 5 || head.Folders[0].WentBackFrom != 5 || head.Folders[1].WentBackFrom != 0 {
+		t.Errorf("%+v, %+v", head.Wire, head.Folders)
+	}
+	for at, wanted := range []*Folder{device.Folders[0], device.Folders[1], nil} {
+		if got := device.Folder([]string{"docs", "photos", "other"}[at]); got != wanted {
+			t.Errorf("%d: %v", at, got)
+		}
+	}
+}
+
 // Whoever takes the lines may fail at any of them: nothing is given behind that, and the error is told.
 func TestWhoeverTakesTheLinesMayFail(t *testing.T) {
 	failed := errors.New("no room")
@@ -98,9 +148,9 @@ func TestWhoeverTakesTheLinesMayFail(t *testing.T) {
 	if err := device.Write(full{}, asked, protocol.DeviceID{0: 9, 7: 1}, strings.Repeat("0", 32), nil); err == nil {
 		t.Error("a part is written where there is no room")
 	}
-	device.said.Devices = make([]wire.Sharing, 2000)
-	for place := range device.said.Devices {
-		device.said.Devices[place].Device = protocol.DeviceID{0: byte(place), 1: byte(place >> 8), 7: 5}
+	device.Folders[0].said.Devices = make([]wire.Sharing, 2000)
+	for place := range device.Folders[0].said.Devices {
+		device.Folders[0].said.Devices[place].Device = protocol.DeviceID{0: byte(place), 1: byte(place >> 8), 7: 5}
 	}
 	if err := device.Write(io.Discard, asked, protocol.DeviceID{0: 9, 7: 1}, strings.Repeat("0", 32), nil); err == nil {
 		t.Error("a part of too many devices is written")
@@ -113,13 +163,13 @@ func (full) Write([]byte) (int, error) { return 0, errors.New("no room") }
 
 // What can't be read of an index, or of what was found, ends the lines.
 func TestWhatCannotBeReadOfWhatWasSeen(t *testing.T) {
-	for why, spoil := range map[string]func(device *Device) error{
-		"the first look's index": func(device *Device) error { return device.index.Close() },
-		"what came since":        func(device *Device) error { return device.since.Close() },
-		"what was found":         func(device *Device) error { return device.disks.db.Close() },
-		"a text that is damaged": func(device *Device) error { return device.disks.db.Put([]byte("b"), []byte("{"), nil) },
+	for why, spoil := range map[string]func(of *Folder) error{
+		"the first look's index": func(of *Folder) error { return of.index.Close() },
+		"what came since":        func(of *Folder) error { return of.since.Close() },
+		"what was found":         func(of *Folder) error { return of.disks.db.Close() },
+		"a text that is damaged": func(of *Folder) error { return of.disks.db.Put([]byte("b"), []byte("{"), nil) },
 	} {
-		device := written(t)
+		device := written(t).Folders[0]
 		if err := spoil(device); err != nil {
 			t.Fatal(err)
 		}
@@ -154,13 +204,14 @@ func TestWhatIsFoundOfAFile(t *testing.T) {
 // Nothing is left of a device that is closed, and its index for the second look says that it has what the first one had.
 func TestNothingIsLeftOfADevice(t *testing.T) {
 	room := t.TempDir()
-	device := &Device{index: wire.NewIndex(7), since: wire.NewIndex(7)}
-	device.index.Highest = 5
+	folder := &Folder{said: wire.Folder{ID: "docs"}, index: wire.NewIndex(7)}
+	folder.index.Highest = 5
 	var err error
-	if device.disks, err = newDisks(room); err != nil {
+	if folder.disks, err = newDisks(room); err != nil {
 		t.Fatal(err)
 	}
-	kept, err := device.Kept(room)
+	device := &Device{Folders: []*Folder{folder}}
+	kept, err := device.Since(room, "docs")
 	if err != nil || kept.ID != 7 || kept.Highest != 5 {
 		t.Fatal(kept, err)
 	}
@@ -171,7 +222,7 @@ func TestNothingIsLeftOfADevice(t *testing.T) {
 	if entries, err := os.ReadDir(room); err != nil || len(entries) > 0 {
 		t.Errorf("%v are left, %v", entries, err)
 	}
-	for _, nowhere := range []func() error{func() error { _, err := newDisks("/nowhere"); return err }, func() error { _, err := device.Kept("/nowhere"); return err }} {
+	for _, nowhere := range []func() error{func() error { _, err := newDisks("/nowhere"); return err }, func() error { _, err := (&Device{}).Since("/nowhere", "docs"); return err }} {
 		if nowhere() == nil {
 			t.Error("something is made where nothing is")
 		}

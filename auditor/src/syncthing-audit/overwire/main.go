@@ -73,16 +73,17 @@ func run(words []string) error {
 // ask asks a device for its index and its bytes, and then for what is new.
 func ask(observer *wire.Observer, folder string, id protocol.DeviceID, address string) (*told, error) {
 	ctx := context.Background()
-	connection, err := observer.Dial(ctx, address, id, folder, nil, wire.Usual)
+	connection, err := observer.Dial(ctx, address, id, wire.Look{Folders: []string{folder}}, wire.Usual)
 	if err != nil {
 		return nil, err
 	}
-	index, err := connection.Index(ctx)
+	shared := connection.Folders[0]
+	index, err := shared.Index(ctx)
 	if err != nil {
 		return nil, err
 	}
-	made := &told{Version: connection.Hello.Version, Folder: connection.Folder, IndexID: index.ID, Highest: index.Highest}
-	if made.Names, err = names(ctx, connection, index); err != nil {
+	made := &told{Version: connection.Hello.Version, Folder: shared.Folder, IndexID: index.ID, Highest: index.Highest}
+	if made.Names, err = names(ctx, shared, index); err != nil {
 		return nil, err
 	}
 	made.Asked = connection.Asked()
@@ -94,12 +95,13 @@ func ask(observer *wire.Observer, folder string, id protocol.DeviceID, address s
 func askAgain(ctx context.Context, observer *wire.Observer, made *told, id protocol.DeviceID, address string, known *wire.Index) error {
 	kept := wire.NewIndex(known.ID)
 	kept.Highest = known.Highest
-	connection, err := observer.Dial(ctx, address, id, made.Folder.ID, kept, wire.Usual)
+	look := wire.Look{Folders: []string{made.Folder.ID}, Kept: func(string) (*wire.Index, error) { return kept, nil }}
+	connection, err := observer.Dial(ctx, address, id, look, wire.Usual)
 	if err != nil {
 		return err
 	}
 	defer connection.Close()
-	since, err := connection.Index(ctx)
+	since, err := connection.Folders[0].Index(ctx)
 	if err != nil {
 		return err
 	}
@@ -113,7 +115,7 @@ func askAgain(ctx context.Context, observer *wire.Observer, made *told, id proto
 }
 
 // names gives all names of an index with what is found of them.
-func names(ctx context.Context, connection *wire.Connection, index *wire.Index) ([]name, error) {
+func names(ctx context.Context, shared *wire.Shared, index *wire.Index) ([]name, error) {
 	made := []name{}
 	err := index.Each(func(entry device.Entry) error {
 		if limits.CheckName(entry.Name) != nil {
@@ -124,7 +126,7 @@ func names(ctx context.Context, connection *wire.Connection, index *wire.Index) 
 	if err != nil {
 		return nil, err
 	}
-	err = connection.Bytes(ctx, index, func(string) bool { return true }, func(entry device.Entry, found wire.Found) error {
+	err = shared.Bytes(ctx, index, func(string) bool { return true }, func(entry device.Entry, found wire.Found) error {
 		one := name{Name: part.Bytes(entry.Name), Own: entry.Record, Out: entry.Out, State: found.State, Differ: found.Differ}
 		if found.Blocks != nil {
 			one.Content = &part.Content{Size: found.Size, BlockSize: found.BlockSize, Hash: disk.HashOf(found.Blocks)}

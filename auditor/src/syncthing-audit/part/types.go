@@ -123,6 +123,7 @@ type Folder struct {
 	Rest               *Rest     `json:"rest,omitempty"`           // of a second look; nothing where an older program made it
 	Options            *Options  `json:"options,omitempty"`        // nothing where an older program made it
 	Ignores            *Ignores  `json:"ignores,omitempty"`        // of disks alone
+	WentBackFrom       int64     `json:"went_back_from,omitempty"` // over the wire: as Wire has it, of this folder
 }
 
 // Options are what else of a folder's configuration decides to which end its names come.

@@ -13,10 +13,33 @@ type Wire struct {
 	Observer string   `json:"observer"` // its device id: it shares the folders, and keeps no files
 	Unseen   []string `json:"unseen"`   // rising
 
-	// The highest sequence of the device's index at an earlier look, where it has gone back behind that; 0 where it hasn't.
+	// The highest sequence of an index of the device at an earlier look, where that has gone back behind it; 0 where none has. Of several folders it is
+	// the greatest, and each folder says its own.
 	WentBackFrom int64 `json:"went_back_from,omitempty"`
 
+	Without []Without `json:"without,omitempty"` // rising by folder
+
 	Half string `json:"disk_half,omitempty"` // the id of the part of the device's disks that was over when the second look began; it has what stands there
+}
+
+// Without is a folder that was asked for, and that the device doesn't show the observer.
+type Without struct {
+	Folder      string `json:"folder"`
+	Why         string `json:"why"`
+	IsEncrypted bool   `json:"encrypted,omitempty"`
+}
+
+// WhyWithout says why a part that an observer made is without a folder; nothing where it doesn't say so.
+func (h *Head) WhyWithout(folder string) *Without {
+	if h.Wire == nil {
+		return nil
+	}
+	for place := range h.Wire.Without {
+		if h.Wire.Without[place].Folder == folder {
+			return &h.Wire.Without[place]
+		}
+	}
+	return nil
 }
 
 // What isn't seen over the wire.
@@ -58,8 +81,11 @@ func checkWire(head *Head) error {
 	if head.Wire == nil {
 		return nil
 	}
-	if head.Wire.WentBackFrom < 0 {
+	if head.Wire.WentBackFrom < 0 || slices.IndexFunc(head.Folders, func(one Folder) bool { return one.WentBackFrom < 0 }) >= 0 {
 		return errors.New("the part's index went back from a sequence below 0")
+	}
+	if len(head.Wire.Without) > mostFolders {
+		return fmt.Errorf("the part says of %d folders that it is without them: at most %d are taken", len(head.Wire.Without), mostFolders)
 	}
 	if Number(head.Wire.Observer) == 0 || head.Wire.Observer == head.Device {
 		return fmt.Errorf("the part's observer %q is none", head.Wire.Observer)

@@ -7,8 +7,8 @@ import (
 	"time"
 )
 
-// ask sends a request, and gives what the device answers.
-func (c *Connection) ask(ctx context.Context, asked request.Request) (response, error) {
+// ask sends a request on a folder, and gives what the device answers.
+func (c *Connection) ask(ctx context.Context, folder string, asked request.Request) (response, error) {
 	ctx, cancel := context.WithTimeout(ctx, c.limits.Answer)
 	defer cancel()
 	waiting := make(chan response, 1)
@@ -16,7 +16,7 @@ func (c *Connection) ask(ctx context.Context, asked request.Request) (response, 
 	if err != nil {
 		return response{}, err
 	}
-	if err := c.send(kindRequest, asked.Message(id, c.Folder.ID)); err != nil {
+	if err := c.send(kindRequest, asked.Message(id, folder)); err != nil {
 		return response{}, err
 	}
 	select {

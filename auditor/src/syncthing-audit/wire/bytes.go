@@ -41,10 +41,10 @@ type Found struct {
 
 // Bytes asks a device for the bytes of all recorded files that are wanted, and calls take with what is found of each, in the order of names. Where a
 // record has no file, or isn't one that a document has, it asks whether there is one. Names that no document has aren't asked for.
-func (c *Connection) Bytes(ctx context.Context, index *Index, isWanted func(name string) bool, take func(entry device.Entry, found Found) error) error {
+func (s *Shared) Bytes(ctx context.Context, index *Index, isWanted func(name string) bool, take func(entry device.Entry, found Found) error) error {
 	ctx, cancel := context.WithCancel(ctx)
 	defer cancel()
-	asker := &asker{connection: c, room: newRoom()}
+	asker := &asker{of: s, room: newRoom()}
 	results := make(chan looking, mostRequests)
 	failed := make(chan error, 1)
 	go func() {
@@ -68,10 +68,10 @@ func (c *Connection) Bytes(ctx context.Context, index *Index, isWanted func(name
 	return <-failed
 }
 
-// asker asks a device, with as many requests at once as there is room for.
+// asker asks a device about a folder, with as many requests at once as there is room for.
 type asker struct {
-	connection *Connection
-	room       *room
+	of   *Shared
+	room *room
 }
 
 // looked is what was found of a name, or why nothing was.
@@ -178,7 +178,7 @@ func (a *asker) blocks(ctx context.Context, name string, most, blockSize int64) 
 		go func(place int) {
 			defer all.Done()
 			defer a.room.leave(asked)
-			said, err := a.connection.ask(ctx, asked)
+			said, err := a.of.over.ask(ctx, a.of.ID, asked)
 			states[place], errs[place] = stateOf(said), err
 			made.Blocks[place] = sha256.Sum256(said.data)
 		}(place)
@@ -292,7 +292,7 @@ func (a *asker) upTo(ctx context.Context, name string, length int64) (bool, Stat
 func (a *asker) one(ctx context.Context, asked request.Request) (response, error) {
 	a.room.enter(asked)
 	defer a.room.leave(asked)
-	return a.connection.ask(ctx, asked)
+	return a.of.over.ask(ctx, a.of.ID, asked)
 }
 
 // stateOf says what an answer means.

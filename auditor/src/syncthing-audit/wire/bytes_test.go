@@ -45,12 +45,12 @@ func look(t *testing.T, recorded map[string]string, change func(*fake)) (map[str
 		t.Fatal(err)
 	}
 	defer connection.Close()
-	index, err := connection.Index(context.Background())
+	index, err := connection.Folders[0].Index(context.Background())
 	if err != nil {
 		t.Fatal(err)
 	}
 	found, last := map[string]Found{}, ""
-	err = connection.Bytes(context.Background(), index, all, func(entry entries.Entry, one Found) error {
+	err = connection.Folders[0].Bytes(context.Background(), index, all, func(entry entries.Entry, one Found) error {
 		name := entry.Name
 		if name <= last {
 			t.Errorf("%s behind %s", name, last)

@@ -1,10 +1,12 @@
 package wire
 
 import (
+	"bytes"
 	"errors"
 	"fmt"
 
 	"github.com/syncthing/syncthing/lib/protocol"
+	"golang.org/x/exp/slices"
 	"google.golang.org/protobuf/encoding/protowire"
 	"syncthing-audit/limits"
 	"syncthing-audit/message"
@@ -58,42 +60,48 @@ const (
 	deviceToken    protowire.Number = 10
 )
 
-// errFound ends a search.
-var errFound = errors.New("found")
-
-// folderIn gives what a ClusterConfig says of a folder; nothing if it doesn't name it. Other folders take no room.
-func folderIn(config []byte, id string, most int) (*Folder, error) {
-	var found *Folder
+// foldersIn gives what a ClusterConfig says of these folders or, where none is asked for, of all, each once. Others take no room.
+func foldersIn(config []byte, asked []string, limits *Limits) ([]*Folder, error) {
+	made, isTaken := []*Folder{}, map[string]bool{}
 	err := message.Each(config, func(field message.Field) error {
 		if field.Number != configFolder {
 			return nil
 		}
-		if named, err := isFolder(field.Text, id); err != nil || !named {
+		id, err := idIn(field.Text)
+		if err != nil || isTaken[id] || len(asked) > 0 && !slices.Contains(asked, id) {
 			return err
 		}
-		folder, err := folderOf(field.Text, most)
-		found = folder
-		if err == nil {
-			err = errFound
+		if len(made) == limits.Folders {
+			return fmt.Errorf("%w: over %d", TooManyFolders, limits.Folders)
 		}
+		isTaken[id] = true
+		folder, err := folderOf(field.Text, limits.Devices)
+		made = append(made, folder)
 		return err
 	})
-	if err != nil && err != errFound {
+	if err != nil {
 		return nil, badly("its ClusterConfig", err)
 	}
-	return found, nil
+	return made, nil
 }
 
-// isFolder says whether a message is on the folder with this id.
-func isFolder(text []byte, id string) (bool, error) {
-	is := false
+// longestFolderID is more than any folder's id has: Syncthing takes one of any length from a person.
+const longestFolderID = 1024
+
+// idIn gives the id of the folder that a message is on: in each of them it is the first field.
+func idIn(text []byte) (string, error) {
+	id := ""
 	err := message.Each(text, func(field message.Field) error {
-		if field.Number == folderID {
-			is = string(field.Text) == id
+		if field.Number != folderID {
+			return nil
 		}
+		if len(field.Text) > longestFolderID || bytes.IndexByte(field.Text, 0) >= 0 {
+			return fmt.Errorf("%w: a folder's id of %d bytes", BadMessage, len(field.Text))
+		}
+		id = string(field.Text)
 		return nil
 	})
-	return is, err
+	return id, err
 }
 
 // folderOf reads what is said of a folder.
@@ -156,21 +164,4 @@ func badly(what string, err error) error {
 		return err
 	}
 	return fmt.Errorf("%w: %s: %v", BadMessage, what, err)
-}
-
-// answer is the observer's ClusterConfig for one folder: it shares it with the one device alone, has nothing of it, and asks not to hear of
-// temporary files. It names no other device, and introduces none. Of the device's own index it says what was kept, so that the device sends
-// what came since.
-func (o *Observer) answer(folder string, device protocol.DeviceID, kept *Index) []byte {
-	other := message.AppendText(nil, deviceID, device[:])
-	if kept.Highest > 0 {
-		other = message.AppendNumber(other, deviceSequence, uint64(kept.Highest))
-		other = message.AppendNumber(other, deviceIndexID, kept.ID)
-	}
-	own := message.AppendText(nil, deviceID, o.ID[:])
-	own = message.AppendNumber(own, deviceIndexID, o.indexID(folder))
-	made := message.AppendText(nil, folderID, []byte(folder))
-	made = message.AppendNumber(made, folderNoTemporary, 1)
-	made = message.AppendText(made, folderDevice, other)
-	return message.AppendText(nil, configFolder, message.AppendText(made, folderDevice, own))
 }

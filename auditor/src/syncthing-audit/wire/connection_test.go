@@ -19,7 +19,11 @@ import (
 
 // dial connects to a fake device for the folder 'docs'.
 func dial(o *Observer, f *fake, kept *Index, limits Limits) (*Connection, error) {
-	return o.Dial(context.Background(), f.listener.Addr().String(), f.id, "docs", kept, limits)
+	keeper := func(string) (*Index, error) { return kept, nil }
+	if kept == nil {
+		keeper = nil
+	}
+	return o.Dial(context.Background(), f.listener.Addr().String(), f.id, Look{Folders: []string{"docs"}, Kept: keeper}, limits)
 }
 
 func TestIndex(t *testing.T) {
@@ -42,7 +46,7 @@ func TestIndex(t *testing.T) {
 		t.Fatal(err)
 	}
 	defer connection.Close()
-	index, err := connection.Index(context.Background())
+	index, err := connection.Folders[0].Index(context.Background())
 	if err != nil {
 		t.Fatal(err)
 	}
@@ -52,7 +56,7 @@ func TestIndex(t *testing.T) {
 	if a, b := recordIn(t, index, "a"), recordIn(t, index, "b"); a.Content.Size != 1000 || !b.Deleted || b.Sequence != 3 {
 		t.Errorf("%v %v", a, b)
 	}
-	if known, is := connection.Folder.Of(protocol.DeviceID{1}); !is || known.IndexID != 99 || known.Sequence != 5 {
+	if known, is := connection.Folders[0].Of(protocol.DeviceID{1}); !is || known.IndexID != 99 || known.Sequence != 5 {
 		t.Errorf("of the other device: %v", known)
 	}
 	checkAnswer(t, observer, device, <-answered, 0, 0)
@@ -71,10 +75,11 @@ func recordIn(t *testing.T, index *Index, name string) *part.Record {
 // checkAnswer checks that a ClusterConfig names the one folder with the two devices, and nothing that a device would take over.
 func checkAnswer(t *testing.T, observer *Observer, device *fake, text []byte, id uint64, sequence int64) {
 	t.Helper()
-	folder, err := folderIn(text, "docs", 10)
-	if err != nil || folder == nil {
-		t.Fatal(folder, err)
+	said, err := foldersIn(text, []string{"docs"}, &Usual)
+	if err != nil || len(said) != 1 {
+		t.Fatal(said, err)
 	}
+	folder := said[0]
 	want := &Folder{ID: "docs", Devices: []Sharing{{Device: device.id, IndexID: id, Sequence: sequence},
 		{Device: observer.ID, IndexID: observer.indexID("docs")}}}
 	if !reflect.DeepEqual(folder, want) {
@@ -122,14 +127,14 @@ func TestDeltas(t *testing.T) {
 			f.serve()
 		})
 		kept := NewIndex(42)
-		if err := (&taker{folder: "docs", limits: &Usual, index: kept}).take(indexOf("docs", file{name: "old", sequence: 2}), true); err != nil {
+		if err := (&taker{folder: "docs", limits: &Usual, spent: new(spent), index: kept}).take(indexOf("docs", file{name: "old", sequence: 2}), true); err != nil {
 			t.Fatal(err)
 		}
 		connection, err := dial(observer, device, kept, short())
 		if err != nil {
 			t.Fatal(one.why, err)
 		}
-		index, err := connection.Index(context.Background())
+		index, err := connection.Folders[0].Index(context.Background())
 		if err != nil {
 			t.Fatal(one.why, err)
 		}
@@ -226,7 +231,7 @@ func refusalOf(o *Observer, f *fake, limits Limits) error {
 		return err
 	}
 	defer connection.Close()
-	_, err = connection.Index(context.Background())
+	_, err = connection.Folders[0].Index(context.Background())
 	return err
 }
 

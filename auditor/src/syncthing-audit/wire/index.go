@@ -14,22 +14,31 @@ const (
 	indexFile   protowire.Number = 2
 )
 
-// taker takes a device's index, within limits that hold for a whole connection.
+// taker takes a device's index of a folder, within limits that hold for a whole connection.
 type taker struct {
-	folder  string
-	limits  *Limits
-	index   *Index
-	bytes   int64
-	records int64
+	folder string
+	limits *Limits
+	spent  *spent
+	index  *Index
+}
+
+// spent is what a connection's index messages have had of its limits.
+type spent struct{ bytes, records int64 }
+
+// take counts a message.
+func (s *spent) take(text []byte, limits *Limits) error {
+	if s.bytes += int64(len(text)); s.bytes > limits.Index {
+		return fmt.Errorf("%w: over %d bytes", TooLarge, limits.Index)
+	}
+	return nil
 }
 
 // take takes an Index, which stands in place of all before it, or an Index Update. The records of a message are all taken, or none.
 func (t *taker) take(text []byte, isUpdate bool) error {
-	t.bytes += int64(len(text))
-	if t.bytes > t.limits.Index {
-		return fmt.Errorf("%w: over %d bytes", TooLarge, t.limits.Index)
+	if err := t.spent.take(text, t.limits); err != nil {
+		return err
 	}
-	if is, err := isFolder(text, t.folder); err != nil || !is {
+	if id, err := idIn(text); err != nil || id != t.folder {
 		return badlyIf("its index", err)
 	}
 	batch, highest := new(leveldb.Batch), t.index.Highest
@@ -53,7 +62,7 @@ func (t *taker) read(text []byte, highest int64, to *leveldb.Batch) (int64, erro
 		if field.Number != indexFile {
 			return nil
 		}
-		if t.records++; t.records > t.limits.Records {
+		if t.spent.records++; t.spent.records > t.limits.Records {
 			return fmt.Errorf("%w: over %d", TooManyRecords, t.limits.Records)
 		}
 		entry, err := entryIn(field.Text, t.limits.Name)

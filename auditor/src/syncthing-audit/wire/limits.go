@@ -8,6 +8,7 @@ type Limits struct {
 	Hello      int           // bytes of a Hello
 	Index      int64         // bytes of all index messages of a connection
 	Records    int64         // records of all index messages of a connection
+	Folders    int           // that are observed on a connection
 	Name       int           // bytes of a record's name
 	Devices    int           // devices of a folder
 	Handshake  time.Duration // for TLS and Hello together
@@ -19,7 +20,7 @@ type Limits struct {
 
 // Usual are the limits where nothing else is asked for. A record of a file of 16 TiB has 45 MB of block hashes.
 var Usual = Limits{
-	Message: 64 << 20, Hello: 32767, Index: 8 << 30, Records: 10_000_000, Name: 32 << 10, Devices: 4096,
+	Message: 64 << 20, Hello: 32767, Index: 8 << 30, Records: 10_000_000, Name: 32 << 10, Devices: 4096, Folders: 256,
 	Handshake: 20 * time.Second, Frame: 2 * time.Minute, Silence: 5 * time.Minute, Answer: 2 * time.Minute, IndexQuiet: time.Minute,
 }
 
@@ -38,6 +39,7 @@ const (
 	TooManyRecords  Refusal = "its index has too many records"
 	TooLarge        Refusal = "its index is too large"
 	NameTooLong     Refusal = "a record's name is too long"
+	TooManyFolders  Refusal = "it shares too many folders"
 	TooManyDevices  Refusal = "it shares the folder with too many devices"
 	BadMessage      Refusal = "a message can't be read"
 	SequenceFalls   Refusal = "sequences in its index don't rise"

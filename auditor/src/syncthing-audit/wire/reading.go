@@ -69,11 +69,19 @@ func (c *Connection) readOne() error {
 	return nil // pings, later ClusterConfigs, and what isn't known
 }
 
-// takeIndex takes a message of the index.
+// takeIndex takes a message of a folder's index. One of a folder that isn't observed counts, and nothing is taken of it.
 func (c *Connection) takeIndex(text []byte, isUpdate bool) error {
+	id, err := idIn(text)
+	if err != nil {
+		return badly("an index", err)
+	}
+	of := c.Shared(id)
 	c.mutex.Lock()
 	defer c.mutex.Unlock()
-	if err := c.taker.take(text, isUpdate); err != nil {
+	if of == nil {
+		return c.spent.take(text, &c.limits)
+	}
+	if err := of.taker.take(text, isUpdate); err != nil {
 		return err
 	}
 	c.heard = time.Now()

@@ -44,7 +44,7 @@ func TestIndexStays(t *testing.T) {
 
 // take takes records as an update.
 func take(index *Index, files ...file) error {
-	return (&taker{folder: "docs", limits: &Usual, index: index}).take(indexOf("docs", files...), true)
+	return (&taker{folder: "docs", limits: &Usual, spent: new(spent), index: index}).take(indexOf("docs", files...), true)
 }
 
 // A snapshot stays as it is while more is taken.

@@ -7,10 +7,11 @@ import (
 )
 
 // Index waits until all of the device's index is had that it said it has, and gives the index as it is then.
-func (c *Connection) Index(ctx context.Context) (*Index, error) {
-	due, _ := c.Folder.Of(c.Device)
+func (s *Shared) Index(ctx context.Context) (*Index, error) {
+	c := s.over
+	due, _ := s.Of(c.Device)
 	for {
-		index, heard, failure := c.state(due.Sequence)
+		index, heard, failure := s.state(due.Sequence)
 		switch {
 		case index != nil:
 			return index, nil
@@ -25,17 +26,18 @@ func (c *Connection) Index(ctx context.Context) (*Index, error) {
 			quiet.Stop()
 			return nil, fmt.Errorf("%w: %v", TooLate, ctx.Err())
 		case <-quiet.C:
-			return nil, c.notWhole(due.Sequence)
+			return nil, s.notWhole(due.Sequence)
 		}
 		quiet.Stop()
 	}
 }
 
 // state gives the index as it is now if it goes up to a sequence, when a part of it came last, and why no more comes.
-func (c *Connection) state(due int64) (*Index, time.Time, error) {
+func (s *Shared) state(due int64) (*Index, time.Time, error) {
+	c := s.over
 	c.mutex.Lock()
 	defer c.mutex.Unlock()
-	if had := c.taker.index; had.Highest >= due {
+	if had := s.taker.index; had.Highest >= due {
 		made, err := had.snapshot()
 		if err != nil {
 			return nil, c.heard, err
@@ -46,8 +48,9 @@ func (c *Connection) state(due int64) (*Index, time.Time, error) {
 }
 
 // notWhole says how far an index goes of which nothing more comes.
-func (c *Connection) notWhole(due int64) error {
+func (s *Shared) notWhole(due int64) error {
+	c := s.over
 	c.mutex.Lock()
 	defer c.mutex.Unlock()
-	return fmt.Errorf("%w: up to sequence %d of %d, and nothing more came in %v", NotWhole, c.taker.index.Highest, due, c.limits.IndexQuiet)
+	return fmt.Errorf("%w: up to sequence %d of %d, and nothing more came in %v", NotWhole, s.taker.index.Highest, due, c.limits.IndexQuiet)
 }

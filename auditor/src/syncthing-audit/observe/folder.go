@@ -1,0 +1,80 @@
+package observe
+
+import (
+	"context"
+
+	"github.com/syncthing/syncthing/lib/protocol"
+	"syncthing-audit/device"
+	"syncthing-audit/wire"
+)
+
+// Folder is what an observer has seen of a folder at a device.
+type Folder struct {
+	of    protocol.DeviceID
+	said  wire.Folder // at the first look
+	heard wire.Folder // at the second look
+	index *wire.Index
+	since *wire.Index // what came between the looks
+	disks *disks
+	bytes int64
+	names int64 // of the device's own index
+
+	wentBack   int64 // from which sequence of an earlier look its index went back; 0 where it didn't
+	isReceiver bool  // whether it has local changes, as a device that only receives has
+}
+
+// ID gives the folder's id.
+func (f *Folder) ID() string { return f.said.ID }
+
+// beginFolder takes the index of a folder, and compares it with the one of the last run.
+func beginFolder(ctx context.Context, shared *wire.Shared, kept *Kept, room string, of protocol.DeviceID) (*Folder, error) {
+	made := &Folder{of: of, said: shared.Folder}
+	var err error
+	if made.index, err = shared.Index(ctx); err != nil {
+		return nil, err
+	}
+	if made.wentBack, err = kept.WentBackFrom(); err != nil {
+		return nil, err
+	}
+	if err = made.count(); err != nil {
+		return nil, err
+	}
+	made.disks, err = newDisks(room)
+	return made, err
+}
+
+// read asks for the bytes of a folder, if they are wanted.
+func (f *Folder) read(ctx context.Context, shared *wire.Shared, asked Asked, read func(bytes int64)) error {
+	if asked.Records {
+		return nil
+	}
+	isWanted := func(name string) bool { return asked.Names.Has(f.ID(), name) }
+	return shared.Bytes(ctx, f.index, isWanted, func(entry device.Entry, found wire.Found) error {
+		f.bytes += found.Size - found.Unread
+		read(found.Size - found.Unread)
+		return f.disks.put(entry.Name, diskOf(f.of, entry.Name, found))
+	})
+}
+
+// count counts the names of the device's own index, and sees whether it has local changes.
+func (f *Folder) count() error {
+	return f.index.Each(func(entry device.Entry) error {
+		f.names++
+		f.isReceiver = f.isReceiver || entry.Record != nil && isLocalChange(entry.Record)
+		return nil
+	})
+}
+
+// end takes what came since the first look.
+func (f *Folder) end(ctx context.Context, shared *wire.Shared) error {
+	f.heard = shared.Folder
+	since, err := shared.Index(ctx)
+	if err != nil {
+		return err
+	}
+	if since.ID != f.index.ID || since.Highest < f.index.Highest {
+		return errWentBack
+	}
+	f.since = since
+	return nil
+}
