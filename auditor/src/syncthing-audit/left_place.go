@@ -28,10 +28,11 @@ func whyLeft(places []leftPlace) map[string]string {
 // addLeft adds the places of which no folder of an answer tells, since their ids aren't known, say, or nobody shares a folder with them.
 func addLeft(answer *finding.Answer, places []leftPlace) {
 	for _, one := range places {
-		why := shell.Printable(one.why)
-		isTold := func(had finding.Refusal) bool { return had.Why == why }
+		isTold := func(had finding.Refusal) bool {
+			return had.Device == one.called || one.device != "" && had.Device == one.device
+		}
 		if slices.IndexFunc(answer.LeftOut, isTold) < 0 {
-			answer.LeftOut = append(answer.LeftOut, finding.Refusal{Kind: part.Absent, Device: one.called, Why: why})
+			answer.LeftOut = append(answer.LeftOut, finding.Refusal{Kind: part.Absent, Device: one.called, Why: shell.Printable(one.why)})
 		}
 	}
 }

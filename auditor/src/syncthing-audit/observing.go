@@ -370,7 +370,7 @@ func (o *observing) answer(program ask.Program, files map[string]string, output 
 		return 0, renamed(err, files)
 	}
 	defer opened.close()
-	opened.unreached = o.unreached()
+	opened.left = o.left()
 	for _, one := range opened.devices {
 		one.From, one.IsUnsigned = files[one.From], false // the devices said all that themselves
 	}
@@ -386,7 +386,6 @@ func (o *observing) answer(program ask.Program, files map[string]string, output 
 	if err != nil {
 		return 0, renamed(err, files)
 	}
-	o.addUnreached(answer)
 	for _, one := range answer.Folders {
 		if one.Live != nil {
 			one.Live.Seconds, one.Live.Timed = o.second.Sub(o.first).Seconds(), true
