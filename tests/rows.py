@@ -1,6 +1,7 @@
 #!/usr/bin/env python3
 """rows.py PROGRAM: runs the built program as each row of rows/ says, and compares its standard output, its standard error
-and its status. The last line is 'N passed, M failed'.
+and its status. The last line is 'N passed, M failed'. 'rows.py --list' prints what each document of examples/ shows, and the
+first line that the program writes of it.
 
 A row is a shell command after '$ ', what it writes, what it tells on standard error after '! ', and its status in
 brackets. '! ...' stands for a text that has no promise, but there is one. '= FILE' stands for the JSON of this file of
@@ -32,6 +33,7 @@ class Row:
     output: list
     error: list
     status: int
+    shows: str = ""
 
     def reads(self, words):
         """What the program reads, where the command is these words of it alone, and else nothing."""
@@ -46,12 +48,12 @@ def one_line(file):
 
 def rows_of(file):
     """The rows of a file."""
-    rows, row = [], None
+    rows, row, shows = [], None, []
     for number, line in enumerate(file.read_text().splitlines(), 1):
         if row is None and line.startswith("$ "):
-            row = Row(line[2:], [], [], -1)
+            row = Row(line[2:], [], [], -1, " ".join(shows))
         elif row is None and (not line or line.startswith("#")):
-            continue
+            shows = [*shows, line.removeprefix("# ")] if line.startswith("# ") else []
         elif row is None:
             sys.exit(f"rows: {file.name}, line {number} belongs to no row")
         elif re.fullmatch(r"\[\d+\]", line):
@@ -130,33 +132,43 @@ def following(row, commands):
         yield from following_run(row, scenario)
 
 
-def unlisted(rows):
-    """What examples/README.md should say of the documents: each is listed, with the first line that is written of it."""
+def first_rows(rows):
+    """Of each document of examples/ the first row that reads it by `check` or `run` alone; nothing where none does."""
     first = {}
     for row in rows:
         read = row.reads("check") or row.reads("run")
         if read:
-            first.setdefault(read, (row.output or ["-"])[0])
-    listed = dict(re.findall(r"^\| `([a-z0-9/-]*\.json)` \|.*\| `([^`]*)` \|$", (TOP / "examples/README.md").read_text(), re.M))
-    for file in sorted((TOP / "examples").rglob("*.json")):
-        name = file.relative_to(TOP / "examples").as_posix()
-        told = first.get(f"examples/{name}")
-        if told is None:
-            yield f"examples/{name} has no row"
-        elif listed.get(name) != told:
-            yield f"of {name} examples/README.md says '{listed.get(name)}', and not '{told}'"
-    for name in listed:
-        if not (TOP / "examples" / name).exists():
-            yield f"examples/README.md lists {name}, which isn't there"
+            first.setdefault(read, row)
+    files = (file.relative_to(TOP).as_posix() for file in sorted((TOP / "examples").rglob("*.json")))
+    return {file: first.get(file) for file in files}
+
+
+def untold(rows):
+    """The documents of examples/ of which no row says what they show."""
+    for file, row in first_rows(rows).items():
+        if row is None:
+            yield f"{file} has no row"
+        elif not row.shows:
+            yield f"no line above its row says what {file} shows"
+
+
+def tell(rows):
+    """Prints what the documents of examples/ show, in the order of the rows."""
+    places = {row.command: place for place, row in enumerate(rows)}
+    for file, row in sorted(first_rows(rows).items(), key=lambda item: places[item[1].command]):
+        print(f"{file}: {row.shows}\n    {(row.output or row.error or ['-'])[0]}")
 
 
 def main(given, *_):
+    rows = [row for file in sorted((HERE / "rows").glob("*.rows")) for row in rows_of(file)]
+    if given == "--list":
+        tell(rows)
+        return 0
     program = Path(given).resolve()
     count = Count("rows")
     if not os.access(program, os.X_OK):
         count.fails(f"there is no program {given}")
         return count.told()
-    rows = [row for file in sorted((HERE / "rows").glob("*.rows")) for row in rows_of(file)]
     commands = {row.command for row in rows}
     more = [it for row in rows for it in following(row, commands)]
     documents = [f"examples/{file.name}" for file in sorted((TOP / "examples").glob("*.json"))]
@@ -168,7 +180,7 @@ def main(given, *_):
             count.says(row.command, fault_of(row, environment))
     for document in documents:
         count.says(f"{document} as JSON", difference(program, TOP / document))
-    for fault in [*(it for it in more if isinstance(it, str)), *unlisted(rows)]:
+    for fault in [*(it for it in more if isinstance(it, str)), *untold(rows)]:
         count.fails(fault)
     return count.told()
 
