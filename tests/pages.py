@@ -76,15 +76,11 @@ def lost(page):
                 yield path
 
 
-def rows(text):
-    """The cells of the rows of a text's tables."""
-    return [[cell.strip() for cell in line.strip("| ").split("|")] for line in text.splitlines() if line.startswith("|")]
-
-
 def ways(text):
     """The three ways: the title of each, its steps as crate, file and function, and what the page counts."""
     for part in text.split("\n### ")[1:]:
-        steps = [(row[0], *step) for row in rows(part) for step in STEP.findall(row[1])]
+        items = re.findall(r"^- (\w+): (`.*)$", part, re.MULTILINE)
+        steps = [(crate, *step) for crate, text in items for step in STEP.findall(text)]
         yield part.splitlines()[0], steps, re.search(r"^(\d+) files in (\d+) crates, (\d+) hops", part, re.MULTILINE)
 
 
