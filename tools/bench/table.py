@@ -4,7 +4,6 @@ asked. 'table.py --check' only says whether it is current. 'table.py --all' prin
 
 import csv
 import sys
-from itertools import groupby
 from pathlib import Path
 
 HERE = Path(__file__).resolve().parent
@@ -27,6 +26,11 @@ def measured(row):
     return ", ".join(part for part in (row["date"], row["revision"], row["circumstances"]) if part)
 
 
+def asked_of(row):
+    """What is asked of a figure, as it follows the figure's name; nothing where nothing is."""
+    return f" ({row['asked']})" if row["asked"] else ""
+
+
 def every_figure():
     """The newest lines, those of a command side by side, in the order in which the commands first came."""
     found = newest()
@@ -35,15 +39,12 @@ def every_figure():
 
 
 def table(asked, found):
-    """The table's lines: what is asked, and what was measured last."""
-    lines = ["| Command | Figure | Asked | Value | Measured |", "|---|---|---|---|---|"]
-    for command, rows in groupby(asked, key=lambda row: row["command"]):
-        first = f"`{command}`"
-        for row in rows:
-            line = found[row["command"], row["figure"]]
-            value = f"{line['value']} {line['unit']}".strip()
-            lines.append(f"| {first} | {row['figure']} | {row['asked']} | {value} | {measured(line)} |".replace("  ", " "))
-            first = ""
+    """The table's lines: what is asked, and what was measured last. How busy the machine was stands in results.csv."""
+    lines = ["| Figure, and what is asked | Value | Measured |", "|---|---|---|"]
+    for row in asked:
+        line = found[row["command"], row["figure"]]
+        value = f"{line['value']} {line['unit']}".strip()
+        lines.append(f"| `{row['command']}`: {row['figure']}{asked_of(row)} | {value} | {line['date']}, {line['revision']} |")
     return "\n".join(lines) + "\n"
 
 
