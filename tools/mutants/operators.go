@@ -105,7 +105,7 @@ func (r *reader) addSwaps(call *ast.CallExpr) {
 			continue
 		}
 		r.add("arguments swapped", left.Pos(), right.End(), r.text(right)+", "+r.text(left), r.text(call))
-		r.switched(r.exchanged(left, right)...)
+		r.switched(r.exchanged(call, i)...)
 	}
 }
 

@@ -123,15 +123,38 @@ func (r *reader) visible(name string, object types.Object, node ast.Node) string
 	return name
 }
 
-// exchanged are the switches that let two arguments change places.
-func (r *reader) exchanged(left, right ast.Expr) []wrap {
-	if !r.haveOneType(left, right) {
+// exchanged are the switches that let two neighbouring arguments of a call change places.
+func (r *reader) exchanged(call *ast.CallExpr, place int) []wrap {
+	left, right, pick := call.Args[place], call.Args[place+1], "mutantPick("
+	switch {
+	case r.haveOneType(left, right):
+	case r.areOfAnyType(call, place):
+		pick = "mutantPick[interface{}]("
+	default:
 		return nil
 	}
 	return []wrap{
-		r.around(left, "mutantPick(", ", "+r.text(right)+", ", ")"),
-		r.around(right, "mutantPick(", ", "+r.text(left)+", ", ")"),
+		r.around(left, pick, ", "+r.text(right)+", ", ")"),
+		r.around(right, pick, ", "+r.text(left)+", ", ")"),
 	}
+}
+
+// areOfAnyType says whether a call takes this argument and the next one whatever their types are, as fmt.Errorf does.
+func (r *reader) areOfAnyType(call *ast.CallExpr, place int) bool {
+	if r.info == nil {
+		return false
+	}
+	signature, is := r.info.TypeOf(call.Fun).(*types.Signature)
+	if !is || !signature.Variadic() || call.Ellipsis.IsValid() || place < signature.Params().Len()-1 ||
+		!r.info.Types[call.Args[place]].IsValue() || !r.info.Types[call.Args[place+1]].IsValue() {
+		return false
+	}
+	last, is := signature.Params().At(signature.Params().Len() - 1).Type().(*types.Slice)
+	if !is {
+		return false
+	}
+	of, is := last.Elem().Underlying().(*types.Interface)
+	return is && of.Empty()
 }
 
 // haveOneType says whether both arguments are values of one type.
