@@ -163,10 +163,8 @@ func (c *collector) folder(folder *join.Folder) error {
 	}); err != nil {
 		return err
 	}
-	if next.builder.Rows() > 0 || next.found.Documents == 0 {
-		if err := next.give(next.builder.Take()); err != nil {
-			return err
-		}
+	if err := next.give(next.builder.Take()); err != nil { // without names, too
+		return err
 	}
 	if len(c.answer.Refusals) == 0 {
 		next.found.Outlook = c.foretells.Of(rows)

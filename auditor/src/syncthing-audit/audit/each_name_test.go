@@ -85,8 +85,13 @@ func moved(waits func() *part.Name, why ...string) func(*part.Name) {
 
 func noWaits() *part.Name { return nil }
 
-// plan gives a plan of two devices that have this of the name "a"; each was looked at twice if one has what moved.
+// planOf gives a plan of two devices that have this of the name "a"; each was looked at twice if one has what moved.
 func planOf(t *testing.T, one, other *part.Name) *join.Plan {
+	return planWith(t, one, other, func(*part.Head) {})
+}
+
+// planWith gives such a plan of devices whose heads are changed.
+func planWith(t *testing.T, one, other *part.Name, change func(head *part.Head)) *join.Plan {
 	isLive := one != nil && one.Moved != nil || other != nil && other.Moved != nil
 	var devices []*join.Device
 	for number, name := range map[byte]*part.Name{1: one, 2: other} {
@@ -97,6 +102,7 @@ func planOf(t *testing.T, one, other *part.Name) *join.Plan {
 			head.Look = &part.Look{ID: "look", After: map[string]string{idOf(1): "look", idOf(2): "look"}}
 			head.Folders[0].Rest = &part.Rest{State: part.RestIdle}
 		}
+		change(head)
 		stream := &lines{head: head, left: []part.Line{{Begin: &part.Begin{Folder: "docs"}}}, err: io.EOF}
 		if name != nil {
 			stream.left = append(stream.left, part.Line{Name: name})
@@ -244,6 +250,9 @@ func TestEachKindOfName(t *testing.T) {
 		}
 		isAudited := count > 0 || strings.Contains(row.told, "unwon") || strings.Contains(row.told, "damaged") || len(answer.Refusals) > 0
 		if (err == nil) != isAudited {
+			t.Errorf("%s: %v", row.why, err)
+		}
+		if isStill := err == nil || !strings.Contains(err.Error(), "are in motion: look again"); !isAudited && isStill == strings.Contains(row.told, "moves") {
 			t.Errorf("%s: %v", row.why, err)
 		}
 	}

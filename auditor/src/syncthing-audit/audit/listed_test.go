@@ -18,10 +18,10 @@ func namesOf(leaveOut ...string) *names {
 	return &names{collector: &collector{options: options, answer: &finding.Answer{}}, found: &finding.Folder{Members: members, Rows: map[string]*join.Row{}}}
 }
 
-// rowsOut gives names that no document says, with one byte each.
+// rowsOut gives names that no document says, with two bytes each.
 func rowsOut(next *names, take func(*join.Row)) {
 	for number := 0; number < finding.MostListed+overListed; number++ {
-		row := rowOf(&part.Name{Out: []part.LeftOut{{Kind: part.Unreadable, Why: "it can't be read", Bytes: 1}}}, nil)
+		row := rowOf(&part.Name{Disk: &part.Node{Size: 2}, Out: []part.LeftOut{{Kind: part.Unreadable, Why: "it can't be read"}}}, nil)
 		row.Name = fmt.Sprintf("%05d", number)
 		take(row)
 	}
@@ -46,7 +46,7 @@ func TestManyNamesThatAreLeftOut(t *testing.T) {
 	inside.Name = "d/a"
 	next.row(inside)
 	count := next.found.Unlisted.LeftOut
-	if len(next.found.LeftOut) != finding.MostListed || count != (finding.Count{Names: overListed + 1, Bytes: overListed + standing.Size}) {
+	if len(next.found.LeftOut) != finding.MostListed || count != (finding.Count{Names: overListed + 1, Bytes: 2*overListed + standing.Size}) {
 		t.Errorf("%d, %v", len(next.found.LeftOut), count)
 	}
 	if !(&finding.Answer{Folders: []*finding.Folder{next.found}}).IsPartial() {

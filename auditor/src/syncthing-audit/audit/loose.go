@@ -15,8 +15,8 @@ func (n *names) addLoose(row *join.Row) {
 		return
 	}
 	made := finding.Loose{Name: row.Name}
-	for member, one := range row.At {
-		if one != nil && one.Own != nil && !isSame(one.Own.Version, winner.Version) {
+	for member, one := range row.At { // nothing is beyond the winner, so what the winner is at most is the same
+		if one != nil && one.Own != nil && !part.IsAtMost(winner.Version, one.Own.Version) {
 			made.At = append(made.At, finding.LooseAt{Member: member, Reason: finding.VersionDiffers,
 				IsOlder: part.IsAtMost(one.Own.Version, winner.Version)})
 		}
@@ -52,17 +52,15 @@ func areAlike(row *join.Row, winner *part.Record) bool {
 	return true
 }
 
-// isAlike says whether two records have one content.
+// isAlike says whether two records have one content. Of one type both have one in bytes, or neither.
 func isAlike(one, other *part.Record) bool {
-	if one.Deleted || other.Deleted {
+	switch {
+	case one.Deleted || other.Deleted:
 		return one.Deleted == other.Deleted
+	case one.Type != other.Type:
+		return false
+	case one.Content == nil:
+		return one.Target == other.Target
 	}
-	if one.Content == nil || other.Content == nil {
-		return one.Content == other.Content && one.Type == other.Type && one.Target == other.Target
-	}
-	return one.Type == other.Type && document.IsSame(one.Content, other.Content)
-}
-
-func isSame(one, other [][2]uint64) bool {
-	return part.IsAtMost(one, other) && part.IsAtMost(other, one)
+	return document.IsSame(one.Content, other.Content)
 }

@@ -117,7 +117,7 @@ func TestPermissions(t *testing.T) {
 		members := []join.Member{{About: &part.Folder{}}, {About: &part.Folder{IgnoresPermissions: one.ignores}}}
 		next := &names{collector: &collector{}, found: &finding.Folder{Members: members, Rows: map[string]*join.Row{}}}
 		next.addPermissions(rowOf(one.one, one.other))
-		if (next.found.Permissions.Len() > 0) != one.differ {
+		if (next.found.Permissions.Len() > 0) != one.differ || (next.found.Rows["a"] != nil) != one.differ {
 			t.Errorf("%s: expected %v", one.why, one.differ)
 		}
 	}

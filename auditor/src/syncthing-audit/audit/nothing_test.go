@@ -13,7 +13,7 @@ import (
 func TestWhatWasLeftOutWhereNothingIsLeft(t *testing.T) {
 	for count, told := range map[int]string{
 		0: "no name of any folder is left", 1: "is left. Left out: docs (Documents) of nas: it is encrypted there",
-		7: "it is encrypted there; and 2 more",
+		5: "it is encrypted there", 6: "it is encrypted there; and 1 more", 7: "it is encrypted there; and 2 more",
 	} {
 		asked := &collector{plan: &join.Plan{}, answer: &finding.Answer{}}
 		for len(asked.answer.LeftOut) < count {

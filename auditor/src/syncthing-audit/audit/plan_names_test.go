@@ -43,7 +43,8 @@ func TestRepliesAreAdded(t *testing.T) {
 	}
 	replies := NewReplies()
 	failures := []finding.Failure{{Reason: "StoreDiffers", Name: "a", Device: 1}}
-	replies.Take(documents[0], &ask.Reply{Names: 1, Deleted: 2, Failures: failures, Firmness: finding.Firmness{Asked: true}})
+	pairs := int64(5)
+	replies.Take(documents[0], &ask.Reply{Names: 1, Deleted: 2, Failures: failures, Firmness: finding.Firmness{Asked: true}, Convergence: finding.Convergence{Pairs: &pairs}})
 	replies.Take(&document.Document{Folder: "docs", Rows: []*join.Row{{Name: "b"}}}, &ask.Reply{Names: 3, Deleted: 4, Firmness: finding.Firmness{Asked: true}})
 	replies.Take(&document.Document{Folder: "docs", Own: "another's"}, &ask.Reply{Names: 7, Failures: failures})
 	if err := replies.AddTo(answer); err != nil {
@@ -52,7 +53,8 @@ func TestRepliesAreAdded(t *testing.T) {
 	folder := answer.Folders[0]
 	var told []finding.Failure
 	folder.EachFailure(func(one *finding.Failure) { told = append(told, *one) })
-	if folder.Names != 4 || folder.Deleted != 6 || !reflect.DeepEqual(told, failures) || len(folder.Rows) != 1 || folder.Rows["a"] == nil || !folder.Firmness.Asked {
+	if folder.Names != 4 || folder.Deleted != 6 || !reflect.DeepEqual(told, failures) || len(folder.Rows) != 1 || folder.Rows["a"] == nil || !folder.Firmness.Asked ||
+		folder.Convergence.Pairs == nil || *folder.Convergence.Pairs != pairs {
 		t.Errorf("%+v, %v", folder, told)
 	}
 	loose := &finding.Answer{Folders: []*finding.Folder{{ID: "docs", Rows: map[string]*join.Row{}}}}
@@ -124,7 +126,7 @@ func TestWhatIsBelowADirectoryThatCannotBeRead(t *testing.T) {
 	folder := answer.Folders[0]
 	var damaged []string
 	folder.Damaged.Each(func(one *finding.Damaged) { damaged = append(damaged, string(one.Name)) })
-	if len(folder.LeftOut) != 1 || folder.LeftOut[0].Names != 2 || folder.LeftOut[0].Bytes != 10 || !reflect.DeepEqual(damaged, []string{"d/y"}) {
+	if folder.Unlisted.LeftOut != (finding.Count{}) || len(folder.LeftOut) != 1 || folder.LeftOut[0].Names != 2 || folder.LeftOut[0].Bytes != 10 || !reflect.DeepEqual(damaged, []string{"d/y"}) {
 		t.Errorf("%+v, %q", *folder.LeftOut[0], damaged)
 	}
 }
@@ -144,7 +146,10 @@ func TestWhatIsNotHeardOf(t *testing.T) {
 
 // Devices are told in their order, whatever is wrong at each.
 func TestTheOrderOfDevicesWithDamage(t *testing.T) {
-	plan := planOfNames(t, false, []*part.Name{named("a", with(rotten)), named("b", with())}, []*part.Name{named("a", with(out(part.Damaged))), named("b", with())})
+	twice := with(func(n *part.Name) {
+		*n = part.Name{Out: []part.LeftOut{{Kind: part.Damaged, Why: "why"}, {Kind: part.Damaged, Why: "and why"}}}
+	})
+	plan := planOfNames(t, false, []*part.Name{named("a", with(rotten)), named("b", with())}, []*part.Name{named("a", twice), named("b", with())})
 	answer, err := Collect(plan, Options{}, func(*document.Document) error { return nil })
 	if err != nil {
 		t.Fatal(err)
@@ -155,7 +160,7 @@ func TestTheOrderOfDevicesWithDamage(t *testing.T) {
 			told = append(told, fmt.Sprint(at.Member, at.Why))
 		}
 	})
-	if !reflect.DeepEqual(told, []string{"0" + whyRot, "1why"}) {
+	if !reflect.DeepEqual(told, []string{"0" + whyRot, "1why", "1and why"}) {
 		t.Errorf("%q", told)
 	}
 }

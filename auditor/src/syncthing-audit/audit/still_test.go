@@ -1,8 +1,10 @@
 package audit
 
 import (
+	"reflect"
 	"strings"
 	"testing"
+	"time"
 
 	"syncthing-audit/finding"
 	"syncthing-audit/join"
@@ -34,3 +36,34 @@ func TestNothingIsStillTellsWhatNoScanHasSeen(t *testing.T) {
 }
 
 const receiveOnly = "receive-only"
+
+// A folder is told as one whose devices were looked at twice, with how long it was still, as far as that is known; as one of parts of other moments; or as
+// neither.
+func TestWhatIsToldOfLooks(t *testing.T) {
+	second := time.Unix(100, 0)
+	for _, one := range []struct {
+		looks []*part.Look
+		is    *finding.Live
+	}{
+		{[]*part.Look{nil, nil}, nil},
+		{[]*part.Look{{At: second, Ended: second.Add(30 * time.Second)}, nil}, &finding.Live{Seconds: 30, Timed: true}},
+		{[]*part.Look{{At: second, Ended: second.Add(30 * time.Second)}, {At: second.Add(time.Second), Ended: second.Add(20 * time.Second)}}, &finding.Live{Seconds: 19, Timed: true}},
+		{[]*part.Look{{At: second, Ended: second.Add(-time.Second)}, nil}, &finding.Live{}},
+	} {
+		folder := &join.Folder{ID: "docs"}
+		for _, look := range one.looks {
+			folder.Members = append(folder.Members, join.Member{Device: &join.Device{Head: &part.Head{Look: look}}, About: &part.Folder{}})
+		}
+		if is := liveOf(folder); !reflect.DeepEqual(is, one.is) {
+			t.Errorf("%+v, not %+v", is, one.is)
+		}
+	}
+}
+
+// A part of an earlier moment is told as one of parts, and not of looks.
+func TestWhatIsToldOfPartsOfOtherMoments(t *testing.T) {
+	plan := planWith(t, nil, nil, func(head *part.Head) { head.Folders[0].Max = 8 }) // each knows of the other's change 9
+	if is := liveOf(plan.Folders[0]); !reflect.DeepEqual(is, &finding.Live{OfParts: true}) {
+		t.Errorf("%+v", is)
+	}
+}

@@ -34,3 +34,32 @@ func TestFromWhereWhatIsRecordedCanBeCopied(t *testing.T) {
 		t.Errorf("%+v", other)
 	}
 }
+
+// What waits is told without its contents, and stays as it was where it is kept.
+func TestWhatWaitsIsToldWithoutContents(t *testing.T) {
+	content := part.Content{Size: 5, BlockSize: 131072, Hash: part.Hash{1}}
+	waits := &part.Name{Name: "a", Disk: &part.Node{Size: 5, Contents: []part.Content{content}}}
+	made := movedOf(&join.Row{Name: "a", At: []*part.Name{{Moved: []string{part.MovedUnscanned}, Waits: waits}}}, 0)
+	if made.As == nil || made.As.Disk.Size != 5 || made.As.Disk.Contents != nil || len(waits.Disk.Contents) != 1 {
+		t.Errorf("%+v, %+v", made.As, waits.Disk)
+	}
+}
+
+// One block is the same in each block size; of more, and of other bytes, none is the same as one that is cut otherwise.
+func TestContentsOfTheSameBytes(t *testing.T) {
+	small, large := part.Content{Size: 131072, BlockSize: 131072, Hash: part.Hash{1}}, part.Content{Size: 131073, BlockSize: 131072, Hash: part.Hash{1}}
+	for _, row := range []struct {
+		of     part.Content
+		change func(*part.Content)
+		is     bool
+	}{
+		{small, func(*part.Content) {}, true}, {large, func(*part.Content) {}, true}, {small, func(c *part.Content) { c.BlockSize *= 2 }, true},
+		{large, func(c *part.Content) { c.BlockSize *= 2 }, false}, {small, func(c *part.Content) { c.Size-- }, false}, {large, func(c *part.Content) { c.Hash[0]++ }, false},
+	} {
+		other := row.of
+		row.change(&other)
+		if isContent(&row.of, &other) != row.is || isContent(&other, &row.of) != row.is {
+			t.Errorf("%+v, %+v: expected %v", row.of, other, row.is)
+		}
+	}
+}

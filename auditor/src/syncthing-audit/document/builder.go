@@ -197,9 +197,6 @@ func (b *Builder) Take() *Document {
 	return made
 }
 
-// Rows says how many rows the document has up to now.
-func (b *Builder) Rows() int { return len(b.rows) }
-
 // write gives the document's one line.
 func (b *Builder) write() []byte {
 	var to bytes.Buffer

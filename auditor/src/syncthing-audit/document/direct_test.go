@@ -258,7 +258,7 @@ func TestDocumentsEqualADirectReading(t *testing.T) {
 			}
 		}
 		documents = append(documents, builder.Take())
-		if again := builder.Take(); again.Rows != nil || again.About() != "folder docs, no names" || builder.Rows() != 0 {
+		if again := builder.Take(); again.Rows != nil || again.About() != "folder docs, no names" || len(builder.rows) != 0 {
 			t.Fatalf("seed %d: what was taken is there still: %+v", seed, again)
 		}
 		checkDocuments(t, folder, documents, all, withBytes, room)
@@ -329,8 +329,8 @@ func TestOneSequenceOfTwoNames(t *testing.T) {
 			t.Errorf("%d: %v", place, out)
 		}
 	}
-	if builder.Rows() != 4 {
-		t.Errorf("%d rows", builder.Rows())
+	if len(builder.rows) != 4 {
+		t.Errorf("%d rows", len(builder.rows))
 	}
 }
 
