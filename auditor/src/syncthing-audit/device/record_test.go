@@ -99,38 +99,3 @@ func TestRecords(t *testing.T) {
 		}
 	}
 }
-
-func TestRefusedRecords(t *testing.T) {
-	cases := []struct {
-		why   string
-		entry func(*protocol.FileInfo)
-	}{
-		{"ignored", func(e *protocol.FileInfo) { e.LocalFlags = protocol.FlagLocalIgnored }},
-		{"unsupported", func(e *protocol.FileInfo) { e.LocalFlags = protocol.FlagLocalUnsupported }},
-		{"a flag of a newer Syncthing", func(e *protocol.FileInfo) { e.LocalFlags = 1 << 10 }},
-		{"waits for a scan", func(e *protocol.FileInfo) { e.LocalFlags = protocol.FlagLocalMustRescan }},
-		{"a name that isn't UTF-8", func(e *protocol.FileInfo) { e.Name = "\xff" }},
-		{"an old type of symlink", func(e *protocol.FileInfo) { e.Type = protocol.FileInfoTypeSymlinkFile }},
-		{"encrypted", func(e *protocol.FileInfo) { e.Encrypted = []byte{1} }},
-		{"nanoseconds", func(e *protocol.FileInfo) { e.ModifiedNs = 1000000000 }},
-		{"changed by nobody", func(e *protocol.FileInfo) { e.ModifiedBy = 0 }},
-		{"17 counters", func(e *protocol.FileInfo) { e.Version = manyCounters(17) }},
-		{"a counter of device 0", func(e *protocol.FileInfo) { e.Version = vector(0, 1) }},
-		{"a counter of 0", func(e *protocol.FileInfo) { e.Version = vector(1, 0) }},
-		{"a counter too great", func(e *protocol.FileInfo) { e.Version = vector(1, 1<<63) }},
-		{"two counters of one device", func(e *protocol.FileInfo) { e.Version = vector(1, 1, 1, 2) }},
-		{"another block size", func(e *protocol.FileInfo) { e.RawBlockSize = 3 * protocol.MinBlockSize }},
-		{"a size that isn't the block's", func(e *protocol.FileInfo) { e.Size = 6 }},
-		{"a block missing", func(e *protocol.FileInfo) { e.Blocks = nil }},
-		{"an empty file with another block", func(e *protocol.FileInfo) { e.Size, e.Blocks[0].Size = 0, 0 }},
-		{"a short hash", func(e *protocol.FileInfo) { e.Blocks[0].Hash = e.Blocks[0].Hash[:31] }},
-		{"a file with a target", func(e *protocol.FileInfo) { adapt.SetText(&e.SymlinkTarget, "t") }},
-		{"a directory with blocks", func(e *protocol.FileInfo) { e.Type, e.Size = protocol.FileInfoTypeDirectory, 0 }},
-		{"a symlink without target", func(e *protocol.FileInfo) { e.Type, e.Size, e.Blocks = protocol.FileInfoTypeSymlink, 0, nil }},
-	}
-	for _, one := range cases {
-		if made := ownEntry(hello(one.entry)); made.Record != nil || made.Out == nil {
-			t.Errorf("%s: %+v", one.why, made)
-		}
-	}
-}

@@ -95,8 +95,9 @@ func TestNobodyIsSeenToListen(t *testing.T) {
 	piped, far := net.Pipe()
 	defer far.Close()
 	for told, one := range map[string]net.Conn{"this system has none listed": made, "a connection of another kind": piped} {
-		if err := (Syncthing{Home: homeInUse(t)}).checkFar(one); !errors.Is(err, ErrStranger) || !strings.Contains(err.Error(), told) {
-			t.Errorf("%s: %v", told, err)
+		begin := fmt.Sprintf("the API key isn't sent to %s: it isn't seen whose program listens there: %s", one.RemoteAddr(), told)
+		if err := (Syncthing{Home: homeInUse(t)}).checkFar(one); !errors.Is(err, ErrStranger) || !strings.HasPrefix(err.Error(), begin) {
+			t.Errorf("%s: %v", begin, err)
 		}
 	}
 }
