@@ -272,3 +272,16 @@ func TestTheFirstBlockThatDiffers(t *testing.T) {
 		}
 	}
 }
+
+// Once a piece of a file couldn't be read, no more pieces are begun, and whoever waits for the file is told why.
+func TestALongFileThatCannotBeRead(t *testing.T) {
+	const size = int64(1) << 45
+	room, node := sparseFile(t, size)
+	file := changed(fileAt(t, filepath.Join(room, "file")), func(file *File) { file.Name, file.Node, file.Longest = "gone", node, size })
+	pool := NewPool(2)
+	defer pool.Close()
+	job := pool.Begin(file)
+	if _, _, _, err := job.Wait(); !errors.Is(err, ErrChanged) || int64(len(job.hashes[0])) > size/pieceBytes/2 {
+		t.Errorf("%v, and %d pieces were begun", err, len(job.hashes[0]))
+	}
+}

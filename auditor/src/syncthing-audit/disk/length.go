@@ -35,7 +35,7 @@ func (f *File) cutContents() []part.Content {
 func CompareBegin(recorded, found [][32]byte, blocks int64) *part.Differ {
 	made := Compare(recorded, found)
 	if made == nil {
-		made = &part.Differ{First: pairAt(recorded, found, len(found))}
+		made = &part.Differ{} // nobody has a hash of the first block that differs
 	}
 	addRange(made, int64(len(found)), blocks-1)
 	return made

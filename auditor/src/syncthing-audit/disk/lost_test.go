@@ -111,3 +111,18 @@ func TestADirectoryThatTheDiskFailsToGive(t *testing.T) {
 		t.Errorf("%q, %v", found, err)
 	}
 }
+
+// Of all first bytes the one is taken that no record has.
+func TestTheOneByteThatNoRecordHas(t *testing.T) {
+	for free := 0; free < 256; free++ {
+		line := &part.Name{Name: "a"}
+		for next := 0; next < 256; next++ {
+			if next != free {
+				line.Views = append(line.Views, part.Seen{Record: &part.Record{Blocks: [][32]byte{sha256.Sum256([]byte{byte(next), 'o'})}}})
+			}
+		}
+		if made := bytesOfNobody(line, 2, protocol.MinBlockSize); string(made) != string([]byte{byte(free), 'o'}) {
+			t.Errorf("%q, where %d is free", made, free)
+		}
+	}
+}

@@ -73,9 +73,29 @@ func TestWhatAScanTells(t *testing.T) {
 // The address that is asked is that of this machine where Syncthing listens on all.
 func TestAddressesOfThisMachine(t *testing.T) {
 	for address, local := range map[string]string{"0.0.0.0:8384": "localhost:8384", ":8384": "localhost:8384", "[::]:8384": "localhost:8384", "127.0.0.1:8384": "127.0.0.1:8384",
-		"192.0.2.7:1": "192.0.2.7:1", "/run/gui": "/run/gui"} {
+		"192.0.2.7:1": "192.0.2.7:1", "/run/gui": "/run/gui", "[::1]:8384": "[::1]:8384", "box": "box", "box:1": "box:1"} {
 		if is := localAddress(config.GUIConfiguration{RawAddress: address}); is != local {
 			t.Errorf("%s: %s, not %s", address, is, local)
+		}
+	}
+}
+
+// Why a question isn't answered is told in words, by the status that Syncthing answers with.
+func TestWhyAQuestionIsNotAnswered(t *testing.T) {
+	for status, told := range map[int]string{http.StatusNotFound: "this Syncthing doesn't say it, as 1.19 doesn't", http.StatusForbidden: "Syncthing answers 403 Forbidden",
+		http.StatusInternalServerError: "Syncthing answers 500 Internal Server Error"} {
+		if _, err := saying(t, status, `{"state":"idle"}`).State("docs"); err == nil || err.Error() != told {
+			t.Errorf("%d: %v", status, err)
+		}
+	}
+	for text, ask := range map[string]func(s Syncthing) error{
+		"Syncthing doesn't say what it does there":              func(s Syncthing) error { _, err := s.State("docs"); return err },
+		"Syncthing doesn't say where its database is":           func(s Syncthing) error { _, err := s.DataDirectory(); return err },
+		"Syncthing doesn't say when it was started":             func(s Syncthing) error { _, err := s.Started(); return err },
+		"folder docs isn't scanned: does Syncthing run there? ": func(s Syncthing) error { s.GUI.RawAddress = "127.0.0.1:1"; return s.Scan("docs", "") },
+	} {
+		if err := ask(saying(t, http.StatusOK, "{}")); err == nil || !strings.HasPrefix(err.Error(), text) {
+			t.Errorf("%v, not %s", err, text)
 		}
 	}
 }

@@ -4,6 +4,7 @@ import (
 	"net"
 	"net/http"
 	"net/http/httptest"
+	"strings"
 	"testing"
 )
 
@@ -23,6 +24,9 @@ func TestTheKeyStaysHere(t *testing.T) {
 	}
 	if err := checkHere(&net.UnixAddr{Name: "a"}, &net.UnixAddr{Name: "b"}); err != nil {
 		t.Error(err)
+	}
+	if err := checkHere(&net.UnixAddr{Name: "a"}, address("127.0.0.1")); err == nil || !strings.Contains(err.Error(), "leads to 127.0.0.1, which isn't this machine") {
+		t.Errorf("a connection of two kinds: %v", err)
 	}
 }
 

@@ -1,6 +1,7 @@
 package rest
 
 import (
+	"encoding/pem"
 	"errors"
 	"net"
 	"net/http"
@@ -126,18 +127,26 @@ func TestLinesOfListeners(t *testing.T) {
 		loopback = "00000000000000000000000001000000"
 	)
 	at := &net.TCPAddr{IP: net.ParseIP("127.0.0.1"), Port: 0x20C0}
+	columns := func(line string, count int) string { return strings.Join(strings.Fields(line)[:count], " ") }
 	for line, is := range map[string]bool{
-		"0: 0100007F:20C0" + rest:          true,
-		"0: 00000000:20C0" + rest:          true,
-		"0: " + noOthers + ":20C0" + rest:  true,
-		"0: " + loopback + ":20C0" + rest:  false,
-		"0: 0200007F:20C0" + rest:          false,
-		"0: 0100007F:20C1" + rest:          false,
-		"0: 0100007F:20C0" + ready:         false,
-		"0: 0100007F:20C0":                 false,
-		"0: odd:20C0" + rest:               false,
-		"  sl  local_address rem_address ": false,
-		"":                                 false,
+		"0: 0100007F:20C0" + rest:         true,
+		"0: 00000000:20C0" + rest:         true,
+		"0: " + noOthers + ":20C0" + rest: true,
+		"0: " + loopback + ":20C0" + rest: false,
+		"0: 0200007F:20C0" + rest:         false,
+		"0: 0100007F:20C1" + rest:         false,
+		"0: 0100007F:20C0" + ready:        false,
+		"0: 0100007F:20C0":                false,
+		"0: odd:20C0" + rest:              false,
+		"0: 0100007F:x" + rest:            false,
+		"0: 0100007F:120C0" + rest:        false,
+		"0: 0100007F" + rest:              false,
+
+		"0: 0100007F:20C0" + strings.Replace(rest, "1000", "ann", 1): false,
+		columns("0: 0100007F:20C0"+rest, columnOfInode):              false,
+		columns("0: 0100007F:20C0"+rest, columnOfInode+1):            true,
+		"  sl  local_address rem_address ":                           false,
+		"":                                                           false,
 	} {
 		user, inode, found := listensAt(line, at)
 		if found != is || is && (user != 1000 || inode != "4711") {
@@ -147,5 +156,78 @@ func TestLinesOfListeners(t *testing.T) {
 	at.IP = net.ParseIP("::1")
 	if _, _, found := listensAt("0: "+loopback+":20C0"+rest, at); !found {
 		t.Error("::1 isn't found")
+	}
+}
+
+// Who listens is seen by the kernel's tables: the user and the process, at each kind of address.
+func TestWhoListens(t *testing.T) {
+	for _, one := range [][2]string{{"tcp", "127.0.0.1:0"}, {"tcp", "[::1]:0"}, {"unix", filepath.Join(t.TempDir(), "s")}} {
+		listening, err := net.Listen(one[0], one[1])
+		if err != nil {
+			t.Logf("%v isn't tried: %v", one, err)
+			continue
+		}
+		defer listening.Close()
+		made, err := net.Dial(one[0], listening.Addr().String())
+		if err != nil {
+			t.Fatal(err)
+		}
+		defer made.Close()
+		all, err := listenersOf(made)
+		if err != nil || len(all) != 1 || all[0].user != os.Getuid() {
+			t.Fatalf("%v: %+v, %v", one, all, err)
+		}
+		if processes := all[0].processes(); len(processes) != 1 || processes[0] != os.Getpid() {
+			t.Errorf("%v: processes %v, not %d", one, processes, os.Getpid())
+		}
+	}
+	if all, err := listenersAt(&net.TCPAddr{IP: net.ParseIP("127.0.0.1"), Port: 1}); err != nil || len(all) > 0 {
+		t.Errorf("%v, %v", all, err)
+	}
+}
+
+// The user of a home is that of its configuration.
+func TestTheUserOfAHome(t *testing.T) {
+	path := filepath.Join(homeOf(t), "config.xml")
+	if owner, err := ownerOf(path); err != nil || owner != os.Getuid() {
+		t.Errorf("%d, %v", owner, err)
+	}
+	if _, err := ownerOf(path + "x"); err == nil {
+		t.Error("what isn't there has a user")
+	}
+	if os.Getuid() != 0 {
+		return
+	}
+	if err := os.Chown(path, 1234, 0); err != nil {
+		t.Fatal(err)
+	}
+	if owner, err := ownerOf(path); err != nil || owner != 1234 {
+		t.Errorf("%d, %v", owner, err)
+	}
+}
+
+// The certificate of whoever answers is the home's to the byte.
+func TestCertificates(t *testing.T) {
+	path := filepath.Join(t.TempDir(), "https-cert.pem")
+	right := string(pem.EncodeToMemory(&pem.Block{Type: "CERTIFICATE", Bytes: []byte("right")}))
+	for _, one := range []struct {
+		text string
+		raw  [][]byte
+		told string
+	}{
+		{right, [][]byte{[]byte("right")}, ""}, {right, [][]byte{[]byte("right"), []byte("x")}, ""}, {right, [][]byte{[]byte("x"), []byte("right")}, "isn't this home's Syncthing"},
+		{right, nil, "isn't this home's Syncthing"}, {"none", [][]byte{[]byte("right")}, "isn't this home's Syncthing"}, {"none", nil, "isn't this home's Syncthing"},
+		{"", nil, "no such file"},
+	} {
+		if err := os.WriteFile(path, []byte(one.text), 0o600); err != nil {
+			t.Fatal(err)
+		}
+		at := path
+		if one.text == "" {
+			at += "x"
+		}
+		if err := checkCertificate(at, one.raw); (err == nil) != (one.told == "") || err != nil && !strings.Contains(err.Error(), one.told) {
+			t.Errorf("%+v: %v", one, err)
+		}
 	}
 }
