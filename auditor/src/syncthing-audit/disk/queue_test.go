@@ -4,6 +4,7 @@ import (
 	"io"
 	"os"
 	"path/filepath"
+	"reflect"
 	"strings"
 	"testing"
 	"time"
@@ -42,6 +43,13 @@ func TestTheRoomOfAQueue(t *testing.T) {
 	if next, err := q.Next(); err != nil || next.Weight != 5 || !<-later || q.weight != MostWaiting {
 		t.Errorf("%+v, %v, %d", next, err, q.weight)
 	}
+	light := NewQueue()
+	light.Reserve(1)
+	if is, _ := reserved(light, MostWaiting); is {
+		t.Error("room for more than there is beside the lightest name")
+	}
+	light.Put(&Pending{Weight: 1})
+	light.Next() // so whoever waits goes on
 	heavy := NewQueue()
 	if is, _ := reserved(heavy, 2*MostWaiting); !is {
 		t.Error("no room for a heavy name")
@@ -86,5 +94,29 @@ func TestFilesThatAreNotHashed(t *testing.T) {
 		} else if len(told.Out) != 1 || told.Out[0].Kind != kind || told.Out[0].Bytes != 5 || told.Disk.Contents != nil {
 			t.Errorf("%s: %+v", kind, told.Out)
 		}
+	}
+}
+
+// A name gets what its file was hashed to, and one without a file stays as it is.
+func TestWhatIsHashedComesToItsName(t *testing.T) {
+	pool := NewPool(1)
+	defer pool.Close()
+	path := filepath.Join(t.TempDir(), "a")
+	if err := os.WriteFile(path, []byte("hello"), 0o600); err != nil {
+		t.Fatal(err)
+	}
+	file := fileAt(t, path)
+	file.Keep, file.Recorded = true, [][32]byte{{1}}
+	contents, differ, data, err := pool.Begin(file).Wait()
+	if err != nil || len(contents) != 1 || differ == nil || string(data) != "hello" {
+		t.Fatal(contents, differ, data, err)
+	}
+	line := &part.Name{Name: "a", Disk: &part.Node{Size: 5}}
+	told := (&Pending{Line: line, Job: pool.Begin(file)}).Finish()
+	if !reflect.DeepEqual(told.Disk, &part.Node{Size: 5, Contents: contents, Differ: differ, Data: data}) || told.Out != nil {
+		t.Errorf("%+v", told.Disk)
+	}
+	if none := (&part.Name{Name: "b"}); (&Pending{Line: none}).Finish() != none {
+		t.Error("another name is told")
 	}
 }
