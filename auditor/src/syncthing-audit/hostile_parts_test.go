@@ -117,6 +117,7 @@ func observedParts(device byte) []*hostile {
 	head := headOfHostile(device)
 	head.Index, head.Newer, head.Others, head.Folders[0].Paused = nil, nil, nil, false
 	head.Wire, head.Version = part.NewWire(idOf(9), false), part.VersionOfWire
+	head.Wire.Without = []part.Without{{Folder: "photos", Why: "it isn't shared"}}
 	id := strings.Repeat("0", 32)
 	head.Look = &part.Look{Home: "over the wire", ID: id, After: map[string]string{idOf(1): id, idOf(2): id}, At: time.Unix(3, 0), Ended: time.Unix(4, 0)}
 	overWire := func(name string, sequence int64, found byte) *part.Name {

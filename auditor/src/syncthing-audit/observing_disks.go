@@ -110,8 +110,8 @@ func (o *observing) tellCommand(at int) error {
 		directory = "each folder's directory"
 	}
 	command := commandOfHalf(looks.Token(device.ID.String(), o.lookID), folders, filepath.Base(path), sizes, o.asked.names.Flags())
-	outside.Printf(o.log, "syncthing-audit: now on %s (%s), with "+directory+" in place of DIR:\n  %s\nsyncthing-audit: waiting for that file at %s\n",
-		shell.Printable(device.Hello.Name), device.ID.String()[:7], command, shell.Quoted(path))
+	outside.Printf(o.log, "syncthing-audit: now on %s (%s), with %s in place of DIR:\n  %s\nsyncthing-audit: waiting for that file at %s\n",
+		shell.Printable(device.Hello.Name), device.ID.String()[:7], directory, command, shell.Quoted(path))
 	return nil
 }
 

@@ -55,7 +55,7 @@ func aHome(t *testing.T) (dir, docs string) {
 // All that is told of a home is what its configuration and its index say, whether it is opened as that of a stopped Syncthing or of one that may run.
 func TestWhatIsToldOfAHome(t *testing.T) {
 	dir, docs := aHome(t)
-	for isLive, open := range map[bool]func(dir, data string) (*Home, error){false: Open, true: OpenLive} {
+	for isLive, open := range map[bool]func(dir, data string, maps ...Map) (*Home, error){false: Open, true: OpenLive} {
 		home, err := open(dir, "")
 		if err != nil {
 			t.Fatal(err)
@@ -136,7 +136,7 @@ func TestWhatIsNoHome(t *testing.T) {
 	if err := CheckIndex(empty, dir); err != nil {
 		t.Error(err)
 	}
-	for _, open := range []func(dir, data string) (*Home, error){Open, OpenLive} {
+	for _, open := range []func(dir, data string, maps ...Map) (*Home, error){Open, OpenLive} {
 		for data, told := range map[string]string{empty: empty + ": no index", two: "its index is that of Syncthing 2", both: "it has an index of Syncthing 1 and one"} {
 			if home, err := open(dir, data); home != nil || err == nil || !strings.Contains(err.Error(), told) {
 				t.Errorf("%s: %v", data, err)
