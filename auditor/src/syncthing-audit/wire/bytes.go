@@ -44,6 +44,7 @@ type Found struct {
 func (s *Shared) Bytes(ctx context.Context, index *Index, isWanted func(name string) bool, take func(entry device.Entry, found Found) error) error {
 	ctx, cancel := context.WithCancel(ctx)
 	defer cancel()
+	defer s.over.keepPace("answers", s.over.limits.BytesWhole, func() gave { return s.over.answers })()
 	asker := &asker{of: s, room: newRoom()}
 	results := make(chan looking, mostRequests)
 	failed := make(chan error, 1)

@@ -32,6 +32,7 @@ type Connection struct {
 	next    int32
 	waiting map[int32]chan response
 	asked   int
+	answers gave // to requests
 	heard   time.Time
 	failure error
 	news    chan struct{} // one waits there once an index message was taken

@@ -82,6 +82,7 @@ type fake struct {
 	rescans  []string // names that were asked for with a recorded hash
 	requests int
 	heard    []kind
+	isOver   bool // the connection is ended
 }
 
 // newFake makes a device that runs a script on the first connection.
@@ -155,11 +156,21 @@ func (f *fake) config(folder string, observer protocol.DeviceID, id, sequence ui
 	return message.AppendText(message.AppendText(nil, configFolder, message.AppendText(nil, folderID, []byte("other"))), configFolder, made)
 }
 
+// isThere says whether the connection isn't ended yet.
+func (f *fake) isThere() bool {
+	f.mutex.Lock()
+	defer f.mutex.Unlock()
+	return !f.isOver
+}
+
 // serve answers until the connection ends, as Syncthing's model does.
 func (f *fake) serve() {
 	for {
 		what, text, err := readFrame(f.stream, 1<<20, func() {})
 		if err != nil {
+			f.mutex.Lock()
+			defer f.mutex.Unlock()
+			f.isOver = true
 			return
 		}
 		f.mutex.Lock()

@@ -16,12 +16,19 @@ type Limits struct {
 	Silence    time.Duration // with no message at all: devices send pings each 90 s
 	Answer     time.Duration // for the answer to a request
 	IndexQuiet time.Duration // with nothing more of an index that isn't whole
+	IndexWhole time.Duration // for all of an index
+	BytesWhole time.Duration // for all bytes that are asked for
+	Grace      time.Duration // before a device is found too slow
+	LeastSteps float64       // records of an index, or answers, each second behind that
+	LeastBytes float64       // or as many bytes
 }
 
-// Usual are the limits where nothing else is asked for. A record of a file of 16 TiB has 45 MB of block hashes.
+// Usual are the limits where nothing else is asked for. A record of a file of 16 TiB has 45 MB of block hashes. An index of a million files comes in an
+// hour over the slowest line, and a disk on that a program waits for gives some files each second. Of more bytes than two days give, slices are asked for.
 var Usual = Limits{
 	Message: 64 << 20, Hello: 32767, Index: 8 << 30, Records: 10_000_000, Name: 32 << 10, Devices: 4096, Folders: 256,
 	Handshake: 20 * time.Second, Frame: 2 * time.Minute, Silence: 5 * time.Minute, Answer: 2 * time.Minute, IndexQuiet: time.Minute,
+	IndexWhole: 2 * time.Hour, BytesWhole: 48 * time.Hour, Grace: 10 * time.Minute, LeastSteps: 1, LeastBytes: 16 << 10,
 }
 
 // Refusal is why the observer has nothing of a device, or goes on with it no longer. Errors of this package wrap one.

@@ -40,7 +40,9 @@ func (c *Connection) read() {
 		c.stream.Close()
 		c.mutex.Lock()
 		defer c.mutex.Unlock()
-		c.failure = ended(err)
+		if c.failure == nil {
+			c.failure = ended(err)
+		}
 		for id, waiting := range c.waiting {
 			close(waiting)
 			delete(c.waiting, id)
@@ -114,6 +116,8 @@ func (c *Connection) takeResponse(text []byte) error {
 	defer c.mutex.Unlock()
 	if waiting := c.waiting[id]; waiting != nil {
 		delete(c.waiting, id)
+		c.answers.steps++
+		c.answers.bytes += int64(len(said.data))
 		waiting <- said
 	}
 	return nil

@@ -10,6 +10,7 @@ import (
 func (s *Shared) Index(ctx context.Context) (*Index, error) {
 	c := s.over
 	due, _ := s.Of(c.Device)
+	defer c.keepPace("records", c.limits.IndexWhole, func() gave { return gave{c.spent.records, c.spent.bytes} })()
 	for {
 		index, heard, failure := s.state(due.Sequence)
 		switch {
