@@ -41,7 +41,10 @@ func (s Syncthing) data() string {
 // Scan has Syncthing scan a folder, and waits until that is done.
 func (s Syncthing) Scan(folder, label string) error {
 	called := shell.Folder(folder, label)
-	answer, err := s.ask(http.MethodPost, "db/scan?"+url.Values{"folder": {folder}}.Encode(), aDay)
+	answer, err := s.ask(http.MethodPost, "db/scan?"+url.Values{"folder": {folder}}.Encode(), longestScan)
+	if isLate(err) {
+		return fmt.Errorf("folder %s isn't scanned: Syncthing wasn't done in %v. See on its page what it does, or audit without --rescan", called, longestScan)
+	}
 	if err != nil {
 		return fmt.Errorf("folder %s isn't scanned: does Syncthing run there? %w", called, err)
 	}
@@ -58,11 +61,17 @@ func (s Syncthing) Scan(folder, label string) error {
 	return nil
 }
 
-// Syncthing answers a question at once, and a scan takes its time, though not more than a day.
-const (
-	atOnce = 20 * time.Second
-	aDay   = 24 * time.Hour
+// Syncthing answers a question at once, and a scan takes its time, though not more than a day. Tests don't wait so long.
+var (
+	atOnce      = 20 * time.Second
+	longestScan = 24 * time.Hour
 )
+
+// isLate says whether an answer didn't come in time.
+func isLate(err error) bool {
+	var failed net.Error
+	return errors.As(err, &failed) && failed.Timeout()
+}
 
 // DataDirectory gives the directory in which Syncthing has its database.
 func (s Syncthing) DataDirectory() (string, error) {
