@@ -9,6 +9,7 @@ import (
 	"strings"
 	"syscall"
 	"testing"
+	"time"
 
 	"github.com/syncthing/syncthing/lib/fs"
 	"github.com/syncthing/syncthing/lib/protocol"
@@ -137,7 +138,7 @@ func checkFault(t *testing.T, on *faulty, kind string, found, whole map[string]F
 			if isThere {
 				t.Errorf("%s of %s: what is below was read", on.call, on.name)
 			}
-		case name == on.name && on.call == "info":
+		case name == on.name && on.call == "info" && kind == part.Unreadable:
 			if isFile := at.Node != nil && at.Node.Type == int(protocol.FileInfoTypeFile); !isFile || at.Stamp != "" || at.Out != nil {
 				t.Errorf("a file of which no stamp is known: %+v", at)
 			}
@@ -151,6 +152,22 @@ func checkFault(t *testing.T, on *faulty, kind string, found, whole map[string]F
 	}
 	if out := found[on.name+"/"].Out; on.call == "list" && (out == nil || out.Kind != kind || !out.Below) {
 		t.Errorf("what is below %s isn't told as left out: %v", on.name, out)
+	}
+}
+
+// What a disk fails to give of a temporary file is never the same twice, so that the name it is for counts as in motion. Where nothing is, that is the same.
+func TestTheStampOfATemporaryFile(t *testing.T) {
+	disk := aTree(t)
+	for cause, isSame := range map[error]bool{syscall.EIO: false, syscall.ENOENT: true, nil: true} {
+		walker := &Walker{Disk: adapt.Directory(disk)}
+		if cause != nil {
+			walker.Disk = adapt.Directory(&faulty{Filesystem: disk, call: "info", name: "z", err: cause})
+		}
+		first := walker.StampOf("z")
+		time.Sleep(time.Millisecond)
+		if again := walker.StampOf("z"); (again == first) != isSame {
+			t.Errorf("%v: %q and %q", cause, first, again)
+		}
 	}
 }
 
@@ -194,6 +211,8 @@ func TestAFileThatCannotBeHashed(t *testing.T) {
 	}
 	memory := fileAt(t, "/proc/self/mem") // its first bytes can't be read
 	memory.Node.Size = 5
+	unseen := fileAt(t, path)
+	unseen.Disk = adapt.Directory(&faulty{Filesystem: fs.NewFilesystem(fs.FilesystemTypeBasic, filepath.Dir(path)), call: "info", name: "file", err: syscall.EIO})
 	symlink := filepath.Join(room, "files/link")
 	if err := os.Symlink(path, symlink); err != nil {
 		t.Fatal(err)
@@ -204,6 +223,7 @@ func TestAFileThatCannotBeHashed(t *testing.T) {
 		cause     error
 	}{
 		"the disk fails":                  {memory, false, syscall.EIO},
+		"it fails as all is read":         {unseen, false, syscall.EIO},
 		"nothing is there":                {changed(fileAt(t, path), func(file *File) { file.Name = "gone" }), true, nil},
 		"a symlink took its place":        {changed(fileAt(t, path), func(file *File) { file.Name = "link" }), true, nil},
 		"another file is there":           {changed(fileAt(t, path), func(file *File) { file.Stamp = "another" }), true, nil},

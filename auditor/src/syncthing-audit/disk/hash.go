@@ -280,12 +280,14 @@ func (j *Job) Wait() ([]part.Content, *part.Differ, []byte, error) {
 // check says whether the file that was found is at its path still, with its size and time.
 func (j *Job) check() error {
 	after, err := j.file.Disk.Lstat(j.file.Name)
-	if IsDamage(err) {
-		return unread(err)
+	about, failed := j.file.Disk.About(j.file.Name)
+	for _, one := range []error{err, failed} {
+		if IsDamage(one) {
+			return unread(one)
+		}
 	}
-	if err != nil || !after.IsRegular() || after.Size() != j.file.Node.Size ||
-		after.ModTime().Unix() != j.file.Node.ModifiedS || after.ModTime().Nanosecond() != j.file.Node.ModifiedNs ||
-		Stamp(j.file.path()) != j.file.Stamp {
+	if err != nil || failed != nil || !after.IsRegular() || after.Size() != j.file.Node.Size ||
+		after.ModTime().Unix() != j.file.Node.ModifiedS || after.ModTime().Nanosecond() != j.file.Node.ModifiedNs || stampOf(about) != j.file.Stamp {
 		return ErrChanged
 	}
 	return nil

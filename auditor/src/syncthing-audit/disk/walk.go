@@ -5,6 +5,7 @@ import (
 	"fmt"
 	"path"
 	"sort"
+	"time"
 
 	"syncthing-audit/bep"
 	"syncthing-audit/choice"
@@ -146,7 +147,11 @@ func (w *Walker) found(name string, info directory.Info) Found {
 		return out(part.Special, "it is no file, directory or symlink")
 	}
 	if w.Stamps || info.IsRegular() {
-		made.Stamp = w.stamp(name)
+		stamp, err := w.stamp(name)
+		if IsDamage(err) {
+			return Found{Name: name, Out: outOf("it", err)}
+		}
+		made.Stamp = stamp
 	}
 	if w.Stamps {
 		node.Stamp = made.Stamp
@@ -155,9 +160,12 @@ func (w *Walker) found(name string, info directory.Info) Found {
 	return made
 }
 
-// StampOf gives the stamp of what stands under a name.
+// StampOf gives the stamp of what stands under a name. Where the disk fails to give it, that is another one each time: nobody knows that nothing changed.
 func (w *Walker) StampOf(name string) string {
 	about, err := w.Disk.About(name)
+	if IsDamage(err) {
+		return fmt.Sprintf("not known at %d", time.Now().UnixNano())
+	}
 	if err != nil {
 		return ""
 	}
@@ -165,16 +173,16 @@ func (w *Walker) StampOf(name string) string {
 }
 
 // stamp gives the stamp of a name, and counts the links that its file has.
-func (w *Walker) stamp(name string) string {
+func (w *Walker) stamp(name string) (string, error) {
 	about, err := w.Disk.About(name)
 	if err != nil {
-		return ""
+		return "", err
 	}
 	if w.links == nil {
 		w.links = links{}
 	}
 	w.links.add(about)
-	return stampOf(about)
+	return stampOf(about), nil
 }
 
 // Linked counts the names of files that have links elsewhere, outside the names that were walked.
