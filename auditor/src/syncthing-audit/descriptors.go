@@ -41,7 +41,7 @@ func fillDescriptors() error {
 // which nothing is that it was started with.
 func isClosed(number int) bool {
 	flags, _, err := syscall.Syscall(syscall.SYS_FCNTL, uintptr(number), syscall.F_GETFD, 0)
-	return err != 0 || flags&syscall.FD_CLOEXEC != 0
+	return err == syscall.EBADF || err == 0 && flags&syscall.FD_CLOEXEC != 0
 }
 
 // abortWhereItCrashes has a crash end the program by the signal of an abort, since Go's own status for that is the one of a refusal. No core is
