@@ -58,7 +58,8 @@ def reasons(crates, text):
         source = (crates / f"{file}.rt").read_text()
         body = re.search(rf"pub enum {enum} \{{(.*?)\n\}}", source, re.DOTALL)[1]
         listed = re.findall(r"^    ([A-Z]\w+),", body, re.MULTILINE)
-        told = [row[:2] for heading, _, rows in tables(text) if heading == title for row in rows]
+        section = re.search(rf"^## {title}\n(.*?)(?=^## |\Z)", text, re.DOTALL | re.MULTILINE)[1]
+        told = [list(found) for found in re.findall(r"^(\d+)\. \*\*(\w+)\.\*\*", section, re.MULTILINE)]
         yield title, told, [[str(place), name] for place, name in enumerate(listed, 1)]
 
 

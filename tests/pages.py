@@ -1,6 +1,6 @@
 #!/usr/bin/env python3
 """pages.py: says whether the pages that are written by hand fit one another and the code: each link leads to a file and a
-heading, and each path in code is there; crates.txt says what each crate is about; the functions on developing.md's three ways
+heading, and each path in code is there; crates.txt says what each crate is about; the functions on developing.md's two ways
 are there, and its counts are theirs; trust.md is short, and has no name or test that isn't there; each row of SECURITY.md
 names tests that are there; documents.md has the numbers of refusals, reasons.md the reasons, and the schemas describe their
 members (documented.py); README.md is one screen, of at most 500 words. The last line is 'N passed, M failed'."""
@@ -77,7 +77,7 @@ def lost(page):
 
 
 def ways(text):
-    """The three ways: the title of each, its steps as crate, file and function, and what the page counts."""
+    """The ways: the title of each, its steps as crate, file and function, and what the page counts."""
     for part in text.split("\n### ")[1:]:
         items = re.findall(r"^- (\w+): (`.*)$", part, re.MULTILINE)
         steps = [(crate, *step) for crate, text in items for step in STEP.findall(text)]
@@ -148,7 +148,7 @@ def main():
         count.says(f"SECURITY.md: {subject}", why)
     documented.check(count, TOP)
     found = [way for way in ways(developing) if way[1]]
-    count.says("docs/developing.md: ways", "" if len(found) == 3 else f"{len(found)} are read")
+    count.says("docs/developing.md: ways", "" if len(found) == 2 else f"{len(found)} are read")
     for title, steps, told in found:
         for step in sorted(set(steps)):
             count.says(f"docs/developing.md: {step}", missing(*step))
