@@ -16,10 +16,10 @@ import (
 // it.
 func TestOrderOfNames(t *testing.T) {
 	room := t.TempDir()
-	names := []string{"a", "a!", "a-b", "a.txt", "a/b", "a/b c", "a/b/c", "a/b0", "a0", "b", "b/!", "ü"}
+	names := []string{"a", "a!", "a-b", "a.txt", "a/b", "a/b c", "a/b/c", "a/b0", "a0", "b", "b/!", "b/c", "b/c!", "b/c!/x", "b/c/x", "ü"}
 	for _, name := range names {
 		var err error
-		if name == "a" || name == "b" || name == "a/b" {
+		if name == "a" || name == "b" || name == "a/b" || name == "b/c" || name == "b/c!" {
 			err = os.MkdirAll(filepath.Join(room, name), 0o755)
 		} else if err = os.MkdirAll(filepath.Dir(filepath.Join(room, name)), 0o755); err == nil {
 			err = os.WriteFile(filepath.Join(room, name), nil, 0o600)
