@@ -160,9 +160,12 @@ func TestAYearOfNights(t *testing.T) {
 	}
 }
 
+// livingNames are the names that files have which live, in one order: what is drawn then is the same at each run.
+var livingNames = []string{"a", "b", "b/1", "b/2", "ba", "c", "d"}
+
 // live changes some files of a device.
 func live(random *rand.Rand, device device) {
-	for _, name := range []string{"a", "b", "b/1", "b/2", "ba", "c", "d"} {
+	for _, name := range livingNames {
 		switch random.Intn(6) {
 		case 0:
 			delete(device, name)

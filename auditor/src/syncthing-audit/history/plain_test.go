@@ -92,8 +92,8 @@ func TestManyNightsOfSpreading(t *testing.T) {
 	for day := 0; day < 250; day++ {
 		place := random.Intn(2)
 		live(random, devices[place])
-		for name, file := range devices[1-place] {
-			if random.Intn(2) == 0 {
+		for _, name := range livingNames {
+			if file, is := devices[1-place][name]; is && random.Intn(2) == 0 {
 				devices[place][name] = file // Syncthing brings it there
 			}
 		}
