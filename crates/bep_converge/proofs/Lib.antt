@@ -48,3 +48,4 @@ mod AllCome
 mod BehindListed
 mod AllStay
 mod ScansReady
+mod OneReady

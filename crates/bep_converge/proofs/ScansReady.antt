@@ -18,7 +18,7 @@ use Rattle.bep_converge.proofs.RaisedIndexes.{StepRises, step_rises}
 use Rattle.bep_converge.proofs.ScansTop.{IsScanned, scanned, none_comes, prevail_but_fewer}
 
 -- a step more of a run
-reached_on : (old new : Cluster) (event : Event) → IsSoundStep event.step → IsReached old → IsStep event.step event.failed old new event.answer → IsReached new
+pub reached_on : (old new : Cluster) (event : Event) → IsSoundStep event.step → IsReached old → IsStep event.step event.failed old new event.answer → IsReached new
 reached_on old new event is_sound reached step = record {
   first = reached.first;
   events = reached.events ++ event ∷ [];

@@ -14,3 +14,4 @@ pub mod Bring
 pub mod BringLaws
 pub mod CutReached
 pub mod Arrival
+pub mod Ready

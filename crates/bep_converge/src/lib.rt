@@ -11,6 +11,7 @@ mod arrival;
 mod bring;
 mod converge_reason;
 mod laws;
+mod ready;
 mod steps;
 
 pub use after::{
@@ -24,6 +25,7 @@ pub use laws::{
     prevailing_is_unique, runs_keep_prevailing, steps_keep_prevailing, takes_are_bounded,
     top_stays,
 };
+pub use ready::{edit_makes_ready, override_makes_ready, revert_makes_ready};
 pub use steps::{
     cuts_have_hashes, prevailing_goes_on, runs_are_orderly, steps_are_orderly, steps_keep_hashes,
 };
