@@ -49,3 +49,4 @@ mod BehindListed
 mod AllStay
 mod ScansReady
 mod OneReady
+mod CutDown

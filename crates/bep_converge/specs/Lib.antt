@@ -15,3 +15,4 @@ pub mod BringLaws
 pub mod CutReached
 pub mod Arrival
 pub mod Ready
+pub mod CutDown

@@ -10,6 +10,7 @@ mod after;
 mod arrival;
 mod bring;
 mod converge_reason;
+mod cut;
 mod laws;
 mod ready;
 mod steps;
@@ -20,6 +21,7 @@ pub use after::{
 pub use arrival::{all_come, all_stay, behind_is_listed, bring_keeps, scans_make_ready};
 pub use bring::{bring_brings, cuts_are_reached};
 pub use converge_reason::ConvergeReason;
+pub use cut::{all_come_from_cuts, cuts_come_down};
 pub use laws::{
     converge_verdict_is_unique, converging_is_faultless, end_is_firm, orderly_runs_are_free,
     prevailing_is_unique, runs_keep_prevailing, steps_keep_prevailing, takes_are_bounded,
