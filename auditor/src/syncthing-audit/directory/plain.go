@@ -7,7 +7,10 @@ import (
 )
 
 // Plain is a directory as the system has it. Names are those that go over the wire: with slashes, and composed where the system takes them apart.
-type Plain struct{ root string }
+type Plain struct {
+	root string
+	inside
+}
 
 // Open gives the directory at a path.
 func Open(path string) (*Plain, error) {
@@ -15,7 +18,7 @@ func Open(path string) (*Plain, error) {
 	if err != nil {
 		return nil, err
 	}
-	made := &Plain{rootOf(whole)}
+	made := &Plain{rootOf(whole), insideOf(rootOf(whole))}
 	about, err := os.Stat(made.root)
 	if err == nil && !about.IsDir() {
 		err = &os.PathError{Op: "open", Path: path, Err: errNoDirectory}
@@ -28,12 +31,7 @@ func (p *Plain) URI() string { return p.root }
 
 // DirNames gives the names in a directory.
 func (p *Plain) DirNames(name string) ([]string, error) {
-	opened, err := openDirectory(p.path(name), name == ".")
-	if err != nil {
-		return nil, err
-	}
-	defer opened.Close()
-	names, err := opened.Readdirnames(-1)
+	names, err := p.inside.DirNames(name)
 	for place := range names {
 		names[place] = onWire(names[place])
 	}
@@ -48,12 +46,6 @@ func (p *Plain) Lstat(name string) (Info, error) {
 	}
 	return plainInfo{about}, nil
 }
-
-// About gives what the system says of a name.
-func (p *Plain) About(name string) (os.FileInfo, error) { return os.Lstat(p.path(name)) }
-
-// ReadSymlink gives a symlink's target.
-func (p *Plain) ReadSymlink(name string) (string, error) { return os.Readlink(p.path(name)) }
 
 type plainInfo struct{ about os.FileInfo }
 

@@ -33,11 +33,11 @@ func rootOf(path string) string {
 }
 
 // path gives the path of a name.
-func (p *Plain) path(name string) string {
+func (b byPath) path(name string) string {
 	if name == "." {
-		return p.root
+		return b.root
 	}
-	return strings.TrimSuffix(p.root, `\`) + `\` + filepath.FromSlash(name)
+	return strings.TrimSuffix(b.root, `\`) + `\` + filepath.FromSlash(name)
 }
 
 // openDirectory opens a directory.

@@ -13,6 +13,7 @@ import (
 	"github.com/syncthing/syncthing/lib/events"
 	"github.com/syncthing/syncthing/lib/fs"
 	"syncthing-audit/adapt"
+	"syncthing-audit/directory"
 )
 
 // swapping makes a folder with the directory d, and swaps that for a symlink to a directory outside, over and over.
@@ -63,14 +64,25 @@ func filesOf(t *testing.T, room string) fs.Filesystem {
 	return adapt.Filesystem(folder.Filesystem, set)
 }
 
-// A directory that is swapped for a symlink while it is walked leads nowhere else: no name, size or stamp of another directory is told.
+// A directory that is swapped for a symlink while it is walked leads nowhere else: no name, size or stamp of another directory is told. So it is where a
+// home is read, and where disks alone are walked.
 func TestADirectoryThatIsSwappedForASymlink(t *testing.T) {
 	room, stop := swapping(t)
 	defer stop()
-	files := filesOf(t, room)
+	plain, err := directory.Open(room)
+	if err != nil {
+		t.Fatal(err)
+	}
+	for _, files := range []directory.Directory{adapt.Directory(filesOf(t, room)), plain} {
+		walkSwapped(t, files)
+	}
+}
+
+// walkSwapped walks such a folder over and over.
+func walkSwapped(t *testing.T, files directory.Directory) {
 	seen := 0
 	for end := time.Now().Add(2 * time.Second); time.Now().Before(end); {
-		walker := &Walker{Disk: adapt.Directory(files), Folder: "docs", Stamps: true, Take: func(one Found) error {
+		walker := &Walker{Disk: files, Folder: "docs", Stamps: true, Take: func(one Found) error {
 			if strings.HasSuffix(one.Name, "below/inside") && one.Node != nil {
 				seen++
 			}
