@@ -11,6 +11,7 @@ import (
 	"path/filepath"
 	"strings"
 
+	"syncthing-audit/directory"
 	"syncthing-audit/regular"
 )
 
@@ -21,22 +22,44 @@ const File = ".stignore"
 const mostLineBytes = bufio.MaxScanTokenSize
 
 // Read reads the lines of a folder's .stignore, and those of files that it includes, each at the place of its '#include'. Syncthing heeds a line once.
-// A folder without the file has no lines.
-func Read(directory string) ([]string, error) {
-	reading := &reading{seen: map[string]bool{}, files: map[string]bool{}}
-	path := filepath.Join(directory, File)
+// A folder without the file has no lines. Lines go into a part, and an included file may come from another device. So nothing outside the folder is read:
+// it may be a private key. Syncthing reads it.
+func Read(folder string) ([]string, error) {
+	path := filepath.Join(folder, File)
 	if _, err := os.Stat(path); errors.Is(err, fs.ErrNotExist) {
 		return nil, nil
 	}
-	err := reading.file(path)
+	root, err := filepath.EvalSymlinks(folder)
+	if err == nil {
+		root, err = filepath.Abs(root)
+	}
+	if err != nil {
+		return nil, reason(err)
+	}
+	reading := &reading{root: root, seen: map[string]bool{}, files: map[string]bool{}}
+	err = reading.file(path)
 	return reading.lines, err
 }
 
 // reading is of one .stignore.
 type reading struct {
+	root  string // the folder's directory, without symlinks
 	lines []string
 	seen  map[string]bool
 	files map[string]bool
+}
+
+// checkInside says whether an open file isn't in the folder. The .stignore itself is no device's but this one's: its user may have it lead elsewhere, and
+// root doesn't follow that.
+func (r *reading) checkInside(file *os.File) error {
+	if len(r.files) == 1 && os.Geteuid() != 0 {
+		return nil
+	}
+	at, err := directory.PathOf(file)
+	if err == nil && !strings.HasPrefix(at, strings.TrimSuffix(r.root, string(filepath.Separator))+string(filepath.Separator)) {
+		err = errors.New("it is outside the folder, where this program reads nothing")
+	}
+	return err
 }
 
 // file reads a file.
@@ -46,10 +69,13 @@ func (r *reading) file(path string) error {
 	}
 	r.files[path] = true
 	file, _, err := regular.Open(path)
+	if err == nil {
+		defer file.Close()
+		err = r.checkInside(file)
+	}
 	if err != nil {
 		return fmt.Errorf("%s can't be read: %w", filepath.Base(path), reason(err))
 	}
-	defer file.Close()
 	scanner, lines := bufio.NewScanner(file), []string{}
 	scanner.Buffer(nil, mostLineBytes)
 	for scanner.Scan() {

@@ -128,3 +128,55 @@ func TestWhatSyncthingHasNoTestOf(t *testing.T) {
 		t.Errorf("a file that includes itself: %v", err)
 	}
 }
+
+// Nothing outside the folder is read, whatever names it: its bytes would go into the part. What is in the folder is, also by a symlink.
+func TestNothingOutsideTheFolderIsRead(t *testing.T) {
+	isRoot := os.Geteuid() == 0
+	for why, one := range map[string]struct {
+		links   map[string]string
+		ignores string // nothing where a link makes it
+		isRead  bool
+	}{
+		"a file beside the folder":      {nil, "#include ../secret", false},
+		"by its whole path":             {nil, "#include ../../../../../../../..ROOM/secret", false},
+		"a symlink out of the folder":   {map[string]string{"more": "../secret"}, "#include more", false},
+		"a directory out of the folder": {map[string]string{"up": ".."}, "#include up/secret", false},
+		"a symlink within":              {map[string]string{"more": "below/lines"}, "#include more", true},
+		"a file below":                  {nil, "#include below/lines", true},
+		"up and down again":             {nil, "#include below/../below/lines", true},
+		"its own symlink":               {map[string]string{File: "../secret"}, "", !isRoot},
+		"its own symlink within":        {map[string]string{File: "below/lines"}, "", true},
+		"its own, and then out":         {map[string]string{File: "below/out"}, "", false},
+	} {
+		room := t.TempDir()
+		folder := filepath.Join(room, "folder")
+		if err := os.MkdirAll(filepath.Join(folder, "below"), 0o755); err != nil {
+			t.Fatal(err)
+		}
+		texts := map[string]string{"../secret": "BEGIN KEY", "below/lines": "BEGIN KEY", "below/out": "#include ../secret"}
+		if one.ignores != "" {
+			texts[File] = strings.ReplaceAll(one.ignores, "ROOM", room)
+		}
+		for name, text := range texts {
+			if err := os.WriteFile(filepath.Join(folder, name), []byte(text), 0o600); err != nil {
+				t.Fatal(err)
+			}
+		}
+		for name, target := range one.links {
+			if err := os.Symlink(target, filepath.Join(folder, name)); err != nil {
+				t.Fatal(err)
+			}
+		}
+		for _, path := range []string{folder, filepath.Join(room, "link")} {
+			if path != folder {
+				if err := os.Symlink("folder", path); err != nil {
+					t.Fatal(err)
+				}
+			}
+			lines, err := Read(path)
+			if (err == nil) != one.isRead || (len(lines) == 1) != one.isRead || err != nil && strings.Contains(err.Error(), room) {
+				t.Errorf("%s: %q, %v", why, lines, err)
+			}
+		}
+	}
+}
