@@ -12,7 +12,7 @@ import (
 
 // mayOpen are the files that open something to be read otherwise than by the package regular, and what that is.
 var mayOpen = map[string]string{
-	"rest/listener.go":           "the kernel's table of listeners",
+	"listening/listening.go":     "the kernel's table of listeners",
 	"directory/place.go":         "the system's id",
 	"directory/plain_windows.go": "a directory",
 	"leftover/staged.go":         "the directory that was made for a run",

@@ -166,9 +166,7 @@ func (c *configuration) client() (*http.Client, error) {
 	case address == nil || !address.IsLoopback():
 		return nil, errors.New("its page has no address of this machine")
 	}
-	transport := &http.Transport{DisableKeepAlives: true, Dial: func(string, string) (net.Conn, error) {
-		return net.DialTimeout("tcp", net.JoinHostPort(host, port), timeToBeIdle)
-	}}
+	transport := &http.Transport{DisableKeepAlives: true, Dial: func(string, string) (net.Conn, error) { return c.dial(net.JoinHostPort(host, port)) }}
 	if c.GUI.TLS {
 		certificate, err := c.certificate()
 		if err != nil {
@@ -177,6 +175,19 @@ func (c *configuration) client() (*http.Client, error) {
 		transport.TLSClientConfig = &tls.Config{InsecureSkipVerify: true, VerifyPeerCertificate: certificate.isThat} // it is signed by itself
 	}
 	return &http.Client{Transport: transport, Timeout: timeToBeIdle, CheckRedirect: func(*http.Request, []*http.Request) error { return http.ErrUseLastResponse }}, nil
+}
+
+// dial connects with Syncthing. Without TLS the far end isn't another user's.
+func (c *configuration) dial(address string) (net.Conn, error) {
+	made, err := net.DialTimeout("tcp", address, timeToBeIdle)
+	if err != nil || c.GUI.TLS {
+		return made, err
+	}
+	if err := checkListener(made, c.path); err != nil {
+		made.Close()
+		return nil, err
+	}
+	return made, nil
 }
 
 // pinned is a certificate that the far end has to have.

@@ -1,18 +1,17 @@
 package rest
 
 import (
-	"encoding/hex"
 	"errors"
 	"fmt"
 	"net"
 	"os"
 	"path/filepath"
 	"strconv"
-	"strings"
 	"syscall"
 
 	"golang.org/x/sys/unix"
 	"syncthing-audit/device"
+	"syncthing-audit/listening"
 )
 
 // ErrStranger says that whoever listens isn't seen to be the Syncthing of a home.
@@ -111,59 +110,15 @@ func peerOf(made *net.UnixConn) ([]listener, error) {
 	return []listener{{int(said.Uid), func() []int { return []int{int(said.Pid)} }}}, nil
 }
 
-// listenersAt gives who listens at an address of this machine, by the kernel's tables of sockets.
+// listenersAt gives who listens at an address of this machine.
 func listenersAt(at *net.TCPAddr) ([]listener, error) {
 	made := []listener{}
-	for _, path := range []string{"/proc/net/tcp", "/proc/net/tcp6"} {
-		table, err := os.ReadFile(path)
-		if errors.Is(err, os.ErrNotExist) {
-			continue // a machine without IPv6
-		}
-		if err != nil {
-			return nil, err
-		}
-		for _, line := range strings.Split(string(table), "\n") {
-			if user, inode, is := listensAt(line, at); is {
-				made = append(made, listener{user, func() []int { return processesWith("socket:[" + inode + "]") }})
-			}
-		}
+	found, err := listening.At(at)
+	for _, one := range found {
+		inode := one.Inode
+		made = append(made, listener{one.User, func() []int { return processesWith("socket:[" + inode + "]") }})
 	}
-	return made, nil
-}
-
-// The columns of the kernel's tables of sockets, and the state of one that listens.
-const (
-	columnOfAddress = 1
-	columnOfState   = 3
-	columnOfUser    = 7
-	columnOfInode   = 9
-	stateOfListener = "0A"
-)
-
-// listensAt gives the user and the inode of a line's socket, where that listens at an address.
-func listensAt(line string, at *net.TCPAddr) (user int, inode string, is bool) {
-	columns := strings.Fields(line)
-	if len(columns) <= columnOfInode || columns[columnOfState] != stateOfListener {
-		return 0, "", false
-	}
-	host, port, _ := strings.Cut(columns[columnOfAddress], ":")
-	number, err := strconv.ParseUint(port, 16, 16)
-	address := addressIn(host)
-	if err != nil || int(number) != at.Port || !address.IsUnspecified() && !address.Equal(at.IP) {
-		return 0, "", false
-	}
-	user, err = strconv.Atoi(columns[columnOfUser])
-	return user, columns[columnOfInode], err == nil
-}
-
-// addressIn reads an address of such a table: numbers of 32 bits in the order of the machine. All for which this program is built have the lowest
-// byte first.
-func addressIn(text string) net.IP {
-	made, _ := hex.DecodeString(text)
-	for at := 0; at+4 <= len(made); at += 4 {
-		made[at], made[at+1], made[at+2], made[at+3] = made[at+3], made[at+2], made[at+1], made[at]
-	}
-	return made
+	return made, err
 }
 
 // processesWith gives the processes that have something open, as far as they may be seen.

@@ -1,0 +1,72 @@
+// Package listening says whose programs listen at addresses of this machine, by the tables that Linux has of sockets.
+package listening
+
+import (
+	"encoding/hex"
+	"errors"
+	"net"
+	"os"
+	"strconv"
+	"strings"
+)
+
+// Socket is one that listens.
+type Socket struct {
+	User  int
+	Inode string
+}
+
+// At gives those that listen at an address.
+func At(at *net.TCPAddr) ([]Socket, error) {
+	made := []Socket{}
+	for _, path := range []string{"/proc/net/tcp", "/proc/net/tcp6"} {
+		table, err := os.ReadFile(path)
+		if errors.Is(err, os.ErrNotExist) {
+			continue // a machine without IPv6
+		}
+		if err != nil {
+			return nil, err
+		}
+		for _, line := range strings.Split(string(table), "\n") {
+			if one, is := listensAt(line, at); is {
+				made = append(made, one)
+			}
+		}
+	}
+	return made, nil
+}
+
+// The columns of the kernel's tables of sockets, and the state of one that listens.
+const (
+	columnOfAddress = 1
+	columnOfState   = 3
+	columnOfUser    = 7
+	columnOfInode   = 9
+	stateOfListener = "0A"
+)
+
+// listensAt gives a line's socket, where that listens at an address.
+func listensAt(line string, at *net.TCPAddr) (Socket, bool) {
+	columns := strings.Fields(line)
+	if len(columns) <= columnOfInode || columns[columnOfState] != stateOfListener {
+		return Socket{}, false
+	}
+	host, port, _ := strings.Cut(columns[columnOfAddress], ":")
+	number, err := strconv.ParseUint(port, 16, 16)
+	address := addressIn(host)
+	if err != nil || int(number) != at.Port || !address.IsUnspecified() && !address.Equal(at.IP) {
+		return Socket{}, false
+	}
+	user, err := strconv.Atoi(columns[columnOfUser])
+	return Socket{user, columns[columnOfInode]}, err == nil
+}
+
+// addressIn reads an address of such a table: numbers of 32 bits in the order of the machine. All for which this program is built have the lowest
+// byte first.
+func addressIn(text string) net.IP {
+	made, _ := hex.DecodeString(text)
+	for at := 0; at+4 <= len(made); at += 4 {
+		made[at], made[at+1], made[at+2], made[at+3] = made[at+3], made[at+2], made[at+1], made[at]
+	}
+	return made
+}

@@ -1,0 +1,48 @@
+package listening
+
+import (
+	"net"
+	"strings"
+	"testing"
+)
+
+// What listens is read from lines of the kernel's tables, of both kinds.
+func TestLinesOfListeners(t *testing.T) {
+	const (
+		rest     = " 00000000:0000 0A 00000000:00000000 00:00000000 00000000  1000        0 4711 1 0 100 0 0 10 0"
+		ready    = " 0100007F:9999 01 00000000:00000000 00:00000000 00000000  1000        0 4711 1 0 100 0 0 10 0"
+		noOthers = "00000000000000000000000000000000"
+		loopback = "00000000000000000000000001000000"
+	)
+	at := &net.TCPAddr{IP: net.ParseIP("127.0.0.1"), Port: 0x20C0}
+	columns := func(line string, count int) string { return strings.Join(strings.Fields(line)[:count], " ") }
+	for line, is := range map[string]bool{
+		"0: 0100007F:20C0" + rest:         true,
+		"0: 00000000:20C0" + rest:         true,
+		"0: " + noOthers + ":20C0" + rest: true,
+		"0: " + loopback + ":20C0" + rest: false,
+		"0: 0200007F:20C0" + rest:         false,
+		"0: 0100007F:20C1" + rest:         false,
+		"0: 0100007F:20C0" + ready:        false,
+		"0: 0100007F:20C0":                false,
+		"0: odd:20C0" + rest:              false,
+		"0: 0100007F:x" + rest:            false,
+		"0: 0100007F:120C0" + rest:        false,
+		"0: 0100007F" + rest:              false,
+
+		"0: 0100007F:20C0" + strings.Replace(rest, "1000", "ann", 1): false,
+		columns("0: 0100007F:20C0"+rest, columnOfInode):              false,
+		columns("0: 0100007F:20C0"+rest, columnOfInode+1):            true,
+		"  sl  local_address rem_address ":                           false,
+		"":                                                           false,
+	} {
+		one, found := listensAt(line, at)
+		if found != is || is && one != (Socket{1000, "4711"}) {
+			t.Errorf("%q: %v, %v", line, one, found)
+		}
+	}
+	at.IP = net.ParseIP("::1")
+	if _, found := listensAt("0: "+loopback+":20C0"+rest, at); !found {
+		t.Error("::1 isn't found")
+	}
+}
