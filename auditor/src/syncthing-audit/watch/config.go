@@ -156,6 +156,9 @@ func parse(text []byte) (*Config, error) {
 	for {
 		token, err := decoder.Token()
 		if err == io.EOF {
+			if err := checkText(text); err != nil {
+				return made, err
+			}
 			return made, made.check()
 		}
 		if err != nil {
