@@ -5,13 +5,13 @@
 _syncthing_audit_flags() {
   case $1 in
     part) echo '--observer --home --data --map --folder --names --slice --jobs --about --begin --end --tokens --heed-input --rescan --still --strict --leave-out --sign --paths -o --help' ;;
-    run) echo '--observer --data --map --folder --names --slice --jobs --strict --leave-out --lines --json --syncaudit --still --rescan --remote-program --paths --dry-run --history --help' ;;
-    check) echo '--observer --home --data --map --folder --names --slice --jobs --strict --leave-out --bytes --allowed-signers --lines --json --syncaudit --history --help' ;;
-    observe) echo '--init --home --folder --names --slice --jobs --records --listen --disk --still --into --history --strict --leave-out --lines --json --syncaudit --help' ;;
+    run) echo '--observer --data --map --folder --names --slice --jobs --strict --leave-out --lines --json --script --syncaudit --still --rescan --remote-program --paths --dry-run --history --help' ;;
+    check) echo '--observer --home --data --map --folder --names --slice --jobs --strict --leave-out --bytes --allowed-signers --lines --json --script --syncaudit --history --help' ;;
+    observe) echo '--init --home --folder --names --slice --jobs --records --listen --disk --still --into --history --strict --leave-out --lines --json --script --syncaudit --help' ;;
     disk) echo '--after --block-size --names --slice --jobs --config --marker --paths --sign -o --help' ;;
     export) echo '--observer --home --data --map --folder --names --slice --jobs --strict --leave-out --bytes --allowed-signers --into --help' ;;
     watch) echo '--jobs --still --syncaudit --help' ;;
-    sum) echo '--lines --json --help' ;;
+    sum) echo '--lines --json --script --help' ;;
     find) echo '--history --folder --jobs --help' ;;
   esac
 }
@@ -34,7 +34,7 @@ _syncthing_audit() {
     return
   fi
   case $before in
-    --home | --data | --into | --history) mapfile -t COMPREPLY < <(compgen -d -- "$word") ;;
+    --home | --data | --into | --script | --history) mapfile -t COMPREPLY < <(compgen -d -- "$word") ;;
     --syncaudit | --tokens | --sign | --allowed-signers | --disk | --config | -o) mapfile -t COMPREPLY < <(compgen -f -- "$word") ;;
     --leave-out) mapfile -t COMPREPLY < <(_syncthing_audit_kinds "$word") ;;
     --map | --folder | --names | --slice | --jobs | --still | --remote-program | --listen | --observer | --after | --block-size | --marker) ;;

@@ -59,3 +59,4 @@ complete -c syncthing-audit -n "__fish_seen_subcommand_from observe" -l listen -
 complete -c syncthing-audit -n "__fish_seen_subcommand_from check run observe sum" -l lines -d "Each failure in a line, in syncaudit's words"
 complete -c syncthing-audit -n "__fish_seen_subcommand_from check run observe sum" -l json -d 'The summary for programs'
 complete -c syncthing-audit -n "__fish_seen_subcommand_from sum" -x -a '(__fish_complete_directories)'
+complete -c syncthing-audit -n "__fish_seen_subcommand_from check run observe sum" -l script -x -a '(__fish_complete_directories)' -d 'Where shell scripts of the steps go'

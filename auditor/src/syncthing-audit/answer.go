@@ -17,6 +17,7 @@ import (
 func answerFlags(flags *flag.FlagSet, read *options) {
 	flags.BoolVar(&read.lines, "lines", false, "")
 	flags.BoolVar(&read.json, "json", false, "")
+	flags.StringVar(&read.script, "script", "", "")
 }
 
 // checkForm says what is wrong with the form that is asked for.
@@ -24,7 +25,7 @@ func (o *options) checkForm() error {
 	if o.lines && o.json {
 		return &wrongUsage{"--lines and --json are two forms of the answer: choose one"}
 	}
-	return nil
+	return checkScripts(o.script)
 }
 
 // tell tells an answer in the form that was asked for, and gives the exit status.
@@ -50,6 +51,9 @@ func tell(output, log io.Writer, asked options, answer *finding.Answer, since *h
 	}
 	if err != nil {
 		return 0, fmt.Errorf("the answer can't be written: %w", err)
+	}
+	if err := writeScripts(asked.script, told, log); err != nil {
+		return 0, err
 	}
 	if asked.take != nil {
 		asked.take(told)

@@ -90,6 +90,8 @@ Says whether Syncthing devices are in step and, if they aren't, which device is 
                        %s
   --lines              in place of the summary for people: the verdict and a line for each failure, in syncaudit's words
   --json               in place of the summary for people: the summary for programs; audit.schema.json is its schema
+  --script DIR         of check, run, observe and sum: write the steps of the answer's plans there, as a shell script for each device. None of
+                       them is run: whoever reads one sets the paths in it
   --history DIR        of check, run and observe: keep in DIR what was read of each file and when, and what was found, and say what is new. So bytes
                        that changed on all devices under one time are seen, which no comparison of devices shows
   --bytes              documents with the bytes of files, as others may want to read them; works only with homes
@@ -119,13 +121,13 @@ func isInHelp(named string) bool {
 // flagsOfCommands are the flags of each command.
 var flagsOfCommands = map[string]string{
 	"part":    "--observer --home --data --map --folder --names --slice --jobs --about --begin --end --tokens --heed-input --rescan --still --strict --leave-out --sign --paths -o",
-	"run":     "--observer --data --map --folder --names --slice --jobs --strict --leave-out --lines --json --syncaudit --still --rescan --remote-program --paths --dry-run --history",
-	"check":   "--observer --home --data --map --folder --names --slice --jobs --strict --leave-out --bytes --allowed-signers --lines --json --syncaudit --history",
-	"observe": "--init --home --folder --names --slice --jobs --records --listen --disk --still --into --history --strict --leave-out --lines --json --syncaudit",
+	"run":     "--observer --data --map --folder --names --slice --jobs --strict --leave-out --lines --json --script --syncaudit --still --rescan --remote-program --paths --dry-run --history",
+	"check":   "--observer --home --data --map --folder --names --slice --jobs --strict --leave-out --bytes --allowed-signers --lines --json --script --syncaudit --history",
+	"observe": "--init --home --folder --names --slice --jobs --records --listen --disk --still --into --history --strict --leave-out --lines --json --script --syncaudit",
 	"disk":    "--after --block-size --names --slice --jobs --config --marker --paths --sign -o",
 	"export":  "--observer --home --data --map --folder --names --slice --jobs --strict --leave-out --bytes --allowed-signers --into",
 	"watch":   "--jobs --still --syncaudit",
-	"sum":     "--lines --json",
+	"sum":     "--lines --json --script",
 	"find":    "--history --folder --jobs",
 }
 

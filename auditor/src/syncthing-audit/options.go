@@ -29,6 +29,7 @@ type options struct {
 	bytes      bool
 	lines      bool
 	json       bool
+	script     string // the directory where scripts of the answer's steps go; nothing where none are asked for
 	into       string
 	key        string // with which a part is signed; nothing where it isn't
 	signers    string // the file of those who may sign parts; nothing where that isn't asked

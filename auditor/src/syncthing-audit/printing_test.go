@@ -17,6 +17,9 @@ var mayWrite = map[string]string{
 	"document/builder.go": "a document for syncaudit",
 	"progress.go":         "counts, and what takes their line away",
 	"run_command.go":      "tokens for a look's standard input",
+	"script/script.go":    "steps of a shell script, whose names are quoted",
+	"script/text.go":      "a shell script around them",
+	"scripts.go":          "shell scripts",
 	"watch/metrics.go":    "a text for Prometheus, which has escapes of its own",
 }
 

@@ -167,6 +167,13 @@ var refusals = []aRefusal{
 	{"refused: %s is a symlink to nothing: name a directory", "", func(t *testing.T, room string) []string {
 		return append([]string{"export", "--into", linkTo(t, room, "nowhere")}, twoParts(t, room, unchangedParts)...)
 	}},
+	{"refused: something is in %s: name another directory for the scripts", "", func(t *testing.T, room string) []string {
+		return append(checking(twoParts(t, room, unchangedParts)...), "--script", room)
+	}},
+	{"refused: %w: name another directory for the scripts", "", func(t *testing.T, room string) []string {
+		parts := twoParts(t, room, unchangedParts)
+		return append(checking(parts...), "--script", parts[0])
+	}},
 	{"refused: %s has an earlier export (%s): name another directory, or take that away", "", func(t *testing.T, room string) []string {
 		return append([]string{"export", "--into", filepath.Dir(with(t, filepath.Join(room, "into/cut-0001.reply"), ""))}, twoParts(t, room, unchangedParts)...)
 	}},

@@ -1,0 +1,95 @@
+package script
+
+import (
+	"fmt"
+	"strings"
+
+	"syncthing-audit/print"
+	"syncthing-audit/shell"
+	"syncthing-audit/summary"
+)
+
+// text gives a script as a whole.
+func (w *writing) text(at of) string {
+	one := w.scripts[at]
+	var made strings.Builder
+	line := func(format string, values ...any) { fmt.Fprintf(&made, format+"\n", values...) }
+	line("#!/bin/sh")
+	line("# Steps on %s, of an audit at %s.", w.called(at.device), w.audit)
+	line("#")
+	line("# Read it, and fill in what follows. Run it by sh, as the user who runs Syncthing there, while Syncthing is stopped on all devices of the folder.")
+	line("# It deletes nothing: what it takes away goes to $aside. Each step is made once, so it may be run again.")
+	for _, note := range w.notes(at) {
+		line("# %s", note)
+	}
+	line("")
+	line("stopped=no # yes, once Syncthing is stopped on all devices")
+	line("aside=     # a directory outside of all folders of Syncthing, best on the same disk")
+	for place, folder := range one.folders {
+		line("folder_%d=  # where %s is on this device", place+1, folderOf(folder))
+	}
+	for place, source := range one.sources {
+		line("source_%d=  # where %s is: a path here, or HOST:/PATH, which rsync reaches by ssh", place+1, w.sourceOf(source))
+	}
+	line("audit=%s", w.audit)
+	line("")
+	made.WriteString(prelude)
+	line("")
+	line("check_all")
+	for place, folder := range one.folders {
+		line("check_folder \"$folder_%d\" %s", place+1, shell.Exact(folderOf(folder)))
+	}
+	for place, source := range one.sources {
+		line("check_source \"$source_%d\" %s", place+1, shell.Exact(w.sourceOf(source)))
+	}
+	line("prepare")
+	made.WriteString(one.steps.String())
+	line("")
+	line("printf '%%s\\n' %s", shell.Exact(w.next(at)))
+	return made.String()
+}
+
+func folderOf(folder *summary.Folder) string { return shell.Folder(folder.ID, folder.Label) }
+
+func (w *writing) sourceOf(one source) string {
+	return folderOf(one.folder) + " of " + w.called(one.device)
+}
+
+// notes say in what order scripts are run, and what none of them does.
+func (w *writing) notes(at of) []string {
+	var made []string
+	if w.rounds > 1 {
+		made = append(made, fmt.Sprintf("Run all scripts whose names begin with 1- on their devices, then those with 2-, and so on up to %d-. This one is of round %d.", w.rounds, at.round))
+	}
+	if w.hidden > 0 {
+		made = append(made, print.Counted(w.hidden, "more name needs", "more names need")+" such steps, and no script has them: audit again after these.")
+	}
+	return append(made, w.rest()...)
+}
+
+// rest says what is to be done beside the scripts, before Syncthing starts.
+func (w *writing) rest() []string {
+	var made []string
+	if w.first > 0 {
+		made = append(made, "The answer begins with what is to be done before Syncthing starts: "+print.Counted(int64(w.first), "line.", "lines."))
+	}
+	if w.without > 0 {
+		made = append(made, "The answer's entries say what to do before Syncthing starts, for "+print.Counted(w.without, "name that no script puts right.", "names that no script puts right."))
+	}
+	if w.unknown > 0 {
+		made = append(made, "It isn't known what a start does to "+print.Counted(w.unknown, "name: see to it first.", "names: see to them first."))
+	}
+	return made
+}
+
+// next says what comes after a script.
+func (w *writing) next(at of) string {
+	said := "All steps of this script are made."
+	switch {
+	case at.round < w.rounds:
+		return said + fmt.Sprintf(" Once all scripts of round %d are through, those of round %d are next.", at.round, at.round+1)
+	case w.hidden > 0:
+		return said + " Audit again, before Syncthing starts, for the steps that no script has."
+	}
+	return strings.Join(append([]string{said}, append(w.rest(), "Once all scripts are through, start Syncthing on all devices.")...), " ")
+}

@@ -1,0 +1,93 @@
+package main
+
+import (
+	"bytes"
+	"fmt"
+	"math/rand"
+	"os"
+	"os/exec"
+	"path/filepath"
+	"strings"
+	"testing"
+
+	"syncthing-audit/disk"
+	"syncthing-audit/gather"
+)
+
+// Scripts come beside each form of the answer, and change neither it nor its status. Each is one that sh reads.
+func TestScriptsBesideAnAnswer(t *testing.T) {
+	useAuditor(t)
+	parts := writtenDrawn(t, drawnWith(t, true))
+	for _, form := range [][]string{nil, {"--json"}, {"--lines"}} {
+		words := append([]string{"check"}, append(form, parts...)...)
+		directory := filepath.Join(t.TempDir(), "scripts")
+		var without, with, log bytes.Buffer
+		status := run(words, &without, &bytes.Buffer{})
+		if again := run(append(words, "--script", directory), &with, &log); again != status || with.String() != without.String() {
+			t.Errorf("%q: status %d, not %d; %s", form, again, status, log.String())
+		}
+		made, err := os.ReadDir(directory)
+		if err != nil || len(made) == 0 || !strings.Contains(log.String(), directory) {
+			t.Errorf("%q: %d scripts: %v: %s", form, len(made), err, log.String())
+		}
+		for _, one := range made {
+			path := filepath.Join(directory, one.Name())
+			if said, err := exec.Command("sh", "-n", path).CombinedOutput(); err != nil {
+				t.Errorf("%s: %v: %s", path, err, said)
+			}
+			if about, err := one.Info(); err != nil || about.Mode() != 0o600 {
+				t.Errorf("%s: %v: %v", path, about.Mode(), err)
+			}
+		}
+	}
+}
+
+// No script is written over something, or into a folder of Syncthing; an answer without steps has none.
+func TestWhereNoScriptsCome(t *testing.T) {
+	useAuditor(t)
+	parts := writtenDrawn(t, drawnWith(t, true))
+	full, synced, file := t.TempDir(), t.TempDir(), filepath.Join(t.TempDir(), "file")
+	for _, path := range []string{filepath.Join(full, "x"), filepath.Join(synced, marker), file} {
+		if err := os.WriteFile(path, nil, 0o600); err != nil {
+			t.Fatal(err)
+		}
+	}
+	for directory, why := range map[string]string{full: "something is in", filepath.Join(synced, "below"): "Syncthing folder", file: "not a directory"} {
+		var output, log bytes.Buffer
+		if status := run(append([]string{"check", "--script", directory}, parts...), &output, &log); status != statusRefused || !strings.Contains(log.String(), why) || output.Len() > 0 {
+			t.Errorf("%s: status %d: %s%s", directory, status, output.String(), log.String())
+		}
+	}
+	directory := filepath.Join(t.TempDir(), "scripts")
+	var output, log bytes.Buffer
+	alone := writtenDrawn(t, drawnWith(t, false))
+	run(append([]string{"check", "--script", directory}, alone...), &output, &log)
+	if _, err := os.Lstat(directory); !os.IsNotExist(err) || !strings.Contains(log.String(), "no steps") {
+		t.Error(err, log.String())
+	}
+}
+
+// drawnWith draws devices of which the answer has plans, or has none.
+func drawnWith(t *testing.T, plans bool) []*drawn {
+	for seed := int64(1); seed < 100; seed++ {
+		devices := drawChain(t, rand.New(rand.NewSource(seed)), 2)
+		if told := answerOfDrawn(t, devices, false).Folders[0].Outlook; told != nil && len(told.Plans) > 0 == plans {
+			return devices
+		}
+	}
+	t.Fatal("no answer is so")
+	return nil
+}
+
+// writtenDrawn writes the devices' parts.
+func writtenDrawn(t *testing.T, devices []*drawn) []string {
+	pool := disk.NewPool(2)
+	defer pool.Close()
+	room, made := t.TempDir(), []string{}
+	for place, one := range devices {
+		stream := (&gather.Device{ID: one.id, Runs: one.runs, Folders: []gather.Folder{one}, Pool: pool}).Stream()
+		made = append(made, writtenPart(t, room, fmt.Sprint(place), stream))
+		stream.Close()
+	}
+	return made
+}
