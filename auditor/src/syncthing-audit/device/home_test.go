@@ -89,3 +89,34 @@ func TestAnIndexOfALaterSyncthing(t *testing.T) {
 		t.Error(err)
 	}
 }
+
+// What is no certificate, or no configuration, is told with its place.
+func TestFilesOfAHomeThatAreNone(t *testing.T) {
+	for told, texts := range map[string][2]string{
+		"cert.pem: no certificate":              {"none", "<configuration version=\"37\"></configuration>"},
+		"cert.pem: no certificate ":             {"-----BEGIN KEY-----\nAAAA\n-----END KEY-----\n", "<configuration version=\"37\"></configuration>"},
+		"config.xml: XML syntax error":          {"-----BEGIN CERTIFICATE-----\nAAAA\n-----END CERTIFICATE-----\n", "<configuration"},
+		"config.xml: version 22 is too old":     {"-----BEGIN CERTIFICATE-----\nAAAA\n-----END CERTIFICATE-----\n", "<configuration version=\"22\"></configuration>"},
+		"config.xml: no such file or directory": {"-----BEGIN CERTIFICATE-----\nAAAA\n-----END CERTIFICATE-----\n", ""},
+	} {
+		dir := t.TempDir()
+		for place, name := range []string{"cert.pem", "config.xml"} {
+			if texts[place] == "" {
+				continue
+			}
+			if err := os.WriteFile(filepath.Join(dir, name), []byte(texts[place]), 0o600); err != nil {
+				t.Fatal(err)
+			}
+		}
+		_, _, err := About(dir)
+		if err == nil || !strings.Contains(err.Error(), dir+"/"+strings.TrimSpace(told)) {
+			t.Errorf("%v, not %s", err, told)
+		}
+		if _, again := ReadConfig(dir); again == nil || again.Error() != err.Error() {
+			t.Errorf("%v, not %v", again, err)
+		}
+	}
+	if _, err := attributesIn([]byte("<configuration")); err == nil {
+		t.Error("a configuration that is cut off has folders")
+	}
+}

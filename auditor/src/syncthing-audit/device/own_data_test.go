@@ -7,6 +7,7 @@ import (
 	"testing"
 
 	"github.com/syncthing/syncthing/lib/config"
+	"github.com/syncthing/syncthing/lib/db/backend"
 )
 
 // Syncthing's own data in a folder are told, but for what .stignore ignores, and but for those elsewhere.
@@ -40,5 +41,28 @@ func TestOwnDataInAFolder(t *testing.T) {
 		if made := home.writersOf("docs"); !reflect.DeepEqual(made, told) {
 			t.Errorf("%s: %v", why, made)
 		}
+	}
+}
+
+// The program that runs on an index is the one that has its lock open, and is looked for where a Syncthing may run.
+func TestTheProgramThatRuns(t *testing.T) {
+	dir := t.TempDir()
+	index, err := backend.OpenLevelDB(filepath.Join(dir, databaseName), backend.TuningAuto)
+	if err != nil {
+		t.Fatal(err)
+	}
+	own, err := os.Executable()
+	if err != nil {
+		t.Fatal(err)
+	}
+	if program := (&Home{Dir: dir, isLive: true}).program(); program != own {
+		t.Errorf("%q, not %q", program, own)
+	}
+	if program := (&Home{Dir: dir}).program(); program != "" {
+		t.Errorf("of a stopped device: %q", program)
+	}
+	index.Close()
+	if program := (&Home{Dir: dir, isLive: true}).program(); program != "" {
+		t.Errorf("of nobody: %q", program)
 	}
 }

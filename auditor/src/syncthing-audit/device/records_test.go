@@ -56,3 +56,24 @@ func TestDamagedRecords(t *testing.T) {
 		}
 	}
 }
+
+// A log or a manifest with a chunk of another kind, or of more bytes than its block has room for, is damaged.
+func TestChunksOfNoKind(t *testing.T) {
+	log, _ := recordsOf(t, 10)
+	for kind := byte(0); kind < 7; kind++ {
+		changed := append([]byte(nil), log...)
+		changed[6] = kind
+		if _, err := endOfRecords(changed); kind != wholeChunk && err == nil {
+			t.Errorf("kind %d is read", kind)
+		}
+	}
+	long := append([]byte(nil), log...)
+	long[4], long[5] = 0xfa, 0x7f // with the header one byte more than a block
+	if end, err := endOfRecords(append(long, make([]byte, 2*bytesOfBlock)...)); err == nil {
+		t.Errorf("a chunk that is longer than its block ends at %d", end)
+	}
+	long[4] = 0xf9 // as long as a block, and cut off
+	if end, err := endOfRecords(long); err != nil || end != 0 {
+		t.Errorf("%d, %v", end, err)
+	}
+}

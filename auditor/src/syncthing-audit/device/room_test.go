@@ -44,3 +44,16 @@ func TestNoRoomForACopy(t *testing.T) {
 		t.Errorf("%q, %v", made, err)
 	}
 }
+
+// A file system without a size of its own has room, and a directory that isn't there has none.
+func TestFreeRoom(t *testing.T) {
+	if free, err := freeIn("/proc"); err != nil || free != unknown {
+		t.Errorf("%d, %v", free, err)
+	}
+	if _, err := freeIn("/nowhere"); err == nil || err.Error() != "statfs /nowhere: no such file or directory" {
+		t.Error(err)
+	}
+	if _, err := bytesFor("/nowhere"); err == nil {
+		t.Error("what isn't there takes bytes")
+	}
+}

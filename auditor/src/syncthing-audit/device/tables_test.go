@@ -1,0 +1,127 @@
+package device
+
+import (
+	"errors"
+	"fmt"
+	"os"
+	"path/filepath"
+	"strings"
+	"testing"
+
+	"github.com/syncthing/syncthing/lib/db"
+	"github.com/syndtr/goleveldb/leveldb"
+)
+
+// A copy is made anew as often as it is to be, and ends with whatever else is wrong.
+func TestHowOftenACopyIsBegun(t *testing.T) {
+	from := t.TempDir()
+	fill(t, from)
+	for rounds := 1; rounds < 5; rounds++ {
+		left := rounds
+		said, err := copyLive(from, t.TempDir(), func(string) error {
+			if left--; left > 0 {
+				return errAgain
+			}
+			return nil
+		})
+		if err != nil || said.Rounds != rounds {
+			t.Errorf("%d rounds, not %d: %v", said.Rounds, rounds, err)
+		}
+	}
+	failed := errors.New("no room")
+	if said, err := copyLive(from, t.TempDir(), func(string) error { return failed }); err != failed || said.Rounds != 1 {
+		t.Errorf("%d rounds: %v", said.Rounds, err)
+	}
+	if said, err := copyLive(from, filepath.Join(from, "nowhere"), checkLive); err == nil || said.Rounds != 1 {
+		t.Errorf("%d rounds to nowhere: %v", said.Rounds, err)
+	}
+}
+
+// An old index has its tables under another ending: it is whole all the same, and a copy has them once.
+func TestTablesUnderTheirOldEnding(t *testing.T) {
+	from := t.TempDir()
+	fill(t, from)
+	table := theOne(t, from, "*.ldb")
+	old := strings.TrimSuffix(table, ".ldb") + ".sst"
+	if err := os.Rename(table, old); err != nil {
+		t.Fatal(err)
+	}
+	if err := checkWhole(from); err != nil {
+		t.Error(err)
+	}
+	copying := &liveCopy{from: from, to: t.TempDir(), tables: map[int64]bool{}}
+	if err := copying.round(); err != nil || keysOf(t, copying.to) != 200 {
+		t.Fatal(err)
+	}
+	first := copying.copied.Bytes
+	about, err := os.Stat(old)
+	if err == nil {
+		err = copying.round()
+	}
+	if err != nil || copying.copied.Bytes != 2*first-about.Size() || keysOf(t, copying.to) != 200 {
+		t.Errorf("%d and then %d bytes: %v", first, copying.copied.Bytes, err)
+	}
+}
+
+// A table that is as new as what the manifest comes to next isn't known to it; one that is older may be there without a word.
+func TestTablesBesideAManifest(t *testing.T) {
+	for more, isWhole := range map[int64]bool{-1: true, 0: false} {
+		directory := t.TempDir()
+		fill(t, directory)
+		said, err := readManifest(directory)
+		if err != nil {
+			t.Fatal(err)
+		}
+		said.nextFile += 10 // no file of LevelDB's own has such a number
+		if err := os.WriteFile(filepath.Join(directory, fmt.Sprintf("%06d.ldb", said.nextFile+more)), nil, 0o600); err != nil {
+			t.Fatal(err)
+		}
+		if err := said.check(directory); (err == nil) != isWhole || err != nil && !strings.HasSuffix(err.Error(), "is newer than the manifest") {
+			t.Errorf("%d: %v", more, err)
+		}
+		said.log++
+		if err := said.check(directory); err == nil {
+			t.Error("a log that isn't there is had")
+		}
+	}
+}
+
+// What names no manifest is told; the name's line may have an end or none.
+func TestWhichManifestCounts(t *testing.T) {
+	for text, name := range map[string]string{"MANIFEST-000001\n": "MANIFEST-000001", "MANIFEST-000001": "MANIFEST-000001", "": "", "x\n": "", "MANIFEST-/../x\n": "", "/MANIFEST-1": ""} {
+		directory := t.TempDir()
+		if err := os.WriteFile(filepath.Join(directory, "CURRENT"), []byte(text), 0o600); err != nil {
+			t.Fatal(err)
+		}
+		path, err := currentManifest(directory)
+		if (err == nil) != (name != "") || err == nil && path != filepath.Join(directory, name) || err != nil && err.Error() != "CURRENT names no manifest" {
+			t.Errorf("%q: %s, %v", text, path, err)
+		}
+	}
+	for name, number := range map[string]int64{"000012.ldb": 12, "MANIFEST-000012": 0, "LOCK": 0, "12.x.log": 12, ".ldb": 0} {
+		if is, _ := fileNumber(name); is != number {
+			t.Errorf("%s has the number %d", name, is)
+		}
+	}
+}
+
+// A folder that is deleted has an empty id, and what an index still has of it doesn't count.
+func TestSequencesOfADeletedFolder(t *testing.T) {
+	for id, isTold := range map[string]bool{"": false, "docs": true} {
+		database := t.TempDir()
+		opened, err := leveldb.OpenFile(database, nil)
+		if err != nil {
+			t.Fatal(err)
+		}
+		number := []byte{0, 0, 0, 5}
+		for key, value := range map[string]string{string(append([]byte{db.KeyTypeFolderIdx}, number...)): id, string(sequencesBehind(number, 2).Start): "x"} {
+			if err := opened.Put([]byte(key), []byte(value), nil); err != nil {
+				t.Fatal(err)
+			}
+		}
+		if err := checkSequences(opened); (err != nil) != isTold || err != nil && (!errors.Is(err, errAgain) || !strings.HasSuffix(err.Error(), "folder docs has entries behind its greatest sequence")) {
+			t.Errorf("%q: %v", id, err)
+		}
+		opened.Close()
+	}
+}
