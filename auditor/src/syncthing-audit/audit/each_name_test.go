@@ -107,7 +107,7 @@ func planWith(t *testing.T, one, other *part.Name, change func(head *part.Head))
 		if name != nil {
 			stream.left = append(stream.left, part.Line{Name: name})
 		}
-		stream.left = append(stream.left, part.Line{End: &part.End{Folder: "docs", Max: 9, Bytes: 5}})
+		stream.left = append(stream.left, part.Line{End: &part.End{Folder: "docs", Max: head.Folders[0].Max, Bytes: 5}})
 		devices = append(devices, join.NewDevice(stream, "of "+string('0'+rune(number))))
 	}
 	plan, err := join.NewPlan(devices, nil)

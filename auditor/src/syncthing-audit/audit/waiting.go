@@ -44,10 +44,8 @@ func hasRecorded(at *part.Name, record *part.Record) bool {
 		return false
 	case at.Own.Type != record.Type || at.Disk.Type != record.Type || at.Disk.Target != record.Target:
 		return false
-	case record.Content == nil:
+	case record.Content == nil: // then neither has one, as both are of one type
 		return true
-	case at.Own.Content == nil:
-		return false
 	}
 	return isContent(at.Own.Content, record.Content) && slices.IndexFunc(at.Disk.Contents, func(found part.Content) bool { return isContent(&found, record.Content) }) >= 0
 }
