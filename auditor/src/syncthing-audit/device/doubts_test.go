@@ -2,6 +2,7 @@ package device
 
 import (
 	"errors"
+	"fmt"
 	"os"
 	"path/filepath"
 	"reflect"
@@ -49,7 +50,19 @@ func TestWordsOfAFolderThatIsAway(t *testing.T) {
 			t.Errorf("%q, not %q", is, told)
 		}
 	}
-	err := pathFault(config.FolderConfiguration{ID: "docs", Path: room}, os.ErrPermission)
+	folder := config.FolderConfiguration{ID: "docs", Path: room, MarkerName: ".stfolder"}
+	for path, words := range map[string][2]string{"": {"its directory has no .stfolder, by which Syncthing knows the folder", "its directory isn't there"},
+		"/a": {"/a has no .stfolder, by which Syncthing knows the folder", "there is no /a"}} {
+		for place, cause := range []error{config.ErrMarkerMissing, config.ErrPathMissing} {
+			if told := lackingAt(path, folder, fmt.Errorf("it failed: %w", cause)); told != words[place] {
+				t.Errorf("%q, not %q", told, words[place])
+			}
+			if told := pathFault(folder, fmt.Errorf("it failed: %w", cause)).Error(); strings.Contains(told, "Without it Syncthing stops") != (place == 0) || !strings.HasSuffix(told, "--folder chooses other folders") {
+				t.Error(told)
+			}
+		}
+	}
+	err := pathFault(folder, os.ErrPermission)
 	if !errors.Is(err, os.ErrPermission) || err.Error() != "folder docs: "+room+": permission denied" {
 		t.Error(err)
 	}

@@ -125,3 +125,41 @@ func TestSequencesOfADeletedFolder(t *testing.T) {
 		opened.Close()
 	}
 }
+
+// A copy is taken where it is whole, opens, and has no entry behind a folder's greatest sequence; where it isn't, one is told apart that another round may mend.
+func TestWhichCopyIsTaken(t *testing.T) {
+	for why, row := range map[string]struct {
+		change  func(directory string) error
+		isTaken bool
+		again   bool
+	}{
+		"whole":                   {func(string) error { return nil }, true, false},
+		"a log that is cut":       {func(d string) error { cut(t, theOne(t, d, "*.log"), 30); return nil }, false, true},
+		"no table":                {func(d string) error { return os.Remove(theOne(t, d, "*.ldb")) }, false, false},
+		"a table of other bytes":  {func(d string) error { cut(t, theOne(t, d, "*.ldb"), 30); return nil }, false, false},
+		"no manifest":             {func(d string) error { return os.Remove(theOne(t, d, "MANIFEST-*")) }, false, false},
+		"no name of the manifest": {func(d string) error { return os.Remove(filepath.Join(d, "CURRENT")) }, false, false},
+		"an entry behind the greatest sequence": {func(d string) error {
+			opened, err := leveldb.OpenFile(d, nil)
+			if err == nil {
+				err = opened.Put(append([]byte{db.KeyTypeFolderIdx}, 0, 0, 0, 5), []byte("docs"), nil)
+			}
+			if err == nil {
+				err = opened.Put(sequencesBehind([]byte{0, 0, 0, 5}, 0).Start, nil, nil)
+			}
+			if err == nil {
+				err = opened.Close()
+			}
+			return err
+		}, false, true},
+	} {
+		directory := t.TempDir()
+		fill(t, directory)
+		if err := row.change(directory); err != nil {
+			t.Fatal(why, err)
+		}
+		if err := checkLive(directory); (err == nil) != row.isTaken || errors.Is(err, errAgain) != row.again {
+			t.Errorf("%s: %v", why, err)
+		}
+	}
+}
