@@ -98,9 +98,6 @@ func (n *night) tell() int {
 	}
 	subject, text := n.subject(status), n.text()
 	outside.Print(n.output, text)
-	if !n.lacksAnswer() {
-		errs = append(errs, n.config.PingAll(n.log)...)
-	}
 	month := n.began.Format("2006-01")
 	isMonthly := n.state.Month != month
 	isLoud := len(n.news)+len(n.faults) > 0 || n.lacksAnswer()
@@ -110,6 +107,9 @@ func (n *night) tell() int {
 		telling = n.config.Tell(subject+n.withNews(), text, n.log)
 	case isMonthly:
 		telling = n.config.Tell("all is as before: "+subject, n.size()+text, n.log)
+	}
+	if !n.lacksAnswer() { // after what is new: a ping that hangs keeps nothing back
+		errs = append(errs, n.config.PingAll(n.log)...)
 	}
 	if len(telling) == 0 { // else all of it is told again
 		n.state.Untold = false

@@ -3,9 +3,12 @@ package watch
 import (
 	"fmt"
 	"io"
+	"mime/quotedprintable"
 	"os"
 	"os/exec"
 	"strings"
+	"syscall"
+	"time"
 
 	"syncthing-audit/outside"
 )
@@ -43,7 +46,27 @@ func runShell(words, text string, log io.Writer, environment ...string) error {
 	command := exec.Command("sh", "-c", words)
 	command.Stdin, command.Stdout, command.Stderr = strings.NewReader(text), log, log
 	command.Env = append(os.Environ(), environment...)
-	return command.Run()
+	return runInTime(command)
+}
+
+// longestTelling is how long a command may take. One that hangs would keep the rest from being told, and the next night from beginning.
+var longestTelling = 10 * time.Minute
+
+// runInTime runs a command, and ends it with its children once it has taken too long. What escapes that isn't waited for.
+func runInTime(command *exec.Cmd) error {
+	command.SysProcAttr = &syscall.SysProcAttr{Setpgid: true}
+	if err := command.Start(); err != nil {
+		return err
+	}
+	ended := make(chan error, 1)
+	go func() { ended <- command.Wait() }()
+	select {
+	case err := <-ended:
+		return err
+	case <-time.After(longestTelling):
+		_ = syscall.Kill(-command.Process.Pid, syscall.SIGKILL)
+		return fmt.Errorf("it wasn't done in %v, and was ended", longestTelling)
+	}
 }
 
 // mail mails a text by sendmail. With -odi the mail is delivered when sendmail ends: what went on in the background, systemd would kill with the service.
@@ -57,10 +80,30 @@ func mail(to, subject, text string, log io.Writer) error {
 		return err
 	}
 	command := exec.Command(path, "-i", "-odi", "-t")
-	command.Stdin = strings.NewReader(fmt.Sprintf("To: %s\nSubject: syncthing-audit on %s: %s\nMIME-Version: 1.0\nContent-Type: text/plain; charset=utf-8\n\n%s",
-		to, host, subject, text))
+	command.Stdin = strings.NewReader(fmt.Sprintf("To: %s\nSubject: syncthing-audit on %s: %s\nMIME-Version: 1.0\nContent-Type: text/plain; charset=utf-8\n%s",
+		to, host, subject, body(text)))
 	command.Stdout, command.Stderr = log, log
-	return command.Run()
+	return runInTime(command)
+}
+
+// longestLine is how many bytes a line of a mail may have, with some to spare: RFC 5322 has 998, and mail servers refuse more. A name may have more.
+const longestLine = 900
+
+// body gives a mail's text behind its last header: encoded, where a line is too long to be sent as it is.
+func body(text string) string {
+	isLong := false
+	for _, line := range strings.Split(text, "\n") {
+		isLong = isLong || len(line) > longestLine
+	}
+	if !isLong {
+		return "\n" + text
+	}
+	var made strings.Builder
+	made.WriteString("Content-Transfer-Encoding: quoted-printable\n\n")
+	writer := quotedprintable.NewWriter(&made)
+	_, _ = writer.Write([]byte(text)) // nothing fails in memory
+	_ = writer.Close()
+	return strings.ReplaceAll(made.String(), "\r\n", "\n")
 }
 
 // sendmail finds the program, which may stand where only root looks for programs.
