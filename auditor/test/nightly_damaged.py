@@ -10,6 +10,7 @@ import gzip
 import io
 import json
 import os
+import quopri
 import random
 import re
 import shutil
@@ -102,6 +103,29 @@ class NightlyDamaged(Audited):
         self.parts.unlink()
         self.assertEqual((status, self.mails()), (2, ["no answer, a fault of the nightly audit"]), text)
         self.assertEqual(self.asked(), [])
+
+    def test_a_mail_has_no_line_that_a_server_refuses(self):
+        """A name may be as long as a path. Its text is what was told."""
+        nightly, environment = loaded(), dict(os.environ)
+        self.addCleanup(lambda: (os.environ.clear(), os.environ.update(environment)))
+        os.environ.update(PATH=f"{self.tools}:{os.environ['PATH']}", MAIL_TO="me@example.org")
+        for text in ("short\n", "x" * 2000 + "\n", "a\n" + "\u00e9 = " * 5000 + "\n\n.\n=3D\n"):
+            (self.tools / "mails").unlink(missing_ok=True)
+            nightly.notify("subject", text)
+            head, _, rest = (self.tools / "mails").read_bytes().partition(b"\n\n")
+            self.assertLess(max(map(len, rest.split(b"\n"))), 998)
+            is_long = b"\nContent-Transfer-Encoding: quoted-printable" in head
+            self.assertEqual((is_long, quopri.decodestring(rest) if is_long else rest), (len(text) > 900, text.encode()))
+
+    def test_a_command_that_hangs_is_ended(self):
+        nightly, environment = loaded(), dict(os.environ)
+        self.addCleanup(lambda: (os.environ.clear(), os.environ.update(environment)))
+        os.environ.update(NOTIFY="sleep 99", MAIL_TO="")
+        nightly.SECONDS_OF_TELLING = 1
+        said = io.StringIO()
+        with contextlib.redirect_stderr(said):
+            nightly.notify("subject", "text")
+        self.assertEqual(said.getvalue(), "NOTIFY wasn't done in 1 s, and was ended\n")
 
     def assert_not_raw(self, payload, text):
         """A text came to the mail and to the journal, and nothing of it is raw: no character that isn't printable, and no line of its own."""
