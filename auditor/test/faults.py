@@ -247,6 +247,70 @@ class Faults(Disturbed):
         self.each("run", check)
 
 
+class Durable(Disturbed):
+    """What gets a name is on the disk before, and its name is after: a machine that goes down leaves no empty file in the place of a whole one."""
+
+    CALLS = ("write", "pwrite64", "fsync", "fdatasync", "syncfs", "linkat", "rename", "renameat", "renameat2")
+    TOKEN = "{}:00112233445566778899aabbccddeeff"
+
+    def assert_durable(self, words, put):
+        """Has a command run, and checks in which order it writes a file, has it on the disk, gives it a name, and has that on the disk."""
+        room, log = put.parent, self.room_of_try() / "log"
+        ran = run(["strace", "-f", "-qq", "-y", "-o", log, "-e", f"trace={','.join('?' + call for call in self.CALLS)}", *words],
+                  env={**os.environ, "TMPDIR": str(log.parent)})
+        self.assertEqual(ran.returncode, SETTLED, ran.stderr)
+        seen, begun = [], {}
+        for line in log.read_text(errors="replace").splitlines():
+            thread, _, said = line.partition(" ")
+            if said.endswith(" <unfinished ...>"):
+                begun[thread] = said.removesuffix(" <unfinished ...>")
+                continue
+            said = re.sub(r"^ *<\.\.\. \w+ resumed>", lambda _: begun.pop(thread), said)
+            found = re.match(r" *(\w+)\((?:\d+<([^>]*)>)?(.*) = \d", said)
+            if not found:
+                continue
+            call, path, rest = found.groups()
+            path = path or ""
+            if call.startswith(("link", "rename")) and f'"{put}"' in rest:
+                seen.append("named")
+            elif call in ("write", "pwrite64") and path.startswith(f"{room}/"):
+                seen.append("written")
+            elif call in ("fsync", "fdatasync", "syncfs") and path == str(room):
+                seen.append("name kept")
+            elif call in ("fsync", "fdatasync", "syncfs") and path.startswith(f"{room}/"):
+                seen.append("kept")
+        self.assertIn("named", seen, log.read_text(errors="replace"))
+        named = len(seen) - 1 - seen[::-1].index("named")
+        written = max(place for place in range(named) if seen[place] == "written")
+        self.assertIn("kept", seen[written:named], seen)
+        return seen[named:]
+
+    def test_a_new_part(self):
+        room = self.room_of_try()
+        self.assertIn("name kept", self.assert_durable([self.program, "part", "--home", self.homes["good"][0], "-o", room / "into/new.part"], room / "into/new.part"))
+
+    def test_a_part_in_place_of_another(self):
+        room = self.room_of_try()
+        self.assertIn("name kept", self.assert_durable([self.program, *self.words_of("part", room)], room / "into/one.part"))
+
+    def test_exported_documents(self):
+        room, both = self.room_of_try(), self.homes["good"]
+        words = [self.program, "export", "--home", both[0], "--home", both[1], "--into", room / "into/cuts"]
+        self.assertIn("name kept", self.assert_durable(words, room / "into/cuts/cut-0001.json"))
+
+    def test_the_key_of_an_observer(self):
+        room = self.room_of_try()
+        self.assert_durable([self.program, "observe", "--init", "--home", room / "into/observer"], room / "into/observer/cert.pem")
+
+    def test_the_part_of_disks(self):
+        room, files = self.room_of_try(), self.homes["good"][0].parent / "files"
+        subprocess.run(["go", "build", "-p", "1", "-o", f"{self.room}/", f"{PROGRAM}/ondisk"], env={**go_environment(self.room), "CGO_ENABLED": "0"}, check=True)
+        device = "7777777-777777N-7777777-777777N-7777777-777777N-7777777-77777Q4"
+        for number, program in enumerate(([self.program, "disk"], [self.room / "ondisk"])):
+            made = room / f"into/{number}.part"
+            self.assert_durable([*program, "--after", self.TOKEN.format(device), "-o", made, f"docs={files}"], made)
+
+
 class Interrupted(Disturbed):
     """A signal, or a kill, at a random moment."""
 

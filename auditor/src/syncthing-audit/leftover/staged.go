@@ -46,7 +46,7 @@ func (s *Staged) New(name string) (*os.File, error) {
 func (s *Staged) Put() error {
 	mutex.Lock()
 	defer mutex.Unlock()
-	if err := syncAll(s.path); err != nil {
+	if err := Sync(s.path); err != nil {
 		return err
 	}
 	for place, name := range s.names {
@@ -77,8 +77,8 @@ func (s *Staged) remove() {
 	delete(paths, s.path)
 }
 
-// syncAll has all that was written be on the disk, as far as the file system does that.
-func syncAll(path string) error {
+// Sync has all that was written be on the disk, as far as the file system does that.
+func Sync(path string) error {
 	directory, err := os.Open(path)
 	if err != nil {
 		return err

@@ -4,11 +4,11 @@ import (
 	"encoding/json"
 	"errors"
 	"io/fs"
-	"os"
 	"path/filepath"
 	"sort"
 
 	"golang.org/x/exp/slices"
+	"syncthing-audit/leftover"
 	"syncthing-audit/regular"
 )
 
@@ -84,17 +84,13 @@ func (a *Addresses) Keep() error {
 	if err != nil {
 		return err
 	}
-	file, err := os.CreateTemp(filepath.Dir(a.path), nameOfAddresses+"-")
+	file, err := leftover.NewWhole(filepath.Dir(a.path))
 	if err != nil {
 		return err
 	}
-	defer os.Remove(file.Name())
-	_, err = file.Write(append(text, '\n'))
-	if closed := file.Close(); err == nil {
-		err = closed
-	}
-	if err != nil {
+	defer file.Drop()
+	if _, err = file.Write(append(text, '\n')); err != nil {
 		return err
 	}
-	return os.Rename(file.Name(), a.path)
+	return file.Put(a.path)
 }

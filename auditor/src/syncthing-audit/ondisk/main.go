@@ -9,6 +9,7 @@ import (
 	"io"
 	"os"
 	"path/filepath"
+	"syscall"
 	"time"
 
 	"syncthing-audit/disk"
@@ -111,6 +112,12 @@ func put(path string, write func(io.Writer) error) (bool, error) {
 	defer os.Remove(file.Name())
 	faults := &faulting{to: file}
 	err = write(faults)
+	if err == nil { // else a machine that goes down may have a part of it in the file's place
+		if synced := file.Sync(); synced != nil && !errors.Is(synced, syscall.EINVAL) && !errors.Is(synced, syscall.ENOTSUP) {
+			file.Close()
+			return true, synced
+		}
+	}
 	if closed := file.Close(); err == nil && closed != nil {
 		return true, closed
 	}

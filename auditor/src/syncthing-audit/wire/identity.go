@@ -13,6 +13,7 @@ import (
 
 	"github.com/syncthing/syncthing/lib/protocol"
 	"github.com/syncthing/syncthing/lib/tlsutil"
+	"syncthing-audit/leftover"
 )
 
 // The files of an observer's directory, named as in Syncthing's homes.
@@ -59,6 +60,9 @@ func makeKey(directory string) error {
 	}
 	defer os.RemoveAll(room)
 	if _, err := tlsutil.NewCertificate(filepath.Join(room, nameOfCertificate), filepath.Join(room, nameOfKey), commonName, daysOfCertificate); err != nil {
+		return err
+	}
+	if err := leftover.Sync(room); err != nil {
 		return err
 	}
 	for _, name := range []string{nameOfKey, nameOfCertificate} {
