@@ -5,6 +5,7 @@ import (
 	"os"
 	"path/filepath"
 	"sort"
+	"strings"
 	"time"
 
 	"syncthing-audit/outside"
@@ -17,23 +18,49 @@ import (
 // foundParts are the parts of a directory, and lines on what is none.
 type foundParts struct{ paths, others []string }
 
-// partsIn finds the parts that are files, there or in a device's own directory: nobody knows when a pipe ends.
+// partsIn finds the parts that are files, there or in a device's own directory: nobody knows when a pipe ends. A directory that can't be read is told.
 func partsIn(directory string) foundParts {
 	made := foundParts{}
-	all := []string{}
-	for _, pattern := range []string{"*.part", "*/*.part"} {
-		paths, _ := filepath.Glob(filepath.Join(directory, pattern)) // its only error is of a pattern that is none
-		all = append(all, paths...)
-	}
-	sort.Strings(all)
-	for _, path := range all {
-		if about, err := os.Stat(path); err != nil || !about.Mode().IsRegular() {
-			made.others = append(made.others, outside.Sprintf("%s is no file, so it isn't read", shell.Quoted(path)))
-			continue
+	for _, path := range made.read(directory) {
+		switch about, err := os.Stat(path); {
+		case err == nil && about.IsDir() && !isPart(path):
+			for _, below := range made.read(path) {
+				made.add(below)
+			}
+		default:
+			made.add(path)
 		}
-		made.paths = append(made.paths, path)
+	}
+	sort.Strings(made.paths)
+	return made
+}
+
+// isPart says whether a file is called so.
+func isPart(path string) bool { return strings.HasSuffix(path, ".part") }
+
+// read gives the paths in a directory.
+func (f *foundParts) read(directory string) []string {
+	entries, err := os.ReadDir(directory)
+	if err != nil {
+		f.others = append(f.others, outside.Sprintf("%s can't be read: %v", shell.Quoted(directory), err))
+	}
+	made := []string{}
+	for _, one := range entries {
+		made = append(made, filepath.Join(directory, one.Name()))
 	}
 	return made
+}
+
+// add adds what is called a part.
+func (f *foundParts) add(path string) {
+	if !isPart(path) {
+		return
+	}
+	if about, err := os.Stat(path); err != nil || !about.Mode().IsRegular() {
+		f.others = append(f.others, outside.Sprintf("%s is no file, so it isn't read", shell.Quoted(path)))
+		return
+	}
+	f.paths = append(f.paths, path)
 }
 
 // calledOf gives what a person calls the device of a part.

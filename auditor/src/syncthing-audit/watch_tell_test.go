@@ -4,6 +4,7 @@ import (
 	"io"
 	"os"
 	"path/filepath"
+	"strings"
 	"testing"
 	"time"
 
@@ -28,5 +29,32 @@ func TestTellingGoesBeforeAPing(t *testing.T) {
 	}
 	if text, err := os.ReadFile(said); err != nil || string(text) != "told\npinged\n" {
 		t.Errorf("%q, %v", text, err)
+	}
+}
+
+// Parts are found whatever a directory is called, there and one below, and what isn't read is told.
+func TestPartsOfADirectory(t *testing.T) {
+	room := filepath.Join(t.TempDir(), "[a]*?")
+	for _, one := range []string{"b.part", "device/a.part", "device/a.part.sig", "device/below/c.part", "x.txt", "[b]/d.part", "odd.part/e.part"} {
+		path := filepath.Join(room, one)
+		if err := os.MkdirAll(filepath.Dir(path), 0o700); err != nil {
+			t.Fatal(err)
+		}
+		if err := os.WriteFile(path, nil, 0o600); err != nil {
+			t.Fatal(err)
+		}
+	}
+	for link, target := range map[string]string{"link": "device", "gone.part": "nowhere", "loop": "loop"} {
+		if err := os.Symlink(target, filepath.Join(room, link)); err != nil {
+			t.Fatal(err)
+		}
+	}
+	found := partsIn(room)
+	told := strings.ReplaceAll(strings.Join(append(found.paths, found.others...), " "), room, "")
+	if told != `/[b]/d.part /b.part /device/a.part /link/a.part '/gone.part' is no file, so it isn't read '/odd.part' is no file, so it isn't read` {
+		t.Error(told)
+	}
+	if found := partsIn(filepath.Join(room, "none")); len(found.paths) > 0 || len(found.others) != 1 || !strings.Contains(found.others[0], "can't be read") {
+		t.Errorf("%v", found)
 	}
 }

@@ -3,6 +3,7 @@ package observe
 import (
 	"encoding/json"
 	"errors"
+	"fmt"
 	"io/fs"
 	"path/filepath"
 	"sort"
@@ -33,7 +34,9 @@ func OpenAddresses(home string) (*Addresses, error) {
 	made := &Addresses{path: filepath.Join(home, nameOfAddresses)}
 	text, _, err := regular.Read(made.path, mostBytesOfAddresses)
 	if err == nil {
-		err = json.Unmarshal(text, made)
+		if err := json.Unmarshal(text, made); err != nil {
+			return nil, fmt.Errorf("%s is damaged (%w): take it away, and give the devices with their addresses once", nameOfAddresses, err)
+		}
 	}
 	if err != nil && !errors.Is(err, fs.ErrNotExist) {
 		return nil, err
