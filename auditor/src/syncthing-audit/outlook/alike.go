@@ -37,15 +37,20 @@ func (p *planner) checked(group *forecast.World, hands []hand, steps [][]advice.
 		goals = append(goals, one.goal)
 	}
 	found, _ := p.search.Together(group.Copied(), goals, all)
-	if found == nil || losesOthers(group, hands, found.Costs, lost) {
+	if found == nil {
+		return nil
+	}
+	rotten, isLoss := losesOthers(group, hands, found.Costs, lost)
+	if isLoss {
 		return nil
 	}
 	made := map[int]*Plan{}
 	for at, one := range hands {
 		mine := *found
 		mine.Steps = steps[at]
-		made[one.place] = planOf(group, one, &mine)
+		made[one.place] = planOf(group, one, &mine, p.damage)
 	}
+	saveRotten(made, rotten)
 	return made
 }
 

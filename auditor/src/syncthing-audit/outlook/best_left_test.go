@@ -61,7 +61,7 @@ func TestNothingIsReplacedByNothing(t *testing.T) {
 		for _, group := range from.World().Groups() {
 			group := group
 			answer := forecast.New(forecast.Usual).OfGroup(group.Devices, group.Names)
-			judge := newJudge(&group, &answer)
+			judge := newJudge(&group, &answer, nil)
 			for place := range group.Names {
 				name := &group.Names[place]
 				if fate := told[name.Name]; fate != "" && fate != Unknown && fate != Lost {

@@ -3,6 +3,7 @@ package outlook
 import (
 	"fmt"
 
+	"syncthing-audit/damage"
 	"syncthing-audit/forecast"
 	"syncthing-audit/part"
 )
@@ -35,12 +36,13 @@ type Loss struct {
 // choices finds what may be chosen, group by group.
 type choices struct {
 	forecaster *forecast.Forecaster
+	damage     map[string][]damage.Kind
 	found      map[Step]*Choice // by its act and its device
 	order      []Step
 }
 
-func newChoices(forecaster *forecast.Forecaster) *choices {
-	return &choices{forecaster: forecaster, found: map[Step]*Choice{}}
+func newChoices(forecaster *forecast.Forecaster, damaged map[string][]damage.Kind) *choices {
+	return &choices{forecaster: forecaster, damage: damaged, found: map[Step]*Choice{}}
 }
 
 // take takes a group with what becomes of its names if nobody does anything.
@@ -102,7 +104,7 @@ func (c *choices) add(group *forecast.World, told []Name, step Step) {
 		choice.Unknown += int64(len(told))
 		return
 	}
-	judge := newJudge(group, &answer)
+	judge := newJudge(group, &answer, c.damage)
 	for place := range told {
 		choice.take(&told[place], judge.name(&group.Names[place]), len(group.Devices))
 	}

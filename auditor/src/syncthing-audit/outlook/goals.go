@@ -3,9 +3,9 @@ package outlook
 import (
 	"strings"
 
+	"golang.org/x/exp/slices"
 	"syncthing-audit/damage"
 	"syncthing-audit/forecast"
-	"syncthing-audit/part"
 )
 
 // goalOf gives what is to stand at a name that needs a hand; nothing where it needs none, or where nobody can tell what is right.
@@ -21,13 +21,41 @@ func goalOf(name *forecast.Name, told *Name, kinds []damage.Kind) *forecast.Node
 	case Depends:
 		return laterOf(name, told)
 	case Stays:
-		for _, kept := range told.Kept {
-			if own := name.Own[kept.Member]; kept.Why == forecast.NotSeen && own != nil {
-				return nodeOf(name, &Thing{Type: own.Type, Content: own.Content, Target: part.Bytes(own.Target)})
-			}
+		return recordedOf(name, told)
+	}
+	return nil
+}
+
+// recordedOf gives what is to stand at a name of which a device keeps other bytes than recorded, that no scan sees: what the others come to have, where that
+// stands under the name now; or else what the device recorded last.
+func recordedOf(name *forecast.Name, told *Name) *forecast.Node {
+	for _, kept := range told.Kept {
+		if kept.Why != forecast.NotSeen {
+			continue
+		}
+		if node := comesTo(name, told); node != nil {
+			return node
+		}
+		if own := name.Own[kept.Member]; own != nil {
+			return nodeOf(name, thingOfRecord(own))
 		}
 	}
 	return nil
+}
+
+// comesTo gives what stands at a name now and in the end on most devices that don't keep it otherwise than others. A device takes rotten bytes of
+// its own to a name that another one gave them: so what it recorded there before isn't what is to stand there.
+func comesTo(name *forecast.Name, told *Name) *forecast.Node {
+	var made *forecast.Node
+	most := 0
+	for place := range told.Ends[0] {
+		thing := &told.Ends[0][place]
+		isKept := slices.IndexFunc(told.Kept, func(kept Kept) bool { return slices.Contains(thing.Members, kept.Member) }) >= 0
+		if node := nodeOf(name, thing); node != nil && !thing.IsCopy && !isKept && len(thing.Members) > most {
+			made, most = node, len(thing.Members)
+		}
+	}
+	return made
 }
 
 // lastRecorded gives that of some things which is recorded, and after which none of the others was. It gives nothing where a later change was recorded

@@ -4,6 +4,7 @@ import (
 	"fmt"
 	"sort"
 
+	"syncthing-audit/damage"
 	"syncthing-audit/forecast"
 	"syncthing-audit/part"
 )
@@ -12,14 +13,15 @@ import (
 type judge struct {
 	group  *forecast.World
 	answer *forecast.Answer
+	damage map[string][]damage.Kind          // of names: why what stands on a disk looks like damage
 	ends   []map[string][]Thing              // of each end: what stands at each name, with its copies
 	bytes  []map[forecast.Content]bool       // of each end: all files' bytes
 	sure   []map[forecast.Content]bool       // of each end: those that stay even where copies meet
 	kept   []map[string]map[int]forecast.Why // of each end: why devices keep a name
 }
 
-func newJudge(group *forecast.World, answer *forecast.Answer) *judge {
-	made := &judge{group: group, answer: answer}
+func newJudge(group *forecast.World, answer *forecast.Answer, damaged map[string][]damage.Kind) *judge {
+	made := &judge{group: group, answer: answer, damage: damaged}
 	for place := range answer.Ends {
 		end := &answer.Ends[place]
 		made.ends = append(made.ends, thingsOf(end))

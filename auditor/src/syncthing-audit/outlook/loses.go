@@ -1,6 +1,7 @@
 package outlook
 
 import (
+	"syncthing-audit/damage"
 	"syncthing-audit/forecast"
 	"syncthing-audit/part"
 )
@@ -77,7 +78,7 @@ func (j *judge) staysIn(bytes []map[forecast.Content]bool, name string, thing *T
 }
 
 // wayOf says what came after something that stands at a name. What no device has recorded nothing can have replaced, and a recorded change whose bytes
-// are harmed has replaced nothing: what was there before it is the best that is left. Neither has an empty file, as in showsChange.
+// are harmed has replaced nothing: what was there before it is the best that is left. Neither has an empty file, as in showsChange, nor what looks damaged.
 func (j *judge) wayOf(name *forecast.Name, thing *Thing) way {
 	var of []*forecast.Record
 	for _, own := range name.Own {
@@ -95,11 +96,17 @@ func (j *judge) wayOf(name *forecast.Name, thing *Thing) way {
 		}
 	}
 	for i, own := range name.Own {
-		if own != nil && own.Flag == forecast.Valid && showsChange(own, name.Disk[i]) && areAll(of, func(one *forecast.Record) bool { return one.IsAtMost(own) }) {
+		if own != nil && own.Flag == forecast.Valid && showsChange(own, name.Disk[i]) && !j.looksDamaged(name.Name, i) && areAll(of, func(one *forecast.Record) bool { return one.IsAtMost(own) }) {
 			return byUnscanned
 		}
 	}
 	return byNothing
+}
+
+// looksDamaged says whether what stands at a name on a device's disk looks like damage.
+func (j *judge) looksDamaged(name string, member int) bool {
+	kinds := j.damage[name]
+	return kinds != nil && kinds[member] != damage.None
 }
 
 func areAll(records []*forecast.Record, is func(*forecast.Record) bool) bool {

@@ -95,7 +95,7 @@ func NewForeteller(budget forecast.Budget, present int64) *Foreteller {
 
 // Of gives what becomes of the names of a folder's rows, and what to do about those that need a hand.
 func (f *Foreteller) Of(rows *read.Rows) *Outlook {
-	made := &teller{rows: rows, planner: f.planner, choices: newChoices(f.forecaster), outlook: &Outlook{Count: map[Fate]int64{}}, unknown: map[read.Why]int64{},
+	made := &teller{rows: rows, planner: f.planner, choices: newChoices(f.forecaster, rows.Damage), outlook: &Outlook{Count: map[Fate]int64{}}, unknown: map[read.Why]int64{},
 		kept: map[Kept]int64{}}
 	for _, group := range rows.World().Groups() {
 		made.group(group, f.forecaster)
@@ -152,7 +152,7 @@ func (t *teller) group(group forecast.World, forecaster *forecast.Forecaster) {
 		return
 	}
 	made := toldGroup{group: group}
-	made.judge = newJudge(&made.group, &answer)
+	made.judge = newJudge(&made.group, &answer, t.rows.Damage)
 	for place := range group.Names {
 		made.names = append(made.names, made.judge.name(&group.Names[place]))
 	}

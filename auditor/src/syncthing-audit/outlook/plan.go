@@ -2,6 +2,7 @@ package outlook
 
 import (
 	"fmt"
+	"math"
 	"path"
 	"sort"
 	"strings"
@@ -49,11 +50,12 @@ const mostOfGroup = 100
 // planner finds plans. Names that are alike cost one search.
 type planner struct {
 	search advice.Search
+	damage map[string][]damage.Kind // of the names that are planned for
 	known  map[string][]advice.Step // by the shape of a group and a goal; nothing where there is no plan
 }
 
 func newPlanner(present int64) *planner {
-	return &planner{advice.Search{Forecaster: forecast.New(budgetOfPlans), Present: present}, map[string][]advice.Step{}}
+	return &planner{search: advice.Search{Forecaster: forecast.New(budgetOfPlans), Present: present}, known: map[string][]advice.Step{}}
 }
 
 // budgetOfPlans is that of all searches together.
@@ -62,6 +64,7 @@ var budgetOfPlans = forecast.Budget{States: 1500, Walks: 40, Total: 300000, Most
 // plan finds what to do about the names of a group that need a hand. Where each of several has a plan, all of these together must lead where
 // each one leads.
 func (p *planner) plan(group *forecast.World, told []Name, damaged map[string][]damage.Kind) {
+	p.damage = damaged
 	world, goals := p.repairs(group, told, damaged)
 	var hands []hand
 	for place := range told {
@@ -76,7 +79,9 @@ func (p *planner) plan(group *forecast.World, told []Name, damaged map[string][]
 	}
 	if len(group.Names) <= mostOfGroup && len(hands) > 0 {
 		for place, plan := range p.planAll(group, world, goals, hands, lostAnyway(told)) {
-			told[place].Plan = plan
+			if told[place].Plan == nil {
+				told[place].Plan = plan
+			}
 		}
 	}
 	for place := range told {
@@ -100,13 +105,18 @@ func (p *planner) planAll(group *forecast.World, world forecast.World, goals []a
 			return plans
 		}
 	}
-	plans := map[int]*Plan{}
+	plans, saved := map[int]*Plan{}, []rottenAt{}
 	for _, one := range hands {
 		found := p.find(&world, one.goal)
-		if found == nil || losesOthers(group, []hand{one}, found.Lost, lost) {
+		if found == nil {
 			continue
 		}
-		plans[one.place] = planOf(group, one, found)
+		rotten, isLoss := losesOthers(group, []hand{one}, found.Lost, lost)
+		if isLoss {
+			continue
+		}
+		plans[one.place] = planOf(group, one, found, p.damage)
+		saved = append(saved, rotten...)
 		goals = append(goals, one.goal)
 		for _, step := range found.Steps {
 			step.On(&world, p.search.Present)
@@ -122,6 +132,7 @@ func (p *planner) planAll(group *forecast.World, world forecast.World, goals []a
 			plan.by = plannedAbove(one.goal.Name, plans, group)
 		}
 	}
+	saveRotten(plans, saved)
 	return plans
 }
 
@@ -134,24 +145,6 @@ func lostAnyway(told []Name) map[forecast.Content]bool {
 		}
 	}
 	return made
-}
-
-// losesOthers says whether a plan of these names loses bytes that stand under other names alone, and stay if nobody does anything.
-func losesOthers(group *forecast.World, hands []hand, taken []forecast.Content, lost map[forecast.Content]bool) bool {
-	own := map[forecast.Content]bool{}
-	for _, one := range hands {
-		for _, what := range group.Names[one.place].Disk {
-			if what != nil {
-				own[what.Content] = true
-			}
-		}
-	}
-	for _, content := range taken {
-		if !own[content] && !lost[content] {
-			return true
-		}
-	}
-	return false
 }
 
 // plannedAbove gives the directory above a name that is copied with all below it.
@@ -264,8 +257,8 @@ func filesOf(things []Thing) []Thing {
 var acts = map[advice.Act]Act{advice.Touch: Touch, advice.Copy: Copy, advice.Delete: Delete}
 
 // planOf gives a plan of a name in which what is lost on the way is saved first.
-func planOf(group *forecast.World, one hand, found *advice.Plan) *Plan {
-	name, made, judge := &group.Names[one.place], &Plan{IsAll: found.Answer.IsAll}, newJudge(group, &found.Answer)
+func planOf(group *forecast.World, one hand, found *advice.Plan, damaged map[string][]damage.Kind) *Plan {
+	name, made, judge := &group.Names[one.place], &Plan{IsAll: found.Answer.IsAll}, newJudge(group, &found.Answer, damaged)
 	for _, thing := range thingsNow(name) {
 		if thing.isSame(thingOf(one.goal.Node)) {
 			thing := thing
@@ -322,7 +315,8 @@ func (j *judge) isCopyAtAll(name string, thing *Thing) bool {
 	return true
 }
 
-// plansOf brings names with the same plan together, in their order. Directories come first: nothing is copied below one that isn't there.
+// plansOf brings names with the same plan together, in their order. Directories come first, those above others before these: nothing is copied below one that
+// isn't there.
 func plansOf(listed []Name) []Plan {
 	places, ofName, made := map[string]int{}, map[string]int{}, []Plan{}
 	for place := range listed {
@@ -330,7 +324,7 @@ func plansOf(listed []Name) []Plan {
 		if plan == nil || len(plan.Steps) == 0 {
 			continue
 		}
-		key := fmt.Sprint(plan.Steps, plan.Goal == nil, plan.Copies, plan.IsAll, plan.isOfDirectories())
+		key := fmt.Sprint(plan.Steps, plan.Goal == nil, plan.Copies, plan.IsAll, plan.depthOf(listed[place].Name))
 		if plan.Goal != nil {
 			key += fmt.Sprint(plan.Goal.Members)
 		}
@@ -355,8 +349,16 @@ func plansOf(listed []Name) []Plan {
 			}
 		}
 	}
-	sort.SliceStable(made, func(a, b int) bool { return made[a].isOfDirectories() && !made[b].isOfDirectories() })
+	sort.SliceStable(made, func(a, b int) bool { return made[a].depthOf(made[a].Names[0]) < made[b].depthOf(made[b].Names[0]) })
 	return made
+}
+
+// depthOf says how far below the folder's root a name stands whose directory is copied. All other names are deeper than any directory.
+func (p *Plan) depthOf(name part.Bytes) int {
+	if !p.isOfDirectories() {
+		return math.MaxInt32
+	}
+	return strings.Count(string(name), "/")
 }
 
 // isOfDirectories says whether directories are copied with all below them.

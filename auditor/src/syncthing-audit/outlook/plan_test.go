@@ -79,7 +79,7 @@ func TestNamesWithOnePlan(t *testing.T) {
 		row.At[1].Disk = nil
 		from.Take(row)
 	}
-	made := &teller{rows: from, planner: newPlanner(1000e9), choices: newChoices(forecast.New(forecast.Usual)), outlook: &Outlook{Count: map[Fate]int64{}}, unknown: map[read.Why]int64{}, kept: map[Kept]int64{}}
+	made := &teller{rows: from, planner: newPlanner(1000e9), choices: newChoices(forecast.New(forecast.Usual), nil), outlook: &Outlook{Count: map[Fate]int64{}}, unknown: map[read.Why]int64{}, kept: map[Kept]int64{}}
 	for _, group := range from.World().Groups() {
 		made.group(group, forecast.New(forecast.Usual))
 	}

@@ -291,7 +291,7 @@ func (r *repair) tell(found *advice.Plan) {
 				own.Steps = append(own.Steps, step)
 			}
 		}
-		plan := planOf(r.group, hand{place, goal}, &own)
+		plan := planOf(r.group, hand{place, goal}, &own, r.damage)
 		if len(own.Steps) == 0 {
 			plan.Steps = nil
 		}
