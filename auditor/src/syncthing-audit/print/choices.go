@@ -34,8 +34,12 @@ func (n naming) choice(choice *outlook.Choice) Choice {
 	return made
 }
 
-// choices prints what may be chosen for the whole folder on devices, and what each does.
+// choices prints what may be chosen for the whole folder on devices, and what each does as things stand now. Where steps are to be taken before, these
+// change what it does, and move what it loses: then another audit says that.
 func (p *Person) choices(folder string, o *Outlook) {
+	if len(o.Plans) > 0 {
+		return
+	}
 	last := ""
 	for place := range o.Choices {
 		choice := &o.Choices[place]
@@ -54,10 +58,22 @@ func (p *Person) choices(folder string, o *Outlook) {
 	}
 }
 
+// choosers names what may be chosen and the devices.
+func (p *Person) choosers(o *Outlook) string {
+	var words []string
+	for place := range o.Choices {
+		choice := &o.Choices[place]
+		words = append(words, namesOfChoice[outlook.Act(choice.Act)]+" on "+p.Called(choice.Device))
+	}
+	return strings.Join(words, ", ")
+}
+
+var namesOfChoice = map[outlook.Act]string{outlook.Revert: "'Revert Local Changes'", outlook.Override: "'Override Changes'", outlook.Both: "'Send & Receive'"}
+
 var wordsOfChoice = map[outlook.Act]string{
-	outlook.Revert:   "'Revert Local Changes', once Syncthing has scanned and taken what the others have:",
-	outlook.Override: "'Override Changes', once Syncthing has scanned and heard what the others have:",
-	outlook.Both:     "the folder made 'Send & Receive' there, before Syncthing scans:",
+	outlook.Revert:   namesOfChoice[outlook.Revert] + ", once Syncthing has scanned and taken what the others have:",
+	outlook.Override: namesOfChoice[outlook.Override] + ", once Syncthing has scanned and heard what the others have:",
+	outlook.Both:     "the folder made " + namesOfChoice[outlook.Both] + " there, before Syncthing scans:",
 }
 
 // ofChoice counts the names that come to another end than if nobody does anything.
@@ -80,7 +96,7 @@ func ofChoice(choice *Choice) string {
 
 // losses names what is lost by a choice alone.
 func (p *Person) losses(choice *Choice) {
-	p.line("    %s something that stands on a disk now: copy %s elsewhere first, if it is to stay", Counted(choice.Lost, "name loses", "names lose"),
+	p.line("    %s something that stands on a disk now: copy %s elsewhere before Syncthing starts, if it is to stay", Counted(choice.Lost, "name loses", "names lose"),
 		one(choice.Lost, "it", "that"))
 	for place, loss := range choice.Loses {
 		if place == mostNamed {

@@ -60,6 +60,9 @@ func (p *Person) plans(folder string, o *Outlook) {
 			Counted(o.WithoutSteps, "name that no step here puts right", "names that no step here puts right"), firstOf(o.FirstWithout, o.WithoutSteps))
 	}
 	p.line("  %s. start Syncthing on all its devices%s", Thousands(number+1), unknownFirst(o))
+	if len(o.Choices) > 0 {
+		p.line("  %s. audit again, once they are idle. What may be chosen for the whole folder (%s) is told then: these steps change what it does", Thousands(number+2), p.choosers(o))
+	}
 	for place := range o.Plans {
 		if o.Plans[place].Goal != nil {
 			p.line("  what these steps put right needs nothing that the entries below say to do")

@@ -122,7 +122,7 @@ func TestChoices(t *testing.T) {
 to choose in docs on server, for the whole folder, once all that is to stay is saved; or neither:
   'Revert Local Changes', once Syncthing has scanned and taken what the others have:
     8 names come to another end, and all devices then have one thing of each
-    7 names lose something that stands on a disk now: copy that elsewhere first, if it is to stay
+    7 names lose something that stands on a disk now: copy that elsewhere before Syncthing starts, if it is to stay
       'a b': 5 bytes on server (modified 2020-09-13 12:26:40 UTC)
       b: 5 bytes on server (modified 2020-09-13 12:26:40 UTC)
       c: 5 bytes on server (modified 2020-09-13 12:26:40 UTC)
@@ -136,10 +136,27 @@ to choose in docs on server, for the whole folder, once all that is to stay is s
 to choose in docs on phone, for the whole folder, once all that is to stay is saved; or neither:
   'Override Changes', once Syncthing has scanned and heard what the others have:
     1 name comes to another end, and all devices then have one thing of it
-    1 name loses something that stands on a disk now: copy it elsewhere first, if it is to stay
+    1 name loses something that stands on a disk now: copy it elsewhere before Syncthing starts, if it is to stay
       a: 5 bytes on server (modified 2020-09-13 12:26:40 UTC)
   the folder made 'Send & Receive' there, before Syncthing scans:
     changes nothing that is known
+` {
+		t.Error(told)
+	}
+}
+
+// Where steps are to be taken, what may be chosen is told by another audit: they change what it does, and move what it loses.
+func TestNothingIsChosenBesideSteps(t *testing.T) {
+	of := outlook.Outlook{Names: 9, Plans: []outlook.Plan{{Names: []part.Bytes{"a"}, Count: 1, Steps: []outlook.Step{{Act: outlook.Save, Member: 1}}}},
+		Choices: []outlook.Choice{{Act: outlook.Revert, Member: 1, Names: 8, IsAll: true}, {Act: outlook.Both, Member: 1, Names: 3, IsAll: true}}}
+	var to strings.Builder
+	(&Person{To: &to, Called: strings.ToLower, Zone: time.UTC}).plans("docs", OutlookOf(&of, devices))
+	if told := to.String(); told != `
+to do in docs, from the top, while Syncthing is stopped on all its devices:
+  for a:
+    1. on server: copy it elsewhere, if it is to stay: the start may take it away
+  2. start Syncthing on all its devices
+  3. audit again, once they are idle. What may be chosen for the whole folder ('Revert Local Changes' on server, 'Send & Receive' on server) is told then: these steps change what it does
 ` {
 		t.Error(told)
 	}

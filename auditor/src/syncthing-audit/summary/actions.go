@@ -69,9 +69,11 @@ func (f *File) toMakeSafe() []string {
 			made = addOnce(made, f.Faults[place].Device)
 		}
 	}
-	for place := range f.Permissions {
-		if f.Permissions[place].isStray() {
-			made = addOnce(made, f.Permissions[place].Device)
+	if f.isModeFirst() {
+		for place := range f.Permissions {
+			if f.Permissions[place].isStray() {
+				made = addOnce(made, f.Permissions[place].Device)
+			}
 		}
 	}
 	return made

@@ -50,16 +50,14 @@ const (
 )
 
 // adviceOf says what to do about a name, each thing once: first what saves bytes, then the steps for it or, where it isn't known what becomes of it, what
-// is to be saved; then what each fault asks for beside that. It foretells nothing: package outlook does.
+// is to be saved; then what each fault asks for beside that, and at last what starts Syncthing. It foretells nothing: package outlook does.
 func adviceOf(file *File, named labels) []string {
 	made := append(file.waitsAdvice(named), file.bestAdvice(named)...)
 	made = append(made, file.mounted(named)...)
-	if file.foretold.isKnown() {
-		if told := file.stepsFor(named); told != "" {
-			made = append(made, told)
-		}
-	} else {
+	if !file.foretold.isKnown() {
 		made = append(made, file.toSave(named)...)
+	} else if told := file.stepsFor(named); told != "" {
+		made = append(made, told)
 	}
 	if file.isModeFirst() {
 		made = append(made, permissionsAdvice(file, named))
@@ -73,13 +71,16 @@ func adviceOf(file *File, named labels) []string {
 			}
 		}
 	}
-	if len(file.Permissions) > 0 && !file.isModeFirst() {
+	if len(file.Permissions) > 0 && !file.isModeFirst() && !file.foretold.hasGoal() {
 		made = append(made, permissionsAdvice(file, named))
+	}
+	if told := file.toRun(len(made) == 0); told != "" {
+		made = append(made, told)
 	}
 	return made
 }
 
-// stepsFor says what is to be done so that the name comes to the end that is wanted.
+// stepsFor says what is to be done so that the name comes to the end that is wanted. It says nothing where Syncthing alone puts it right.
 func (f *File) stepsFor(named labels) string {
 	it := f.say("it", "them")
 	switch plan := f.foretold.plan; {
@@ -87,22 +88,63 @@ func (f *File) stepsFor(named labels) string {
 		return "the steps for " + it + " above, behind 'to do in': " + plan.Leads(named.all)
 	case plan != nil:
 		return "the steps for " + it + " above, behind 'to do in', which save what is to stay"
-	case f.foretold.is(outlook.Deleted) || f.foretold.is(outlook.ByItself) && f.isToGo():
-		return "nothing, if " + it + " may go. If not, copy " + it + " elsewhere before Syncthing starts on any of these devices"
+	case f.isRightByItself():
+		return ""
+	case f.foretold.is(outlook.Deleted) || f.foretold.is(outlook.ByItself):
+		return f.ifItMayGo()
 	case f.foretold.is(outlook.Changed) && f.looksDamaged():
 		return ""
 	case f.foretold.is(outlook.Changed):
 		return "nothing, if the " + f.say("change is", "changes are") + " wanted"
+	case f.hasChoice() && f.foretold.hasSteps:
+		return "leave " + it + " so, or choose something for the whole folder, as another audit says once the steps above are taken"
 	case f.hasChoice():
 		return "choose for the whole folder what stands above, behind 'to choose in', or leave " + it + " so"
 	case f.foretold.is(outlook.Stays):
 		return "copy elsewhere what is to stay. Then, while Syncthing is stopped on all of these devices, put what is wanted on each of them"
-	case f.foretold.is(outlook.Depends):
-		return "nothing is lost, whichever of these comes: let Syncthing run on all of these devices until it is idle"
-	case f.foretold.is(outlook.ByItself):
-		return "nothing: let Syncthing run on all of these devices until it is idle"
 	}
 	return "before Syncthing starts or scans on any of these devices, copy elsewhere what is to stay"
+}
+
+// ifItMayGo says what to do about a name that goes. Where it stands nowhere there is nothing to copy.
+func (f *File) ifItMayGo() string {
+	it := f.say("it", "them")
+	told := "nothing, if " + f.say("it", "they") + " may go"
+	if len(f.foretold.fate.Now) == 0 {
+		return told
+	}
+	return told + ". If not, copy " + it + " elsewhere before Syncthing starts on any of these devices"
+}
+
+// isRightByItself says whether nothing has to be done for the name but to let Syncthing run: nothing of it is lost, and all devices come to have one thing.
+func (f *File) isRightByItself() bool {
+	return f.foretold.isKnown() && f.foretold.plan == nil && (f.foretold.is(outlook.Depends) || f.foretold.is(outlook.ByItself) && !f.isToGo())
+}
+
+// toRun says to let Syncthing run where that puts the name right, behind all that comes before a start. Where the entry tells nothing else it says that, too.
+func (f *File) toRun(isAlone bool) string {
+	if !f.isRightByItself() || f.looksDamaged() || f.areAllBehind() {
+		return ""
+	}
+	told := "let Syncthing run on all of these devices until it is idle"
+	switch {
+	case f.foretold.is(outlook.Depends):
+		return "nothing is lost, whichever of these comes: " + told
+	case isAlone:
+		return "nothing: " + told
+	}
+	return told
+}
+
+// areAllBehind says whether each fault tells by itself between which devices Syncthing is to run.
+func (f *File) areAllBehind() bool {
+	return slices.IndexFunc(f.Faults, func(one Fault) bool { return !f.isToTake(&one) }) < 0
+}
+
+// isToTake says whether a device takes what is due once it runs together with one that has it.
+func (f *File) isToTake(one *Fault) bool {
+	return one.Cause == Behind && one.Kind != sendOnly && !one.isTied && !one.isUntold &&
+		(!f.foretold.isKnown() || f.foretold.is(outlook.ByItself) || f.foretold.is(outlook.Deleted))
 }
 
 // comesBack says whether by itself something comes to stand again where the name is missing on a device.
@@ -221,7 +263,9 @@ func diskAdvice(one *Fault, file *File, named labels) string {
 	takes := map[Cause]string{Changed: "changed", Back: "new", NotScanned: "new", OtherTime: "changed"}[one.Cause]
 	told := ""
 	switch {
-	case file.foretold.hasGoal() || one.Cause == Missing && (file.comesBack(one) || file.isGoneElsewhere(one)):
+	case file.foretold.hasGoal() || file.isRightByItself() || one.Cause == Missing && (file.comesBack(one) || file.isGoneElsewhere(one)):
+		return ""
+	case one.Cause != Missing && (file.foretold.is(outlook.Deleted) || file.foretold.is(outlook.ByItself)): // a recorded change takes its place
 		return ""
 	case file.foretold.isKnown() && takes != "" && one.Cause != Changed:
 		return ""
@@ -244,7 +288,7 @@ func recordAdvice(one *Fault, file *File, at string, named labels) string {
 	switch {
 	case one.Cause == OtherBlocks:
 		return "nothing is lost: the bytes are the same"
-	case one.Cause == Behind && one.Kind != sendOnly && (!file.foretold.isKnown() || file.foretold.is(outlook.ByItself) || file.foretold.is(outlook.Deleted)):
+	case file.isToTake(one):
 		return behindAdvice(one, file, at, named)
 	case file.foretold.isKnown():
 		return ""

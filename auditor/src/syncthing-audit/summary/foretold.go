@@ -7,11 +7,12 @@ import (
 
 // foretold is what becomes of a name if nobody does anything, and the plan for it, if there is one.
 type foretold struct {
-	fate    *print.Fate
-	plan    *print.Plan
-	choices map[string]bool // devices on which something may be chosen for the whole folder
-	devices []string        // of the folder
-	why     string          // in words: why it isn't known
+	fate     *print.Fate
+	plan     *print.Plan
+	choices  map[string]bool // devices on which something may be chosen for the whole folder
+	devices  []string        // of the folder
+	hasSteps bool            // whether steps are to be taken for other names before something is chosen
+	why      string          // in words: why it isn't known
 }
 
 // foreteller gives for each name of a folder what is foretold of it.
@@ -29,7 +30,7 @@ func foreteller(folder *Folder, named labels) func(name string) *foretold {
 	}
 	planOf, isListed := told.PlansByName(), told.MoreNames == 0
 	return func(name string) *foretold {
-		made := &foretold{fate: fates[name], plan: planOf(name), choices: choices, devices: devicesIn(folder)}
+		made := &foretold{fate: fates[name], plan: planOf(name), choices: choices, devices: devicesIn(folder), hasSteps: len(told.Plans) > 0}
 		switch {
 		case made.fate == nil && isListed && len(told.WhyNot) == 0:
 			made.why = "it isn't among the names of which something is foretold"

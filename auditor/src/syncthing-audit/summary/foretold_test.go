@@ -20,6 +20,27 @@ import (
 
 // foretellAll has an answer of rows say what happens if nobody does anything: all of its devices run 1.29.5 and share the folder.
 func foretellAll(answer *finding.Answer) {
+	shareAll(answer)
+	for _, folder := range answer.Folders {
+		rows, names := read.NewRows(&join.Folder{ID: folder.ID, Members: folder.Members}), []string{}
+		for name := range folder.Rows {
+			names = append(names, name)
+		}
+		sort.Strings(names)
+		for _, name := range names {
+			for _, at := range folder.Rows[name].At {
+				if at != nil {
+					at.Name = part.Bytes(name)
+				}
+			}
+			rows.Take(folder.Rows[name])
+		}
+		folder.Outlook = outlook.NewForeteller(forecast.Budget{States: 300, Walks: 4, Total: 100000}, later*1e9).Of(rows)
+	}
+}
+
+// shareAll has all devices of an answer run 1.29.5 and share the folder, under ids of Syncthing.
+func shareAll(answer *finding.Answer) {
 	for _, folder := range answer.Folders {
 		for _, member := range folder.Members {
 			id := protocol.DeviceID{7: byte(member.Number)}.String()
@@ -38,20 +59,6 @@ func foretellAll(answer *finding.Answer) {
 				}
 			}
 		}
-		rows, names := read.NewRows(&join.Folder{ID: folder.ID, Members: folder.Members}), []string{}
-		for name := range folder.Rows {
-			names = append(names, name)
-		}
-		sort.Strings(names)
-		for _, name := range names {
-			for _, at := range folder.Rows[name].At {
-				if at != nil {
-					at.Name = part.Bytes(name)
-				}
-			}
-			rows.Take(folder.Rows[name])
-		}
-		folder.Outlook = outlook.NewForeteller(forecast.Budget{States: 300, Walks: 4, Total: 100000}, later*1e9).Of(rows)
 	}
 }
 
@@ -79,7 +86,7 @@ var foretoldSo = []struct {
 		[]string{"looks damaged", "if nothing is done: all devices then have what server has now", "to do: the steps for it above, behind 'to do in': all devices then have what laptop has now."},
 		"if the change is wanted"},
 	{"behind", []*part.Name{file(2, 2), file(1, 1)}, []string{"RecordDiffers 2", "StoreDiffers 2"}, "send-receive",
-		[]string{"if nothing is done: all devices then have what laptop has now; what server has now goes.", "to do: nothing: let Syncthing run on all of these devices"}, "save"},
+		[]string{"if nothing is done: all devices then have what laptop has now; what server has now goes.", "to do: let Syncthing run on server and on laptop, and let them finish"}, "nothing:"},
 	{"behind on a device that only sends", []*part.Name{file(2, 2), file(1, 1)}, []string{"RecordDiffers 2", "StoreDiffers 2"}, sendOnly,
 		[]string{"to choose in docs (Documents) on server", "server keeps what it has (server: it only sends", "to do: choose for the whole folder what stands above"}, "to do: nothing"},
 	{"a local change", []*part.Name{file(1, 1), local(file(2, 2), onFirst...)}, []string{"LocalOnly 2"}, receiveOnly,
@@ -111,8 +118,8 @@ func TestWhatIsLostWithoutSteps(t *testing.T) {
 	for fate, told := range map[outlook.Fate]string{outlook.Lost: "before Syncthing starts or scans on any of these devices, copy elsewhere what is to stay",
 		outlook.Depends: "nothing is lost, whichever of these comes", outlook.ByItself: "nothing: let Syncthing run"} {
 		file := &File{Faults: []Fault{{Device: server, Cause: Conflicting}}, foretold: &foretold{fate: &print.Fate{Fate: string(fate)}}}
-		if is := file.stepsFor(labels{}); !strings.HasPrefix(is, told) {
-			t.Errorf("%s: %s", fate, is)
+		if is := adviceOf(file, labels{}); len(is) != 1 || !strings.HasPrefix(is[0], told) {
+			t.Errorf("%s: %q", fate, is)
 		}
 	}
 }

@@ -6,7 +6,7 @@ import (
 	"reflect"
 	"testing"
 
-	"golang.org/x/exp/slices"
+	"syncthing-audit/finding"
 	"syncthing-audit/join"
 	"syncthing-audit/part"
 )
@@ -14,9 +14,9 @@ import (
 // manyWorlds is how many random folders each property is asked of.
 const manyWorlds = 600
 
-// A group says of each of its names what the name by itself says, told as many: whatever the name's details are.
+// A group says of each of its names what the name by itself says, told as many: whatever the name's details are, and whatever becomes of it.
 func TestAGroupSpeaksOfEachOfItsNames(t *testing.T) {
-	groups := 0
+	groups, known := 0, 0
 	for seed := int64(1); seed <= manyWorlds; seed++ {
 		random := rand.New(rand.NewSource(seed))
 		all := randomWorld(random)
@@ -27,33 +27,41 @@ func TestAGroupSpeaksOfEachOfItsNames(t *testing.T) {
 			}
 		}
 		answer := all.answer()
-		made, folder := Of(answer), answer.Folders[0]
+		if seed%10 == 0 {
+			foretellAll(answer)
+		}
+		made := Of(answer)
 		for _, group := range made.Folders[0].Groups {
 			groups++
-			for name := range all.rows {
-				if !slices.Contains(group.First, Text(name)) {
-					continue
-				}
-				alone := *all
-				alone.rows = map[string][]*part.Name{name: all.rows[name]}
-				files := Of(alone.answer()).Folders[0].Files
-				if len(files) != 1 {
-					t.Fatalf("seed %d: %d files of one name", seed, len(files))
-				}
-				many := *files[0]
+			if group.of.foretold.isKnown() {
+				known++
+			}
+			for _, name := range group.First {
+				many := *all.alone(string(name), answer)
 				many.isMany, many.others = true, group.of.others
-				if told := adviceOf(&many, made.labels()); !reflect.DeepEqual(told, group.Advice) {
-					t.Errorf("seed %d: a group says\n%q, and %s\n%q\n%s", seed, group.Advice, name, told, rowText(folder.Rows[name]))
+				told, foretold := adviceOf(&many, made.labels()), many.tell(made.labels())
+				if !reflect.DeepEqual(told, group.Advice) || foretold != group.Foretold {
+					t.Fatalf("seed %d: a group says\n%s\n%q, and %s\n%s\n%q\n%s", seed, group.Foretold, group.Advice, name, foretold, told,
+						rowText(answer.Folders[0].Rows[string(name)]))
 				}
 			}
 		}
-		if t.Failed() {
-			return
-		}
 	}
-	if groups < manyWorlds/4 {
-		t.Errorf("only %d groups", groups)
+	if groups < manyWorlds/4 || known < manyWorlds/50 {
+		t.Errorf("only %d groups, and of %d it is known what happens", groups, known)
 	}
+}
+
+// alone gives what is told of a name of an answer by itself, where what happens to it is as in that answer.
+func (w *world) alone(name string, whole *finding.Answer) *File {
+	alone := *w
+	alone.rows = map[string][]*part.Name{name: w.rows[name]}
+	answer := alone.answer()
+	if told := whole.Folders[0].Outlook; told != nil {
+		shareAll(answer)
+		answer.Folders[0].Outlook = told
+	}
+	return Of(answer).Folders[0].Files[0]
 }
 
 // rowText tells what the devices have of a name.

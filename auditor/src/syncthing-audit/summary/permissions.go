@@ -20,7 +20,7 @@ func permissionsAdvice(file *File, named labels) string {
 		if !one.isStray() {
 			continue
 		}
-		strays.add("'chmod "+one.Index+"' "+it+" if that is the right mode, before Syncthing scans there: a scan takes "+one.Disk+" for a change", one.Device)
+		strays.add(file.saveFirst()+"'chmod "+one.Index+"' "+it+" if that is the right mode, before Syncthing scans there: a scan takes "+one.Disk+" for a change", one.Device)
 	}
 	strays.each(named, func(told, devices string) { words = append(words, "on "+devices+", "+told) })
 	if len(indexes) > 1 {
@@ -30,9 +30,19 @@ func permissionsAdvice(file *File, named labels) string {
 	return strings.Join(words, "; ")
 }
 
-// isModeFirst says whether a mode is to be changed before a scan, and so before anything is told that makes one.
+// saveFirst says to copy a name elsewhere before its mode is changed, where more is wrong with it: a change of the mode is one that Syncthing keeps against what
+// others changed or deleted, and without it that may take its place. Where nothing is known of that, all that is to stay is saved anyway.
+func (f *File) saveFirst() string {
+	if len(f.Faults) == 0 || !f.foretold.isKnown() {
+		return ""
+	}
+	return "copy " + f.say("it", "them") + " elsewhere first if " + f.say("it is", "they are") + " to stay, and "
+}
+
+// isModeFirst says whether a mode is to be changed before a scan, and so before anything is told that makes one. Steps that put a name right were found for its
+// disks as they are, and give it one mode where they copy it.
 func (f *File) isModeFirst() bool {
-	return slices.IndexFunc(f.Permissions, func(one Mode) bool { return one.isStray() }) >= 0
+	return !f.foretold.hasGoal() && slices.IndexFunc(f.Permissions, func(one Mode) bool { return one.isStray() }) >= 0
 }
 
 // isStray says whether a disk has another mode than the device's index.

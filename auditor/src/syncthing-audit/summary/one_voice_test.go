@@ -1,0 +1,134 @@
+package summary
+
+import (
+	"fmt"
+	"math/rand"
+	"regexp"
+	"strings"
+	"testing"
+
+	"golang.org/x/exp/slices"
+	"syncthing-audit/finding"
+	"syncthing-audit/part"
+)
+
+var (
+	saysNothing = regexp.MustCompile(`^nothing: `)
+	// What starts Syncthing, and what is said where it alone puts a name right.
+	runs      = regexp.MustCompile(`^(nothing: |nothing is lost, whichever of these comes: |once what is to stay is saved, )?let Syncthing run on`)
+	putsRight = regexp.MustCompile(`let Syncthing run on all of these devices until it is idle$`)
+	// What is to be done before Syncthing starts, and what puts back what was recorded.
+	isBefore = regexp.MustCompile(`[Bb]efore Syncthing (starts|scans)|while Syncthing is stopped|^first |^copy elsewhere`)
+	putsBack = regexp.MustCompile(`[Tt]o have again what|put the bytes back`)
+)
+
+// voicesOf gives what an entry says with two voices: that nothing is to be done beside something that is; that Syncthing is to run above what comes before
+// that; and that by this a name comes right beside how bytes are put back.
+func voicesOf(advice []string) string {
+	first := func(of *regexp.Regexp) int { return slices.IndexFunc(advice, of.MatchString) }
+	switch {
+	case first(saysNothing) >= 0 && len(advice) > 1:
+		return "nothing is to be done, and something is"
+	case first(runs) >= 0 && slices.IndexFunc(advice[first(runs):], isBefore.MatchString) >= 0:
+		return "what comes before a start stands below it"
+	case first(putsRight) >= 0 && first(putsBack) >= 0:
+		return "what comes right by itself is put back"
+	}
+	return ""
+}
+
+// An entry speaks with one voice, be it of one name or of a group, and whatever is known of what happens.
+func TestAnEntrySpeaksWithOneVoice(t *testing.T) {
+	found := map[string]int{}
+	for seed := int64(1); seed <= manyWorlds; seed++ {
+		random := rand.New(rand.NewSource(seed))
+		all := randomWorld(random)
+		row := all.randomName(random)
+		for number := 0; number <= mostAlone*(int(seed)%2); number++ {
+			name := fmt.Sprint("a", number)
+			if all.rows[name] = row; seed%3 == 0 {
+				all.modes[name] = randomModes(random, row)
+			}
+		}
+		answer := all.answer()
+		if seed%4 > 0 {
+			foretellAll(answer)
+		}
+		for _, advice := range adviceIn(Of(answer).Folders[0]) {
+			if said := voicesOf(advice); said != "" {
+				t.Fatalf("seed %d: %s, in\n%s\n%s", seed, said, strings.Join(advice, "\n"), rowText(answer.Folders[0].Rows["a0"]))
+			}
+			for what, of := range map[string]*regexp.Regexp{"nothing": saysNothing, "runs": runs, "right": putsRight, "before": isBefore, "back": putsBack} {
+				if slices.IndexFunc(advice, of.MatchString) >= 0 {
+					found[what]++
+				}
+			}
+		}
+	}
+	for _, what := range []string{"nothing", "runs", "right", "before", "back"} {
+		if found[what] < 15 {
+			t.Errorf("too few entries of a kind: %v", found)
+		}
+	}
+}
+
+// What an entry points to stands above it, and nothing is chosen beside steps that change what it does.
+func TestWhatAnEntryPointsToStandsAbove(t *testing.T) {
+	found := map[string]int{}
+	for seed := int64(1); seed <= manyWorlds/2; seed++ {
+		random := rand.New(rand.NewSource(seed))
+		all := randomWorld(random)
+		for _, name := range []string{"a", "b", "c"} {
+			all.rows[name] = all.randomName(random)
+		}
+		answer := all.answer()
+		foretellAll(answer)
+		text := printedOf(answer)
+		for _, part := range []string{"to do in", "to choose in"} {
+			isThere := strings.Contains(text, " "+part+" docs")
+			if at := strings.Index(text, "behind '"+part+"'"); at >= 0 {
+				if found[part]++; !isThere || strings.LastIndex(text, " "+part+" docs") > at {
+					t.Fatalf("seed %d: '%s' isn't above what points to it:\n%s", seed, part, text)
+				}
+			}
+		}
+		if isBoth := strings.Contains(text, " to do in docs") && strings.Contains(text, " to choose in docs"); isBoth {
+			t.Fatalf("seed %d: something is to be chosen beside steps:\n%s", seed, text)
+		}
+		found["another audit"] += strings.Count(text, "as another audit says")
+	}
+	if found["to do in"] < 50 || found["to choose in"] < 10 || found["another audit"] < 10 {
+		t.Error("too few entries of a kind:", found)
+	}
+}
+
+// adviceIn gives what each entry of a folder tells to do.
+func adviceIn(folder *Folder) [][]string {
+	var made [][]string
+	for _, one := range folder.Files {
+		made = append(made, one.Advice)
+	}
+	for _, one := range folder.Groups {
+		made = append(made, one.Advice)
+	}
+	return made
+}
+
+// randomModes gives a name's permissions where they differ: now and then on a disk from what is recorded.
+func randomModes(random *rand.Rand, row []*part.Name) []finding.Bits {
+	made, differ := make([]finding.Bits, len(row)), false
+	for place, at := range row {
+		if at == nil || at.Own == nil || at.Own.Deleted {
+			continue
+		}
+		made[place] = finding.Bits{Has: true, Index: 0o644, OnDisk: at.Disk != nil}
+		if at.Disk != nil {
+			made[place].Disk = []uint32{0o644, 0o644, 0o600}[random.Intn(3)]
+			differ = differ || made[place].Disk != 0o644
+		}
+	}
+	if !differ {
+		return nil
+	}
+	return made
+}
