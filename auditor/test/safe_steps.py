@@ -133,6 +133,45 @@ class MissingAndDeleted(LateRot):
         self.assertEqual(self.verdict(), "settled")
 
 
+class ModesBesideAStart(LateRot):
+    """On the second device, which is off, files have another mode than recorded. It is behind with another file, whose entry says to start it there."""
+
+    @classmethod
+    def synchronise(cls):
+        for name in (KEPT, LOST):
+            (cls.one.files / name).write_text("binary " + name)
+            (cls.one.files / name).chmod(0o644)
+        (cls.one.files / "text").write_text("old")
+        cls.scan_and_wait()
+
+    def test_what_comes_before_the_start_is_said_first(self):
+        """Who gives one of them its mode before the start, as the answer says, has it on both devices. The other one's mode goes to all."""
+        for name in (KEPT, LOST):
+            (self.two.files / name).chmod(0o600)
+        (self.one.files / "text").write_text("newer")
+        self.one.start()
+        self.one.scan()
+        self.one.stop()
+        one, two = self.label(self.one), self.label(self.two)
+        parts = [" ".join(part.split()) for part in self.answer()[1].split("\n\n")]
+        self.assertEqual(parts[1], f"first, on {two}: do what the steps and the entries below say to do before Syncthing starts or scans there. As it starts, it scans all folders")
+        self.assertIn(f"let Syncthing run on {two} and on {one}, and let them finish", next(part for part in parts if part.startswith("text (in ")))
+        for name in (KEPT, LOST):
+            self.assertIn(f"to do: on {two}, 'chmod 0644' it if that is the right mode, before Syncthing scans there: a scan takes 0600 for a change",
+                          next(part for part in parts if part.startswith(f"{name} (in ")))
+        (self.two.files / KEPT).chmod(0o644)
+        self.start()
+        self.two.scan()
+        wait_until("the second device has the change, and the first one a mode", lambda: text_of(self.two.files / "text") == "newer" and self.modes(LOST) == [0o600, 0o600])
+        wait_until("both devices are in step", lambda: self.one.is_in_step_with(self.two) and self.two.is_in_step_with(self.one))
+        self.stop()
+        self.assertEqual([self.modes(name) for name in (KEPT, LOST)], [[0o644, 0o644], [0o600, 0o600]])
+
+    def modes(self, name):
+        """The modes of a file on all devices."""
+        return [(device.files / name).stat().st_mode & 0o777 for device in self.devices]
+
+
 class RotThatIsRenamed(LateRot):
     """Files rot on the second device, which is off. The first one renames them."""
 
@@ -142,22 +181,27 @@ class RotThatIsRenamed(LateRot):
             (cls.one.files / name).write_text("binary " + name)
         cls.scan_and_wait()
 
-    def test_its_bytes_are_moved_but_where_they_were_moved_away(self):
+    def test_its_bytes_are_moved_but_where_the_steps_were_taken(self):
+        """The rotten bytes are saved, and the new name is copied to where the old one is rotten."""
         for name in (KEPT, LOST):
             self.rot(name)
             (self.one.files / name).rename(self.one.files / ("new-" + name))
         self.one.start()
         self.one.scan()
         self.one.stop()
-        two = self.label(self.two)
+        one, two = self.label(self.one), self.label(self.two)
+        text = self.answer()[1]
+        self.assertIn(f"  for {KEPT} {LOST}:\n    1. on {two}: copy each elsewhere, if it is to stay: the start may take it away\n"
+                      f"  for new-{KEPT} new-{LOST}:\n    2. on {two}: copy each from {one}, as it is there (cp -a, or rsync -aI, as the user who runs Syncthing there)\n"
+                      f"    then all devices have what {one} has now\n", text)
         for name in (KEPT, LOST):
-            entry, first = self.entry(name)
-            self.assertIn("if nothing is done: no device has it then", entry)
+            self.assertIn("if nothing is done: no device has it then", self.entry(name)[0])
         fates = self.foretold()
         self.assertEqual([fates["new-" + name]["fate"] for name in (KEPT, LOST)], ["stays", "stays"])
-        (self.two.files / KEPT).rename(self.room / KEPT)
+        self.mend("new-" + KEPT, "-a")
         self.start()
         wait_until("the second device has both new names", lambda: all(text_of(self.two.files / ("new-" + name)) for name in (KEPT, LOST)))
+        wait_until("the old names are gone there", lambda: not any((self.two.files / name).exists() for name in (KEPT, LOST)))
         wait_until("both devices are in step", lambda: self.one.is_in_step_with(self.two) and self.two.is_in_step_with(self.one))
         self.stop()
         self.assertEqual([text_of(self.two.files / ("new-" + name)) for name in (KEPT, LOST)], ["binary " + KEPT, "rotten " + LOST])
