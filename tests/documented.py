@@ -39,10 +39,10 @@ def undescribed(schema):
     yield from look(schema, "")
 
 
-def numbers(crates, text):
-    """The numbers and names of refusals of steps, and of faults of documents, by the page and by the definitions."""
+def numbers(crates, manual, text):
+    """The numbers and names of refusals of steps, by the man page, and of faults of documents, by the page, and by the definitions."""
     answers = (crates / "bep_machine/specs/Answer.antt").read_text()
-    steps = set(re.findall(r"\b(1[0-6]\d) ([A-Z]\w+)", text))
+    steps = set(re.findall(r"\b(1[0-6]\d) ([A-Z]\w+)", manual))
     yield "refusals of steps", steps, {(number, name) for name, number in re.findall(r"^number_of (\w+) = (\d+)", answers, re.MULTILINE)}
     names = (crates / "bep_document/src/fault.rt").read_text()
     faults = {(row[0], row[1]) for _, head, rows in tables(text) if head[:2] == ["Number", "Name"] for row in rows}
@@ -69,7 +69,7 @@ def check(count, top):
     for name in SCHEMAS:
         lacks = list(undescribed(json.loads((top / "docs" / f"{name}.schema.json").read_text())))
         count.says(f"docs/{name}.schema.json: descriptions", f"nothing describes {', '.join(lacks)}" if lacks else "")
-    found = [*numbers(top / "crates", text),
+    found = [*numbers(top / "crates", (top / "docs/syncaudit.1").read_text(), text),
              *reasons(top / "crates", (top / "docs/reasons.md").read_text())]
     count.says("docs/documents.md: tables", "" if len(found) == 5 else f"{len(found)} things are compared")
     for what, told, right in found:
