@@ -3,7 +3,8 @@
 heading, and each path in code is there; crates.txt says what each crate is about; the functions on developing.md's two ways
 are there, and its counts are theirs; trust.md is short, and has no name or test that isn't there; each row of SECURITY.md
 names tests that are there; documents.md has the numbers of refusals, reasons.md the reasons, and the schemas describe their
-members (documented.py); README.md is one screen, of at most 500 words. The last line is 'N passed, M failed'."""
+members (documented.py); README.md is one screen, of at most 500 words, and all of them have at
+most 30,000. The last line is 'N passed, M failed'."""
 
 import re
 import subprocess
@@ -25,6 +26,8 @@ LINK = re.compile(r"\]\(([^)\s]+)\)")
 CODE = re.compile(r"^```.*?^```|`[^`\n]*`", re.MULTILINE | re.DOTALL)
 MOST_OF_README = 500
 MOST_OF_TRUST = 4000
+MOST_OF_ALL = 30000
+WRITTEN = re.compile(r"<!-- \S+ writes from here -->.*?<!-- to here -->", re.DOTALL)
 PLACE = re.compile(r"(?<![\w./~-])(\$PWD/)?([a-z.][\w.-]*(?:/[\w.-]+)*)(?![\w/*<{.\[$-])")
 STEP = re.compile(r"`([\w/]+\.rt):(\w+)`")
 
@@ -103,6 +106,11 @@ def names(text):
     return {name.rpartition("::")[2] for name in re.findall(r"`(?:fn )?([A-Za-z_][\w:]*)\b[^`]*`", text)}
 
 
+def words_by_hand(page):
+    """How many words a page has, but for what a script writes into it. A mark alone, such as the line between two cells, is none."""
+    return len([word for word in WRITTEN.sub("", page.read_text()).split() if re.search(r"\w", word)])
+
+
 def check_trust(count, crates):
     """Counts which names of trust.md are known, and whether it is short."""
     told = set(re.findall(r"`(?:\w+::)?(\w+)`", (TOP / "docs/trust.md").read_text()))
@@ -135,6 +143,8 @@ def main():
         count.says(f"{page.relative_to(TOP)}: paths", ", ".join(f"{path} isn't there" for path in sorted(set(lost(page)))))
     words = len((TOP / "README.md").read_text().split())
     count.says("README.md: length", "" if words <= MOST_OF_README else f"{words} words are more than {MOST_OF_README}")
+    words = sum(map(words_by_hand, PAGES))
+    count.says("all pages: length", "" if words <= MOST_OF_ALL else f"{words} words are more than {MOST_OF_ALL}")
     developing = (TOP / "docs/developing.md").read_text()
     crates = subjects((TOP / "crates.txt").read_text())
     for crate, (heading, about) in sorted(crates.items()):
