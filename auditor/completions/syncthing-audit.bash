@@ -10,6 +10,7 @@ _syncthing_audit_flags() {
     observe) echo '--init --home --folder --names --slice --jobs --records --listen --disk --still --into --history --strict --leave-out --lines --json --script --syncaudit --help' ;;
     disk) echo '--after --block-size --names --slice --jobs --config --marker --paths --sign -o --help' ;;
     export) echo '--observer --home --data --map --folder --names --slice --jobs --strict --leave-out --bytes --allowed-signers --into --help' ;;
+    report) echo '--observer --home --data --map --folder --names --slice --jobs --strict --leave-out --allowed-signers --syncaudit --history --html --watch --help' ;;
     watch) echo '--jobs --still --syncaudit --help' ;;
     sum) echo '--lines --json --script --help' ;;
     find) echo '--history --folder --jobs --help' ;;
@@ -30,12 +31,12 @@ _syncthing_audit() {
   local command=${COMP_WORDS[1]}
   COMPREPLY=()
   if [ "$COMP_CWORD" = 1 ]; then
-    mapfile -t COMPREPLY < <(compgen -W 'part check run observe watch disk export sum find --about --help --version' -- "$word")
+    mapfile -t COMPREPLY < <(compgen -W 'part check run observe watch report disk export sum find --about --help --version' -- "$word")
     return
   fi
   case $before in
     --home | --data | --into | --script | --history) mapfile -t COMPREPLY < <(compgen -d -- "$word") ;;
-    --syncaudit | --tokens | --sign | --allowed-signers | --disk | --config | -o) mapfile -t COMPREPLY < <(compgen -f -- "$word") ;;
+    --syncaudit | --tokens | --sign | --allowed-signers | --disk | --config | --html | --watch | -o) mapfile -t COMPREPLY < <(compgen -f -- "$word") ;;
     --leave-out) mapfile -t COMPREPLY < <(_syncthing_audit_kinds "$word") ;;
     --map | --folder | --names | --slice | --jobs | --still | --remote-program | --listen | --observer | --after | --block-size | --marker) ;;
     *)
@@ -43,7 +44,7 @@ _syncthing_audit() {
         mapfile -t COMPREPLY < <(compgen -W "$(_syncthing_audit_flags "$command")" -- "$word")
       elif [ "$command" = sum ] || [ "$command" = find ] || [ "$command" = run ]; then
         mapfile -t COMPREPLY < <(compgen -d -- "$word")
-      elif [ "$command" = check ] || [ "$command" = export ]; then
+      elif [ "$command" = check ] || [ "$command" = report ] || [ "$command" = export ]; then
         mapfile -t COMPREPLY < <(compgen -f -X '!*.part' -- "$word"; compgen -d -- "$word")
       fi
       ;;

@@ -1,5 +1,5 @@
 # Completion of syncthing-audit for fish: put this file into share/fish/vendor_completions.d or ~/.config/fish/completions.
-set -l commands part check run observe watch disk export sum find
+set -l commands part check run observe watch report disk export sum find
 set -l none "not __fish_seen_subcommand_from $commands"
 complete -c syncthing-audit -f
 complete -c syncthing-audit -n "$none" -a part -d 'Read a device and write what it has'
@@ -8,6 +8,7 @@ complete -c syncthing-audit -n "$none" -a run -d 'Look twice at devices that run
 complete -c syncthing-audit -n "$none" -a observe -d 'Ask devices that run over the wire and tell the answer'
 complete -c syncthing-audit -n "$none" -a disk -d 'Walk the disks of a device that is observed'
 complete -c syncthing-audit -n "$none" -a watch -d 'Make the audit of a night as a configuration says'
+complete -c syncthing-audit -n "$none" -a report -d 'Write a page to look at'
 complete -c syncthing-audit -n "$none" -a export -d 'Write the check documents of such an answer'
 complete -c syncthing-audit -n "$none" -a sum -d 'Join the answers to exported documents'
 complete -c syncthing-audit -n "$none" -a find -d 'Look in backups for the bytes that a history has of a name'
@@ -15,13 +16,13 @@ complete -c syncthing-audit -n "$none" -l about -d 'Tell what an answer means'
 complete -c syncthing-audit -n "$none" -l version -d 'Tell its version'
 complete -c syncthing-audit -l help -d 'Tell how to use the program'
 
-complete -c syncthing-audit -n "__fish_seen_subcommand_from part check observe export" -l home -x -a '(__fish_complete_directories)' -d 'The home of a device'
-complete -c syncthing-audit -n "__fish_seen_subcommand_from part check run export" -l data -x -a '(__fish_complete_directories)' -d 'Where the database of the home or device before is'
-complete -c syncthing-audit -n "__fish_seen_subcommand_from part check run export" -l map -x -d 'Where a path of its configuration is on its machine: FROM=TO'
-complete -c syncthing-audit -n "__fish_seen_subcommand_from part check run observe export find" -l folder -x -d 'Only this folder'
-complete -c syncthing-audit -n "__fish_seen_subcommand_from part check run observe disk export" -l names -x -d 'Only names that begin so'
-complete -c syncthing-audit -n "__fish_seen_subcommand_from part check run observe disk export" -l slice -x -d 'Only names of slice K of N: K/N'
-complete -c syncthing-audit -n "__fish_seen_subcommand_from part check run observe watch disk export find" -l jobs -x -d 'How many at once'
+complete -c syncthing-audit -n "__fish_seen_subcommand_from part check observe export report" -l home -x -a '(__fish_complete_directories)' -d 'The home of a device'
+complete -c syncthing-audit -n "__fish_seen_subcommand_from part check run export report" -l data -x -a '(__fish_complete_directories)' -d 'Where the database of the home or device before is'
+complete -c syncthing-audit -n "__fish_seen_subcommand_from part check run export report" -l map -x -d 'Where a path of its configuration is on its machine: FROM=TO'
+complete -c syncthing-audit -n "__fish_seen_subcommand_from part check run observe export find report" -l folder -x -d 'Only this folder'
+complete -c syncthing-audit -n "__fish_seen_subcommand_from part check run observe disk export report" -l names -x -d 'Only names that begin so'
+complete -c syncthing-audit -n "__fish_seen_subcommand_from part check run observe disk export report" -l slice -x -d 'Only names of slice K of N: K/N'
+complete -c syncthing-audit -n "__fish_seen_subcommand_from part check run observe watch disk export find report" -l jobs -x -d 'How many at once'
 complete -c syncthing-audit -n "__fish_seen_subcommand_from part" -l about -d 'What the device shares'
 complete -c syncthing-audit -n "__fish_seen_subcommand_from part" -l begin -d 'The first look at a device that may run'
 complete -c syncthing-audit -n "__fish_seen_subcommand_from part" -l end -d 'The second look'
@@ -33,19 +34,21 @@ complete -c syncthing-audit -n "__fish_seen_subcommand_from run" -l remote-progr
 complete -c syncthing-audit -n "__fish_seen_subcommand_from run" -l dry-run -d 'Tell the commands'
 complete -c syncthing-audit -n "__fish_seen_subcommand_from run" -x -a '(__fish_complete_user_at_hosts):' -d 'A machine'
 complete -c syncthing-audit -n "__fish_seen_subcommand_from run" -a '(__fish_complete_directories)' -d 'A home'
+complete -c syncthing-audit -n "__fish_seen_subcommand_from report" -l html -r -d 'Where the page goes'
+complete -c syncthing-audit -n "__fish_seen_subcommand_from report" -l watch -r -d 'The nights of this configuration'
 complete -c syncthing-audit -n "__fish_seen_subcommand_from part disk" -s o -r -d 'Where the part goes'
 complete -c syncthing-audit -n "__fish_seen_subcommand_from part disk" -l sign -r -d 'Sign the part with this key'
 complete -c syncthing-audit -n "__fish_seen_subcommand_from part run disk" -l paths -d 'Tell where the folders are'
-complete -c syncthing-audit -n "__fish_seen_subcommand_from check export" -l allowed-signers -r -d 'The keys that sign parts'
+complete -c syncthing-audit -n "__fish_seen_subcommand_from check export report" -l allowed-signers -r -d 'The keys that sign parts'
 
-complete -c syncthing-audit -n "__fish_seen_subcommand_from part check run observe export" -l strict -d 'Refuse what cannot be audited'
-complete -c syncthing-audit -n "__fish_seen_subcommand_from part check run observe export" -l leave-out -x -d 'With --strict, leave out these kinds' \
+complete -c syncthing-audit -n "__fish_seen_subcommand_from part check run observe export report" -l strict -d 'Refuse what cannot be audited'
+complete -c syncthing-audit -n "__fish_seen_subcommand_from part check run observe export report" -l leave-out -x -d 'With --strict, leave out these kinds' \
     -a '(__fish_append , ignored unreadable changing special names targets records rescan large absent encrypted unshared moment unknown)'
-complete -c syncthing-audit -n "__fish_seen_subcommand_from part check run export" -l observer -x -d 'A device that keeps no files'
+complete -c syncthing-audit -n "__fish_seen_subcommand_from part check run export report" -l observer -x -d 'A device that keeps no files'
 complete -c syncthing-audit -n "__fish_seen_subcommand_from check export" -l bytes -d 'Documents with the bytes of files'
 complete -c syncthing-audit -n "__fish_seen_subcommand_from check export" -a '(__fish_complete_suffix .part)'
-complete -c syncthing-audit -n "__fish_seen_subcommand_from check run observe watch" -l syncaudit -r -d 'The program that answers'
-complete -c syncthing-audit -n "__fish_seen_subcommand_from check run observe find" -l history -x -a '(__fish_complete_directories)' -d 'Keep what was read and found there'
+complete -c syncthing-audit -n "__fish_seen_subcommand_from check run observe watch report" -l syncaudit -r -d 'The program that answers'
+complete -c syncthing-audit -n "__fish_seen_subcommand_from check run observe find report" -l history -x -a '(__fish_complete_directories)' -d 'Keep what was read and found there'
 complete -c syncthing-audit -n "__fish_seen_subcommand_from export observe" -l into -x -a '(__fish_complete_directories)' -d 'Where the documents or parts go'
 complete -c syncthing-audit -n "__fish_seen_subcommand_from observe" -l init -d 'Make the key of the observer'
 complete -c syncthing-audit -n "__fish_seen_subcommand_from observe" -l disk -r -d 'Where the walk of the disks of the device before will be'

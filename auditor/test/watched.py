@@ -215,6 +215,36 @@ class Watched(Audited):
         self.assertNotIn("\nSubject: fake", mails)
         self.assertIn(r"\x1b]0;evil\x07\x0aSubject: fake", mails)
 
+    def test_a_page_of_the_nights(self):
+        """Each night is on it, also one without an answer, beside what was seen last. A page that can't be written is a fault of the night."""
+        path = self.user / "audit.html"
+        wanted = f'{self.homes_alone}<page path="~/audit.html"/>'
+        self.night(wanted)
+        undo = rot(self.room / "made/device1/files/00000/07.bin", 5)
+        try:
+            self.assertEqual(self.night(wanted)[0], 1)
+        finally:
+            undo()
+        text = path.read_text()
+        for words in ("NOT in step: 1 name wrong", "1 name wrong here", "nothing wrong here", "00000/07.bin", "20 files, 2000 bytes read"):
+            self.assertIn(words, text)
+        self.assertEqual(path.stat().st_mode & 0o777, 0o644)
+        self.assertEqual(self.night(wanted, SYNCAUDIT="/nowhere/syncaudit")[0], 127)
+        for words in ("no answer, status 127", "There was no answer ", "NOT in step: 1 name wrong", "/nowhere/syncaudit"):
+            self.assertIn(words, path.read_text())
+        by_hand = self.user / "by-hand.html"
+        run([self.programs / PROGRAM, "report", "--html", by_hand, "--watch", self.configuration], env={"HOME": str(self.user), "PATH": os.environ["PATH"]}, check=True)
+        self.assertEqual(by_hand.read_text().partition("<footer")[0], path.read_text().partition("<footer")[0])
+        path.unlink()
+        path.mkdir()
+        status, _, mails = self.night(wanted)
+        self.assertEqual((status, "the page can't be written: " in mails), (2, True))
+        self.assertEqual(len(json.loads((self.state / "nights.json").read_text())["nights"]), 4)
+        (self.state / "nights.json").write_text("{")
+        status, _, mails = self.night()
+        self.assertEqual((status, "what earlier nights left for the page can't be read, and is lost: " in mails), (2, True))
+        self.assertEqual(self.night()[::2], (0, ""))
+
     def test_the_units_are_units(self):
         """The example of a configuration is one, too, and the page's commands name files that are there."""
         example = (CONTRIB / "watch.xml").read_text()
@@ -223,9 +253,9 @@ class Watched(Audited):
                   env={"HOME": str(self.user), "PATH": f"{self.tools}:{os.environ['PATH']}", "SYNCAUDIT": auditor()})
         self.assertEqual(ran.returncode, 6, ran.stderr)
         commented = re.findall(r"<!-- (<.*>) -->", example)
-        self.assertEqual(len(commented), 10)
+        self.assertEqual(len(commented), 11)
         for line in commented:
-            self.assertRegex(line, "^<(device|folder|slices|notify|ping|metrics|parts|observed|state) ")
+            self.assertRegex(line, "^<(device|folder|slices|notify|ping|metrics|page|parts|observed|state) ")
         for name in re.findall(r"auditor/nightly/([\w./-]+\w)", (CONTRIB / "README.md").read_text()):
             self.assertTrue((CONTRIB / name).exists() or list(Path(CONTRIB).glob(f"{name}*")), name)
 

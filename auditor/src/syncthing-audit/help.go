@@ -14,6 +14,7 @@ var usage = fmt.Sprintf(`usage: syncthing-audit part [--home DIR [--data DIR]] [
        syncthing-audit check [--home DIR [--data DIR] ..] [PART ..] [--allowed-signers FILE] [--folder ID ..]
        syncthing-audit run [MACHINE:[DIR] | DIR [--data DIR] ..] [--folder ID ..]
        syncthing-audit watch CONFIG
+       syncthing-audit report --html FILE (--watch CONFIG | [--home DIR ..] [PART ..] [--history DIR])
        syncthing-audit observe --init [--home DIR]
        syncthing-audit observe [--folder ID ..] [--records] [--listen tcp://:PORT] [DEVICE-ID[@tcp://HOST:PORT] [--disk FILE] ..]
        syncthing-audit disk --after TOKEN [--block-size BYTES ..] [--names PREFIX] [--slice K/N] [--config FILE] [--sign KEY] -o FILE FOLDER-ID=DIR ..
@@ -38,6 +39,7 @@ Says whether Syncthing devices are in step and, if they aren't, which device is 
           doesn't show. It needs no Syncthing and no index. 'observe' with --disk prints the command, and waits for the file
   watch   makes the audit of a night, as a service does: CONFIG says of which devices and whom to tell. It tells what is new, and once a month how
           all is
+  report  writes a page to look at: of what the nights of watch left, or of an answer to homes and parts as check has it
   part --begin, --end  make the two looks one by one: begin on all devices, then end on all, then check
   export  writes the check documents of such an answer, for 'syncaudit certify' and 'syncaudit check'
   sum     joins the answers to exported documents, cut-0001.reply and so on: what 'syncaudit check', then
@@ -92,8 +94,10 @@ Says whether Syncthing devices are in step and, if they aren't, which device is 
   --json               in place of the summary for people: the summary for programs; audit.schema.json is its schema
   --script DIR         of check, run, observe and sum: write the steps of the answer's plans there, as a shell script for each device. None of
                        them is run: whoever reads one sets the paths in it
-  --history DIR        of check, run and observe: keep in DIR what was read of each file and when, and what was found, and say what is new. So bytes
+  --history DIR        of check, run, observe and report: keep in DIR what was read of each file and when, and what was found, and say what is new. So bytes
                        that changed on all devices under one time are seen, which no comparison of devices shows
+  --html FILE          of report: where the page goes: one file, which asks nobody for anything
+  --watch CONFIG       of report: the nights of this configuration
   --bytes              documents with the bytes of files, as others may want to read them; works only with homes
   --into DIR           of export: write the documents there, as cut-0001.json and so on. Of observe: write the parts there, in place of
                        an answer
@@ -125,6 +129,7 @@ var flagsOfCommands = map[string]string{
 	"check":   "--observer --home --data --map --folder --names --slice --jobs --strict --leave-out --bytes --allowed-signers --lines --json --script --syncaudit --history",
 	"observe": "--init --home --folder --names --slice --jobs --records --listen --disk --still --into --history --strict --leave-out --lines --json --script --syncaudit",
 	"disk":    "--after --block-size --names --slice --jobs --config --marker --paths --sign -o",
+	"report":  "--observer --home --data --map --folder --names --slice --jobs --strict --leave-out --allowed-signers --syncaudit --history --html --watch",
 	"export":  "--observer --home --data --map --folder --names --slice --jobs --strict --leave-out --bytes --allowed-signers --into",
 	"watch":   "--jobs --still --syncaudit",
 	"sum":     "--lines --json --script",

@@ -29,7 +29,7 @@ var errTold = errors.New("refused")
 // command is one of the program's commands.
 type command func(words []string, output, log io.Writer) (int, error)
 
-var commands = map[string]command{"part": runPart, "check": runCheck, "run": runRun, "export": runExport, "sum": runSum, "find": runFind, "observe": runObserve, "disk": runDisk, "watch": runWatch}
+var commands = map[string]command{"part": runPart, "check": runCheck, "run": runRun, "export": runExport, "sum": runSum, "find": runFind, "observe": runObserve, "disk": runDisk, "watch": runWatch, "report": runReport}
 
 func main() {
 	err := fillDescriptors()
@@ -76,10 +76,10 @@ func run(words []string, output, log io.Writer) int {
 		return statusOfText("syncthing-audit "+version+"\n", output, log)
 	}
 	if len(words) == 0 {
-		return statusOf(&wrongUsage{"no command is given: part, check, run, observe, watch, disk, export, sum or find"}, output, log)
+		return statusOf(&wrongUsage{"no command is given: part, check, run, observe, watch, report, disk, export, sum or find"}, output, log)
 	}
 	if commands[words[0]] == nil {
-		return statusOf(&wrongUsage{fmt.Sprintf("%q is no command: part, check, run, observe, watch, disk, export, sum and find are", words[0])}, output, log)
+		return statusOf(&wrongUsage{fmt.Sprintf("%q is no command: part, check, run, observe, watch, report, disk, export, sum and find are", words[0])}, output, log)
 	}
 	status, err := commands[words[0]](words[1:], output, log)
 	if err == nil {

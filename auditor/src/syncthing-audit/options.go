@@ -31,6 +31,8 @@ type options struct {
 	json       bool
 	script     string // the directory where scripts of the answer's steps go; nothing where none are asked for
 	into       string
+	html       string // where a page goes
+	watch      string // the configuration of the nights that it is of
 	key        string // with which a part is signed; nothing where it isn't
 	signers    string // the file of those who may sign parts; nothing where that isn't asked
 	paths      bool   // whether a part has this machine's absolute paths

@@ -54,6 +54,10 @@ var ofAHome = []aRefusal{
 	{"refused: %s: folder %s is at %s in config.xml, and no --map has that: say where it is on this machine, as --map %s=DIR", "files", func(t *testing.T, room string) []string {
 		return append(makingPart(homeOf(t, "x", nil), filepath.Join(room, "a.part")), "--map", "/elsewhere=/x")
 	}},
+	{"refused: what nights left in %s can't be read: %w", "", func(t *testing.T, room string) []string {
+		state := filepath.Dir(with(t, filepath.Join(room, "state/nights.json"), "{"))
+		return []string{"report", "--html", filepath.Join(room, "a.html"), "--watch", watchOf(t, state)}
+	}},
 	{"refused: the device has no folder", "", func(t *testing.T, room string) []string {
 		return makingPart(reconfigured(t, `(?s)<folder id="docs".*?</folder>`, ""), filepath.Join(room, "a.part"))
 	}},

@@ -123,6 +123,8 @@ func (n *night) tell() int {
 		n.faults = append(n.faults, outside.Sprintf("the metrics can't be written: %v", err))
 		status = n.status()
 	}
+	n.keepNight(status)
+	status = n.status()
 	subject, text := n.subject(status), n.text()
 	outside.Print(n.output, text)
 	month := n.began.Format("2006-01")

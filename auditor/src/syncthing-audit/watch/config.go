@@ -26,6 +26,7 @@ type Config struct {
 	Slices   []Slices   `xml:"slices"`
 	State    []Place    `xml:"state"`
 	Metrics  []Place    `xml:"metrics"`
+	Page     []Place    `xml:"page"`
 	Mail     []Mail     `xml:"mail"`
 	Notify   []Command  `xml:"notify"`
 	Ping     []Command  `xml:"ping"`
@@ -202,8 +203,8 @@ func (c *Config) checkKnown() error {
 	for _, one := range c.Slices {
 		add(one.unknown, "slices")
 	}
-	for _, one := range append(append([]Place(nil), c.State...), c.Metrics...) {
-		add(one.unknown, "state> or <metrics")
+	for _, one := range append(append(append([]Place(nil), c.State...), c.Metrics...), c.Page...) {
+		add(one.unknown, "state>, <metrics> or <page")
 	}
 	for _, one := range c.Mail {
 		add(one.unknown, "mail")
@@ -221,7 +222,7 @@ func (c *Config) checkKnown() error {
 
 // checkCounts says what stands twice.
 func (c *Config) checkCounts() error {
-	for name, count := range map[string]int{"parts": len(c.Parts), "slices": len(c.Slices), "state": len(c.State), "metrics": len(c.Metrics), "mail": len(c.Mail),
+	for name, count := range map[string]int{"parts": len(c.Parts), "slices": len(c.Slices), "state": len(c.State), "metrics": len(c.Metrics), "page": len(c.Page), "mail": len(c.Mail),
 		"notify": len(c.Notify), "ping": len(c.Ping)} {
 		if count > 1 {
 			return fmt.Errorf("<%s> stands twice", name)

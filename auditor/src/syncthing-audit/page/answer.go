@@ -1,0 +1,186 @@
+package page
+
+import (
+	"time"
+
+	"syncthing-audit/finding"
+	"syncthing-audit/outside"
+	"syncthing-audit/shell"
+	"syncthing-audit/summary"
+)
+
+// Answer is the last answer of an audit, and what it saw.
+type Answer struct {
+	Audit   string    `json:"audit"` // its name; nothing where there is one alone
+	At      time.Time `json:"at"`
+	Status  int       `json:"status"`
+	Text    string    `json:"text"` // as a person reads it
+	Seen    time.Time `json:"seen"` // when the devices and folders were answered for; zero where they never were
+	Devices []Device  `json:"devices"`
+	Folders []Folder  `json:"folders"`
+	LeftOut []Left    `json:"left_out"`
+}
+
+// Left is a device or a folder that was left out.
+type Left struct {
+	What string `json:"what"`
+	Why  string `json:"why"`
+}
+
+// Device is a device that was audited.
+type Device struct {
+	ID   string    `json:"id"`
+	Name string    `json:"name"`
+	Read time.Time `json:"read"`
+}
+
+// Folder is a folder with what was found of it.
+type Folder struct {
+	ID      string `json:"id"`
+	Called  string `json:"called"`
+	Verdict string `json:"verdict"`
+	Names   int64  `json:"names"`
+	Wrong   int64  `json:"wrong"`
+	Moving  int64  `json:"in_motion"`
+	Cells   []Cell `json:"cells"`
+}
+
+// Cell is what was found of a folder on a device.
+type Cell struct {
+	Device  string `json:"device"` // its id
+	LeftOut string `json:"left_out"`
+	Wrong   int64  `json:"wrong"`
+	IsLeast bool   `json:"at_least"` // whether more names may be wrong there
+
+	Files      int64     `json:"files"` // of which the history has when they were read
+	Bytes      int64     `json:"bytes"`
+	Oldest     time.Time `json:"oldest"`
+	OldestName string    `json:"oldest_name"`
+}
+
+// AnswerOf gives what a page has of an answer; without one, of why there is none.
+func AnswerOf(audit string, at time.Time, status int, text string, told *summary.Summary) Answer {
+	made := Answer{Audit: audit, At: at, Status: status, Text: text}
+	if told == nil {
+		return made
+	}
+	made.Seen = at
+	for _, one := range told.Devices {
+		made.Devices = append(made.Devices, Device{one.ID, outside.Escaped(one.Name), one.Read})
+	}
+	for _, one := range told.Folders {
+		made.Folders = append(made.Folders, folderOf(told, one))
+	}
+	made.addLeftOut(append(append([]summary.LeftOut{}, told.LeftOut...), told.Earlier...))
+	return made
+}
+
+// folderOf gives a folder with its devices.
+func folderOf(told *summary.Summary, one *summary.Folder) Folder {
+	made := Folder{ID: one.ID, Called: shell.Folder(one.ID, one.Label), Verdict: verdictOf(one), Names: one.Names, Wrong: one.Wrong}
+	if one.Live != nil {
+		made.Moving = one.Live.Moving
+	}
+	wrong, listed := wrongAt(one)
+	for _, member := range one.Devices {
+		cell := Cell{Device: member.Device, Wrong: wrong[member.Device], IsLeast: listed < one.Wrong}
+		if told.Since != nil {
+			for _, read := range told.Since.Read {
+				if read.Folder == one.ID && read.Device == member.Device {
+					cell.Files, cell.Bytes, cell.Oldest, cell.OldestName = read.Files, read.Bytes, read.Oldest, shell.Path(string(read.OldestName))
+				}
+			}
+		}
+		made.Cells = append(made.Cells, cell)
+	}
+	return made
+}
+
+// wrongAt counts the names that are wrong at each device as far as they are listed, and all that are listed.
+func wrongAt(one *summary.Folder) (map[string]int64, int64) {
+	made, listed := map[string]int64{}, int64(0)
+	for _, file := range one.Files {
+		at := map[string]bool{}
+		for _, fault := range file.Faults {
+			at[fault.Device] = true
+		}
+		for device := range at {
+			made[device]++
+		}
+		if len(at) > 0 {
+			listed++
+		}
+	}
+	for _, group := range one.Groups {
+		for _, device := range group.Devices {
+			made[device] += group.Names
+		}
+		listed += group.Names
+	}
+	return made, listed
+}
+
+// verdictOf says in words how a folder is.
+func verdictOf(one *summary.Folder) string {
+	switch {
+	case one.Verdict == summary.NotInStep:
+		return NotInStep
+	case one.Verdict == summary.AsFar:
+		return AsFar
+	case one.Firm == finding.IsFirm:
+		return "in step and firm"
+	}
+	return InStep
+}
+
+// What is said of a folder and of a night.
+const (
+	InStep    = "in step"
+	AsFar     = "in step as far as audited"
+	NotInStep = "NOT in step"
+)
+
+// addLeftOut adds what was left out: to the list of that and, of a folder on a device, to its cell.
+func (a *Answer) addLeftOut(all []summary.LeftOut) {
+	for _, one := range all {
+		why, called := outside.Escaped(one.Why), outside.Escaped(one.Device)
+		if one.Folder != "" {
+			called = shell.Folder(one.Folder, "")
+			if one.Device != "" {
+				called += " of " + outside.Escaped(one.Device)
+			}
+		}
+		a.LeftOut = append(a.LeftOut, Left{called, why})
+		if one.Device == "" {
+			continue
+		}
+		for at := range a.Folders {
+			if folder := &a.Folders[at]; folder.ID == one.Folder {
+				folder.leaveOut(a.columnOf(one.Device), why)
+			}
+		}
+	}
+}
+
+// columnOf gives the id of a device that is named by that or by its name. One that wasn't audited has a column, too.
+func (a *Answer) columnOf(word string) string {
+	word = outside.Escaped(word)
+	for _, one := range a.Devices {
+		if one.ID == word || one.Name == word {
+			return one.ID
+		}
+	}
+	a.Devices = append(a.Devices, Device{ID: word})
+	return word
+}
+
+// leaveOut notes why a folder is left out on a device.
+func (f *Folder) leaveOut(device, why string) {
+	for at := range f.Cells {
+		if one := &f.Cells[at]; one.Device == device {
+			one.LeftOut = why
+			return
+		}
+	}
+	f.Cells = append(f.Cells, Cell{Device: device, LeftOut: why})
+}
