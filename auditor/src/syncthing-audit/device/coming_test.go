@@ -31,6 +31,9 @@ func TestFilesThatComeAndGo(t *testing.T) {
 		if bytes, err := bytesFor(room); err != nil || bytes > 2*50 {
 			t.Errorf("%d, %v", bytes, err)
 		}
+		if files, err := listingOf(room); files == nil && err == nil {
+			t.Error("no files are listed, and no fault is told")
+		}
 	}
 	close(ended)
 	<-done

@@ -4,6 +4,7 @@ import (
 	"bufio"
 	"bytes"
 	"encoding/binary"
+	"os"
 	"testing"
 )
 
@@ -19,6 +20,27 @@ func TestATextThatIsTooLong(t *testing.T) {
 		made := &manifest{}
 		if err := made.read(bufio.NewReader(bytes.NewReader(entry))); (err == nil) != one.isText {
 			t.Errorf("%d bytes: %v", one.length, err)
+		}
+	}
+}
+
+// A bit of a manifest that turns over is seen, wherever it is.
+func TestAManifestThatIsDamaged(t *testing.T) {
+	directory := t.TempDir()
+	fill(t, directory)
+	path := theOne(t, directory, "MANIFEST-*")
+	whole, err := os.ReadFile(path)
+	if err != nil {
+		t.Fatal(err)
+	}
+	for at := range whole {
+		torn := append([]byte(nil), whole...)
+		torn[at] ^= 4
+		if err := os.WriteFile(path, torn, 0o600); err != nil {
+			t.Fatal(err)
+		}
+		if said, err := readManifest(directory); err == nil {
+			t.Errorf("byte %d of %d: %+v", at, len(whole), said)
 		}
 	}
 }

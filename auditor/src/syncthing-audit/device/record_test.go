@@ -67,6 +67,13 @@ func TestRecords(t *testing.T) {
 		{"an old entry without a block size has the usual one", func(e *protocol.FileInfo) { e.RawBlockSize = 0 }, func(*part.Record) {}},
 		{"another of Syncthing's block sizes", func(e *protocol.FileInfo) { e.RawBlockSize = 2 * protocol.MinBlockSize },
 			func(r *part.Record) { r.Content.BlockSize *= 2 }},
+		{"of permissions the last nine bits count", func(e *protocol.FileInfo) { e.Permissions = 0o4755 }, func(r *part.Record) {
+			bits := uint32(0o755)
+			r.Permissions = &bits
+		}},
+		{"a local change without a version", func(e *protocol.FileInfo) {
+			e.LocalFlags, e.Version = protocol.FlagLocalReceiveOnly, protocol.Vector{}
+		}, func(r *part.Record) { r.Invalid, r.Version = true, [][2]uint64{} }},
 		{"no permissions", func(e *protocol.FileInfo) { e.NoPermissions = true }, func(r *part.Record) { r.Permissions = nil }},
 		{"16 counters", func(e *protocol.FileInfo) { e.Version = manyCounters(16) }, func(r *part.Record) {
 			r.Version = nil

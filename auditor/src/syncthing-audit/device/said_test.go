@@ -168,6 +168,16 @@ func TestCopiesOfFiles(t *testing.T) {
 	if err := os.Mkdir(filepath.Join(from, "c"), 0o700); err != nil {
 		t.Fatal(err)
 	}
+	open := func() int { // files of this test
+		count := 0
+		links, _ := filepath.Glob("/proc/self/fd/*")
+		for _, one := range links {
+			if path, err := os.Readlink(one); err == nil && (strings.HasPrefix(path, from) || strings.HasPrefix(path, to)) {
+				count++
+			}
+		}
+		return count
+	}
 	if err := copyFiles(from, to); err != nil {
 		t.Fatal(err)
 	}
@@ -186,5 +196,8 @@ func TestCopiesOfFiles(t *testing.T) {
 	}
 	if copyFile(filepath.Join(from, "a"), filepath.Join(to, "none", "a")) == nil {
 		t.Error("a copy is made in no directory")
+	}
+	if left := open(); left > 0 {
+		t.Errorf("%d files are open still", left)
 	}
 }

@@ -39,6 +39,7 @@ func TestWhatIsToldOfEntriesWithoutARecord(t *testing.T) {
 		entry func(*protocol.FileInfo)
 	}{
 		{"", func(*protocol.FileInfo) {}},
+		{"", func(e *protocol.FileInfo) { e.ModifiedNs = 0 }},
 		{"", func(e *protocol.FileInfo) { e.ModifiedNs = 999999999 }},
 		{"", func(e *protocol.FileInfo) { e.Version = vector(1, math.MaxInt64) }},
 		{"", large(func(*protocol.FileInfo) {})},
@@ -65,6 +66,7 @@ func TestWhatIsToldOfEntriesWithoutARecord(t *testing.T) {
 		{"records, 5 bytes: its version has a counter without device, of 0 or over 9223372036854775807", func(e *protocol.FileInfo) { e.Version = vector(1, 0) }},
 		{"records, 5 bytes: its version has a counter without device, of 0 or over 9223372036854775807", func(e *protocol.FileInfo) { e.Version = vector(1, 1<<63) }},
 		{"records, 5 bytes: its version has two counters of one device", func(e *protocol.FileInfo) { e.Version = vector(3, 1, 2, 1, 3, 2) }},
+		{"records, 5 bytes: its version has two counters of one device", func(e *protocol.FileInfo) { e.Version = vector(1, 1, 1, 2) }},
 		{"records, 0 bytes: it has a size or blocks, and is no file", func(e *protocol.FileInfo) { e.Type, e.Size = protocol.FileInfoTypeDirectory, 0 }},
 		{"records, 0 bytes: it has a size or blocks, and is no file", func(e *protocol.FileInfo) { e.Type, e.Blocks = protocol.FileInfoTypeDirectory, nil }},
 		{"records, 0 bytes: it is a directory with a target", func(e *protocol.FileInfo) { symlink("t")(e); e.Type = protocol.FileInfoTypeDirectory }},
