@@ -3,6 +3,7 @@
 // the tests once with nearly all mutants, each behind a switch, and runs for each mutant the tests that come to it.
 //
 //	tools/mutants/run [--turn K/N] [--sample N [--seed S]] [--seconds S] [--jobs N] PACKAGE..
+//	tools/mutants/run --classes MODULE:CLASS,.. [--sample N] PACKAGE..    what classes of real devices fail for (classes.go)
 //
 // Each mutant that all tests let pass is printed with file, line and change. One that stands in same.txt, with the reason why
 // nobody could see it, isn't counted. A line there of a package that is tried, and that names none of its mutants, has failed.
@@ -38,6 +39,7 @@ func main() {
 	seconds := flag.Int("seconds", 0, "begin no mutant after so many seconds")
 	jobs := flag.Int("jobs", 2, "how many at once")
 	most := flag.Float64("most", 5, "how many of a hundred mutants may survive")
+	classes := flag.String("classes", "", "in place of Go's tests, these classes of auditor/test: MODULE:CLASS,..")
 	same := flag.String("same", "", "the file of mutants that are the same program")
 	flag.Parse()
 	given := asked{sample: *sample, seed: *seed, jobs: *jobs, most: *most}
@@ -50,6 +52,14 @@ func main() {
 	var err error
 	if given.same, err = readSame(*same); err != nil {
 		fail(err)
+	}
+	if *classes != "" {
+		for _, path := range flag.Args() {
+			if err := tabulate(path, *classes, given); err != nil {
+				fail(err)
+			}
+		}
+		return
 	}
 	passed, failed, skipped := 0, 0, 0
 	for _, path := range flag.Args() {
@@ -171,7 +181,7 @@ func staleOf(path string, same map[string]bool, all []keyed) []string {
 func benchOf(of *loaded, due []keyed, room string) (*bench, error) {
 	on := &bench{packagePath: of.path, directory: of.directory, room: room}
 	var err error
-	if on.together, on.isAlone, err = together(of, due, room); err != nil {
+	if on.together, on.isAlone, err = together(of, due, room, compiledTests(of.path)); err != nil {
 		return nil, err
 	}
 	if on.together == "" {

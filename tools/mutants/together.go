@@ -20,12 +20,10 @@ const switches = `
 import (
 	mutantOS "os"
 	mutantNumber "strconv"
-	mutantSync "sync"
+	mutantAtomic "sync/atomic"
 )
 
 var mutantNow = func() int { number, _ := mutantNumber.Atoi(mutantOS.Getenv("MUTANT_NOW")); return number }()
-
-var mutantHad mutantSync.Map
 
 func mutantIs(number int) bool {
 	if mutantNow < 0 {
@@ -35,7 +33,7 @@ func mutantIs(number int) bool {
 }
 
 func mutantReached(number int) {
-	if _, had := mutantHad.LoadOrStore(number, true); had {
+	if mutantAtomic.LoadUint32(&mutantHad[number]) != 0 || mutantAtomic.SwapUint32(&mutantHad[number], 1) != 0 {
 		return
 	}
 	file, err := mutantOS.OpenFile(mutantOS.Getenv("MUTANT_REACHED"), mutantOS.O_APPEND|mutantOS.O_CREATE|mutantOS.O_WRONLY, 0o600)
@@ -119,9 +117,16 @@ func withAll(source []byte, put []insertion) []byte {
 	return append(all, source[from:]...)
 }
 
-// together compiles the package's tests once with all mutants that can be switched on. Those with which it isn't compiled are
+// compiledTests gives what compiles a package's tests.
+func compiledTests(path string) func(overlay, to string) *exec.Cmd {
+	return func(overlay, to string) *exec.Cmd {
+		return exec.Command("go", "test", "-overlay", overlay, "-vet=off", "-gcflags=-e", "-c", "-o", to, path)
+	}
+}
+
+// together compiles the package's tests, or a program, once with all mutants that can be switched on. Those with which it isn't compiled are
 // compiled alone later, as those are that have no switch: 'isAlone' has their places.
-func together(of *loaded, all []keyed, room string) (tests string, isAlone map[int]bool, err error) {
+func together(of *loaded, all []keyed, room string, compile func(overlay, to string) *exec.Cmd) (tests string, isAlone map[int]bool, err error) {
 	isAlone = map[int]bool{}
 	for place, found := range all {
 		if len(found.wraps) == 0 {
@@ -134,7 +139,7 @@ func together(of *loaded, all []keyed, room string) (tests string, isAlone map[i
 		if err != nil {
 			return "", nil, err
 		}
-		told, err := exec.Command("go", "test", "-overlay", overlay, "-vet=off", "-gcflags=-e", "-c", "-o", tests, of.path).CombinedOutput()
+		told, err := compile(overlay, tests).CombinedOutput()
 		if err == nil {
 			return tests, isAlone, nil
 		}
@@ -161,7 +166,8 @@ func writeAll(of *loaded, all []keyed, isAlone map[int]bool, room string) (strin
 			return "", err
 		}
 	}
-	if err := write(filepath.Join(of.directory, "mutant_switches.go"), []byte("package "+of.name+switches)); err != nil {
+	had := fmt.Sprintf("\nvar mutantHad [%d]uint32\n", len(all)+1)
+	if err := write(filepath.Join(of.directory, "mutant_switches.go"), []byte("package "+of.name+switches+had)); err != nil {
 		return "", err
 	}
 	text, err := json.Marshal(map[string]map[string]string{"Replace": replace})
