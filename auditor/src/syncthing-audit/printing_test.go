@@ -20,6 +20,7 @@ var mayWrite = map[string]string{
 	"script/script.go":    "steps of a shell script, whose names are quoted",
 	"script/text.go":      "a shell script around them",
 	"scripts.go":          "shell scripts",
+	"page/page.go":        "a page, whose texts html/template escapes",
 	"watch/metrics.go":    "a text for Prometheus, which has escapes of its own",
 }
 
