@@ -15,7 +15,7 @@ import (
 )
 
 // Version is the version of the JSON.
-const Version = 1
+const Version = 2
 
 // Verdicts.
 const (
