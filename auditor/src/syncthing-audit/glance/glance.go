@@ -22,6 +22,12 @@ type Glance struct {
 // markOfUnread is that of a name of which nothing can be told.
 const markOfUnread = "unread"
 
+// beforeDamaged stands before why the disk fails to give a name, and beforeBelow before why it fails to give what is below one.
+const (
+	beforeDamaged = "damaged "
+	beforeBelow   = "below "
+)
+
 // beforeIgnored stands before the mark of a directory that .stignore ignores. The index says whether the folder has it all the same.
 const beforeIgnored = "ignored "
 
@@ -43,6 +49,12 @@ func (w *Writer) Take(one disk.Found, isIgnored bool) error {
 	mark := one.Node.Mark()
 	if one.Node == nil {
 		mark = markOfUnread
+	}
+	if out := one.Out; out != nil && out.Kind == part.Damaged {
+		mark = beforeDamaged + out.Why
+		if out.Below {
+			mark = beforeDamaged + beforeBelow + out.Why
+		}
 	}
 	if isIgnored {
 		mark = beforeIgnored + mark
@@ -123,7 +135,7 @@ func (c *comparing) gone(before string) error {
 	for c.next != nil && (before == "" || c.next.name < before) {
 		if !strings.HasPrefix(c.next.mark, beforeIgnored) {
 			c.added++
-			if err := c.sink(part.Line{Name: &part.Name{Name: part.Bytes(c.next.name), Moved: []string{part.MovedDisk}}}); err != nil {
+			if err := c.sink(part.Line{Name: goneOf(*c.next)}); err != nil {
 				return err
 			}
 		}
@@ -143,9 +155,16 @@ func (c *comparing) name(line part.Line) error {
 			return err
 		}
 	}
-	isUnread := mark == markOfUnread && line.Name.Disk == nil && len(line.Name.Out) > 0
-	if line.Name.Disk.Mark() != mark && !isUnread && !line.Name.IsIgnored() && len(line.Name.Moved) == 0 {
-		line.Name = &part.Name{Name: line.Name.Name, Moved: []string{part.MovedDisk}}
+	lost, one := lostOf(mark), line.Name
+	isUnread := mark == markOfUnread && one.Disk == nil && len(one.Out) > 0
+	switch {
+	case one.IsIgnored() || one.IsDamaged() || len(one.Moved) > 0 || isUnread:
+	case lost != nil:
+		made := *one
+		made.Out = append(append([]part.LeftOut(nil), one.Out...), *lost)
+		line.Name = &made
+	case one.Disk.Mark() != mark:
+		line.Name = &part.Name{Name: one.Name, Moved: []string{part.MovedDisk}}
 	}
 	return c.sink(line)
 }
@@ -166,4 +185,22 @@ func WithoutChanging(one *part.Name) *part.Name {
 		}
 	}
 	return one
+}
+
+// lostOf gives what the disk failed to give at the glance, by its mark; nothing where it gave all. Nobody's change does that, so such a name isn't in motion.
+func lostOf(mark string) *part.LeftOut {
+	why := strings.TrimPrefix(mark, beforeDamaged)
+	if why == mark {
+		return nil
+	}
+	below := strings.TrimPrefix(why, beforeBelow)
+	return &part.LeftOut{Kind: part.Damaged, Why: below, Below: below != why}
+}
+
+// goneOf gives a name that was gone when its turn came.
+func goneOf(one glanced) *part.Name {
+	if lost := lostOf(one.mark); lost != nil {
+		return &part.Name{Name: part.Bytes(one.name), Out: []part.LeftOut{*lost}}
+	}
+	return &part.Name{Name: part.Bytes(one.name), Moved: []string{part.MovedDisk}}
 }

@@ -82,3 +82,63 @@ func TestAGlanceThatIsNotWhole(t *testing.T) {
 		}
 	}
 }
+
+// What the disk fails to give at one of the two walks alone is damaged, and isn't in motion: at the glance or behind it, a name or what is below one.
+func TestWhatADiskFailsToGiveAtOneWalk(t *testing.T) {
+	damaged := func(why string, below bool) *part.LeftOut {
+		return &part.LeftOut{Kind: part.Damaged, Why: why, Below: below}
+	}
+	node := func() *part.Node { return &part.Node{Size: 3, Stamp: "stamp"} }
+	for why, one := range map[string]struct {
+		glance disk.Found
+		line   *part.Name // nothing where the name is gone by then
+		told   string
+	}{
+		"at both, alike":             {disk.Found{Node: node()}, &part.Name{Disk: node()}, "0 moved, 0 damaged, below false, disk true"},
+		"another one":                {disk.Found{Node: node()}, &part.Name{Disk: &part.Node{Size: 4}}, "1 moved, 0 damaged, below false, disk false"},
+		"gone":                       {disk.Found{Node: node()}, nil, "1 moved, 0 damaged, below false, disk false"},
+		"at the glance":              {disk.Found{Out: damaged("why", false)}, &part.Name{Disk: node()}, "0 moved, 1 damaged, below false, disk true"},
+		"behind it":                  {disk.Found{Node: node()}, &part.Name{Out: []part.LeftOut{*damaged("why", false)}}, "0 moved, 1 damaged, below false, disk false"},
+		"at both":                    {disk.Found{Out: damaged("why", false)}, &part.Name{Out: []part.LeftOut{*damaged("why", false)}}, "0 moved, 1 damaged, below false, disk false"},
+		"at the glance, and gone":    {disk.Found{Out: damaged("why", false)}, nil, "0 moved, 1 damaged, below false, disk false"},
+		"what is below, and gone":    {disk.Found{Out: damaged("why", true)}, nil, "0 moved, 1 damaged, below true, disk false"},
+		"lost bytes of one that was": {disk.Found{Node: node()}, &part.Name{Disk: &part.Node{Size: 3, Stamp: "stamp", Lost: "why"}}, "0 moved, 0 damaged, below false, disk true"},
+	} {
+		file, err := os.Create(filepath.Join(t.TempDir(), "glance"))
+		if err != nil {
+			t.Fatal(err)
+		}
+		defer file.Close()
+		one.glance.Name = "a/"
+		writer := NewWriter(file)
+		if err := writer.Take(one.glance, false); err == nil {
+			err = writer.Flush()
+		}
+		if _, again := file.Seek(0, io.SeekStart); err != nil || again != nil {
+			t.Fatal(err, again)
+		}
+		told := ""
+		take := (&Glance{Folders: []*os.File{file}}).Compare(func(line part.Line) error {
+			if name := line.Name; name != nil {
+				told = fmt.Sprintf("%d moved, %d damaged, below %v, disk %v", len(name.Moved), len(name.Out), len(name.Out) > 0 && name.Out[0].Below, name.Disk != nil)
+				if len(name.Out) > 0 && name.Out[0].Why != "why" {
+					t.Errorf("%s: %v", why, name.Out)
+				}
+			}
+			return nil
+		})
+		lines := []part.Line{{Begin: &part.Begin{}}}
+		if one.line != nil {
+			one.line.Name = "a/"
+			lines = append(lines, part.Line{Name: one.line})
+		}
+		for _, line := range append(lines, part.Line{End: &part.End{}}) {
+			if err := take(line); err != nil {
+				t.Fatal(why, err)
+			}
+		}
+		if told != one.told {
+			t.Errorf("%s: %s", why, told)
+		}
+	}
+}
