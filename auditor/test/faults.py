@@ -1,6 +1,6 @@
 #!/usr/bin/env python3
 """Each system call of 'part', 'check' and 'run' that may fail is made to fail, in turn, on small homes: never a wrong answer, never a torn file,
-nothing left over, and the right status. So it is with signals and kills at random moments.
+nothing left over, no process left behind, and the right status. So it is with signals and kills at random moments. What gets a name is on the disk before.
 
     auditor/test/faults.py               for a time, a slice of the calls; the number of commits says which
     FAULTS=all auditor/test/faults.py    all of them, which takes an hour
@@ -68,6 +68,23 @@ def alone():
     can't have that."""
     tried = subprocess.run([*ALONE, "true"], capture_output=True)
     return ALONE if tried.returncode == 0 else []
+
+
+def calls_in(log):
+    """The calls that strace noted, each on one line, in the order of their ends."""
+    begun = {}
+    for line in log.read_text(errors="replace").splitlines():
+        thread, _, said = line.partition(" ")
+        said = said.lstrip()
+        if said.endswith(" <unfinished ...>"):
+            begun[thread] = said.removesuffix(" <unfinished ...>")
+        else:
+            yield re.sub(r"^<\.\.\. \w+ resumed>", lambda _: begun.pop(thread, ""), said)
+
+
+def failing(log):
+    """The calls that were made to fail."""
+    return [call for call in calls_in(log) if call.endswith("(INJECTED)")]
 
 
 class Unreal(Exception):
@@ -180,6 +197,11 @@ class Faults(Disturbed):
             if call == "read":
                 raise Unreal(f"{command}, {call} {place}") from None
             raise AssertionError(f"{command}, {call} {place}: it hangs") from None
+        failed = failing(room / "log")
+        if not failed:
+            self.seen["not met"] += 1
+        if any(one.startswith("write(2,") for one in failed):
+            log += "(its standard error failed)"
         ended = subprocess.CompletedProcess([], process.returncode, output, log)
         self.seen[ended.returncode] += 1
         return room, ended, f"{command}, {call} {place}: status {ended.returncode}: {ended.stderr[-1500:]}\n{ended.stdout[-500:]}\n"
@@ -259,14 +281,9 @@ class Durable(Disturbed):
         ran = run(["strace", "-f", "-qq", "-y", "-o", log, "-e", f"trace={','.join('?' + call for call in self.CALLS)}", *words],
                   env={**os.environ, "TMPDIR": str(log.parent)})
         self.assertEqual(ran.returncode, SETTLED, ran.stderr)
-        seen, begun = [], {}
-        for line in log.read_text(errors="replace").splitlines():
-            thread, _, said = line.partition(" ")
-            if said.endswith(" <unfinished ...>"):
-                begun[thread] = said.removesuffix(" <unfinished ...>")
-                continue
-            said = re.sub(r"^ *<\.\.\. \w+ resumed>", lambda _: begun.pop(thread), said)
-            found = re.match(r" *(\w+)\((?:\d+<([^>]*)>)?(.*) = \d", said)
+        seen = []
+        for said in calls_in(log):
+            found = re.match(r"(\w+)\((?:\d+<([^>]*)>)?(.*) = \d", said)
             if not found:
                 continue
             call, path, rest = found.groups()
