@@ -157,10 +157,10 @@ func parse(text []byte) (*Config, error) {
 	for {
 		token, err := decoder.Token()
 		if err == io.EOF {
-			if err := checkText(text); err != nil {
+			if err := made.check(); err != nil {
 				return made, err
 			}
-			return made, made.check()
+			return made, checkText(text)
 		}
 		if err != nil {
 			return made, err
