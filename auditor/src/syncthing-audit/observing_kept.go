@@ -8,6 +8,8 @@ import (
 	"github.com/syncthing/syncthing/lib/protocol"
 	"syncthing-audit/leftover"
 	"syncthing-audit/observe"
+	"syncthing-audit/outside"
+	"syncthing-audit/shell"
 	"syncthing-audit/wire"
 )
 
@@ -35,6 +37,10 @@ func (o *observing) keeperOf(id protocol.DeviceID) wire.Keeper {
 		kept, err := observe.OpenKept(directoryOfKept(o.asked.homes[0], folder, id))
 		if err != nil {
 			return nil, err
+		}
+		if damage := kept.Damage(); damage != nil {
+			outside.Printf(o.log, "syncthing-audit: what the last run kept of folder %s at %s is damaged, and isn't used: whether its index went back since isn't known (%v)\n",
+				shell.Quoted(folder), id, damage)
 		}
 		if o.kept[id] == nil {
 			o.kept[id] = map[string]*observe.Kept{}

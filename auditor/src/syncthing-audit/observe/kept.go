@@ -18,6 +18,7 @@ type Kept struct {
 	directory  string
 	lock       *os.File
 	last, next *wire.Index
+	damage     error // why what was kept is gone; nothing where it isn't
 }
 
 // ErrBusy says that another run looks at the device.
@@ -70,11 +71,21 @@ func (k *Kept) open() error {
 		}
 	}
 	var err error
-	if k.last, err = wire.OpenIndex(k.path(nameOfLast)); err == nil {
+	k.last, err = wire.OpenIndex(k.path(nameOfLast))
+	if wire.IsDamaged(err) { // it would keep each later run from this device, too
+		k.damage = err
+		if err = os.RemoveAll(k.path(nameOfLast)); err == nil {
+			k.last, err = wire.OpenIndex(k.path(nameOfLast))
+		}
+	}
+	if err == nil {
 		k.next, err = wire.OpenIndex(k.path(nameOfNext))
 	}
 	return err
 }
+
+// Damage says why what the last run kept couldn't be read, and is gone; nothing where it could. Whether the device went back since isn't known then.
+func (k *Kept) Damage() error { return k.damage }
 
 // Next gives the index that this run takes.
 func (k *Kept) Next() *wire.Index { return k.next }

@@ -7,6 +7,7 @@ import (
 	"math"
 
 	"github.com/syndtr/goleveldb/leveldb"
+	ldberrors "github.com/syndtr/goleveldb/leveldb/errors"
 	"github.com/syndtr/goleveldb/leveldb/opt"
 	"github.com/syndtr/goleveldb/leveldb/storage"
 	"github.com/syndtr/goleveldb/leveldb/util"
@@ -48,6 +49,8 @@ func OpenIndex(directory string) (*Index, error) {
 	return made, nil
 }
 
+var errNoIndex = errors.New("it is none")
+
 // openIndex opens the index that these files have. The last write may be there in part, where a process was killed: it counts as not made.
 func openIndex(files storage.Storage) (*Index, error) {
 	db, err := leveldb.Open(files, &opt.Options{Strict: opt.DefaultStrict})
@@ -60,7 +63,7 @@ func openIndex(files storage.Storage) (*Index, error) {
 	case errors.Is(err, leveldb.ErrNotFound):
 		return made, nil
 	case err == nil && len(about) != bytesOfHead:
-		err = errors.New("it is none")
+		err = errNoIndex
 	}
 	if err != nil {
 		db.Close()
@@ -68,6 +71,12 @@ func openIndex(files storage.Storage) (*Index, error) {
 	}
 	made.ID, made.Highest = binary.BigEndian.Uint64(about), int64(binary.BigEndian.Uint64(about[8:]))
 	return made, nil
+}
+
+// IsDamaged says whether an index can't be opened since its files aren't what was written.
+func IsDamaged(err error) bool {
+	var damaged *storage.ErrCorrupted
+	return errors.As(err, &damaged) || ldberrors.IsCorrupted(errors.Unwrap(err)) || errors.Is(err, errNoIndex)
 }
 
 // Close closes the index.
