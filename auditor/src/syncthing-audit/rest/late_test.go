@@ -30,12 +30,19 @@ func silent(t *testing.T, words string) config.GUIConfiguration {
 	return config.GUIConfiguration{RawAddress: listening.Addr().String(), APIKey: "key"}
 }
 
-// Where Syncthing never ends its answer, a scan and each question end in time, and each says so.
+// Where Syncthing never ends its answer, a scan and each question end in time, and each says so. All are asked at once: each has time enough on a busy
+// machine.
 func TestAnAnswerThatNeverComes(t *testing.T) {
 	of, scan := atOnce, longestScan
 	t.Cleanup(func() { atOnce, longestScan = of, scan })
-	atOnce, longestScan = 200*time.Millisecond, 300*time.Millisecond
+	atOnce, longestScan = 2*time.Second, 2*time.Second
 	const begun = "HTTP/1.1 500 Odd\r\nContent-Length: 100\r\n\r\nfolder is "
+	type ended struct {
+		what, words string
+		err         error
+	}
+	all := make(chan ended)
+	count := 0
 	for _, words := range []string{"", "HTTP/1.1 2", begun, strings.Replace(begun, "500", "200", 1)} {
 		asked := Syncthing{Home: homeInUse(t), GUI: silent(t, words)}
 		for what, ask := range map[string]func() error{
@@ -44,20 +51,23 @@ func TestAnAnswerThatNeverComes(t *testing.T) {
 			"data":    func() error { _, err := asked.DataDirectory(); return err },
 			"started": func() error { _, err := asked.Started(); return err },
 		} {
-			isScanned := what == "scan" && strings.Contains(words, " 200 ") // its status says all
-			ended := make(chan error, 1)
-			go func() { ended <- ask() }()
-			select {
-			case err := <-ended:
-				if (err == nil) != isScanned {
-					t.Errorf("%s, %q: %v", what, words, err)
-				}
-				if what == "scan" && len(words) < len(begun) && !strings.Contains(err.Error(), "folder docs isn't scanned: Syncthing wasn't done in 300ms") {
-					t.Errorf("%q: %v", words, err)
-				}
-			case <-time.After(20 * time.Second):
-				t.Fatalf("%s, %q: it waits for ever", what, words)
+			what, words, ask := what, words, ask
+			count++
+			go func() { all <- ended{what, words, ask()} }()
+		}
+	}
+	for ; count > 0; count-- {
+		select {
+		case one := <-all:
+			isScanned := one.what == "scan" && strings.Contains(one.words, " 200 ") // its status says all
+			if (one.err == nil) != isScanned {
+				t.Errorf("%s, %q: %v", one.what, one.words, one.err)
 			}
+			if one.what == "scan" && len(one.words) < len(begun) && !strings.Contains(one.err.Error(), "folder docs isn't scanned: Syncthing wasn't done in 2s") {
+				t.Errorf("%q: %v", one.words, one.err)
+			}
+		case <-time.After(30 * time.Second):
+			t.Fatalf("%d wait for ever", count)
 		}
 	}
 }
