@@ -9,27 +9,55 @@ import fcntl
 import json
 import os
 import re
+import shutil
+import subprocess
+import tempfile
 import time
+import unittest
 from pathlib import Path
 
-from exporting import PROGRAM, auditor, in_step, main, run
+from exporting import PROGRAM, auditor, built, in_step, is_over, main, run
 from large_folders import rot
-from nightly import CONTRIB, Audited
 
+CONTRIB = Path(__file__).resolve().parents[1] / "nightly"
 UNIT = CONTRIB / "systemd" / "syncthing-audit-watch.service"
 SSH = '''#!/bin/sh
 echo "ssh: connect to host off: No route to host" >&2
 exit 255
 '''
+SENDMAIL = '''#!/bin/sh
+cat >> "$(dirname "$0")/mails"
+'''
 
 
-class Watched(Audited):
-    """Two devices in step; each case has a user's home of its own."""
+class Nights(unittest.TestCase):
+    """Two devices in step; each case has a user's home of its own, and nights in it."""
+
+    FILES = 20
+
+    @classmethod
+    def setUpClass(cls):
+        if is_over():
+            raise unittest.SkipTest("the time is over")
+        room = tempfile.TemporaryDirectory(prefix="syncthing-audit-test-")
+        cls.addClassCleanup(room.cleanup)
+        cls.room = Path(room.name)
+        cls.programs = built(cls.room)
+        run([cls.programs / "sample", "--files", str(cls.FILES), "--bytes", "100", cls.room / "made"], check=True)
+        cls.homes = [cls.room / "made" / f"device{number}" / "home" for number in (1, 2)]
 
     def setUp(self):
-        super().setUp()
-        (self.tools / "ssh").write_text(SSH)
-        (self.tools / "ssh").chmod(0o755)
+        if is_over():
+            self.skipTest("the time is over")
+        self.user = Path(tempfile.mkdtemp(dir=self.room))
+        self.tools, self.metrics = self.user / ".local/bin", self.user / "metrics.prom"
+        self.parts = self.user / ".local/state/syncthing-audit"
+        self.tools.mkdir(parents=True)
+        self.parts.mkdir(parents=True)
+        for name, text in (("ssh", SSH), ("sendmail", SENDMAIL)):
+            (self.tools / name).write_text(text)
+            (self.tools / name).chmod(0o755)
+        (self.tools / PROGRAM).symlink_to(self.programs / PROGRAM)
         self.state = self.user / ".local/state/syncthing-audit/watch"
         self.configuration = self.user / ".config/syncthing-audit/watch.xml"
         self.configuration.parent.mkdir(parents=True)
@@ -52,6 +80,10 @@ class Watched(Audited):
     def subjects(mails):
         """The subjects of mails, behind the host's name."""
         return [line.split(": ", 2)[2] for line in mails.splitlines() if line.startswith("Subject: ")]
+
+
+class Watched(Nights):
+    """All that a night does by itself."""
 
     def test_silence_means_something(self):
         """The first night tells how all is, and each first one of a month. The others are silent."""
@@ -134,7 +166,7 @@ class Watched(Audited):
 
     def test_configurations_that_are_wrong(self):
         """Nothing is done then, and it is told, as far as it is known whom to tell."""
-        for elements, why in (('<device plaice="x"/>', "<device> has no attribute plaice"), ("<devices/>", "<watch> has no element <devices>"),
+        for elements, why in (('<device plaice="x"/>', "<device> has no attribute plaice"), ("<devices place=\"x\"/>", "<watch> has no element <devices>"),
                               ("", "it names no <device>, no <parts> and no <observed>"), ('<device place=""/>', 'place=".."> isn\'t given'),
                               (f'{self.homes_alone}<slices count="0"/>', 'count="0" isn\'t taken'), (f'{self.homes_alone}<slices count="7" hour="24"/>', 'hour="24" isn\'t taken'),
                               (f'{self.homes_alone}<slices count="seven"/>', "invalid syntax"), (f'{self.homes_alone}<state path="a"/><state path="b"/>', "<state> stands twice"),
@@ -244,6 +276,20 @@ class Watched(Audited):
         status, _, mails = self.night()
         self.assertEqual((status, "what earlier nights left for the page can't be read, and is lost: " in mails), (2, True))
         self.assertEqual(self.night()[::2], (0, ""))
+
+    def test_the_units_are_read_by_systemd(self):
+        if not shutil.which("systemd-analyze"):
+            self.skipTest("systemd-analyze isn't installed")
+        units = self.user / ".config/systemd/user"
+        units.mkdir(parents=True)
+        for path in (CONTRIB / "systemd").iterdir():
+            shutil.copy(path, units)
+        (self.user / ".config/syncthing-audit/part.conf").touch()
+        ran = subprocess.run(["systemd-analyze", "--user", "verify", "--man=no", *units.iterdir()], capture_output=True, text=True,
+                             env={"HOME": str(self.user), "PATH": os.environ["PATH"], "XDG_RUNTIME_DIR": str(self.user)})
+        # The system's own units are read, too. A socket of theirs has too long a path where the temporary directory has a long one.
+        of_these = tuple(word for unit in units.iterdir() for word in (str(unit), unit.name))
+        self.assertEqual((ran.returncode, [line for line in ran.stderr.splitlines() if line.startswith(of_these)]), (0, []))
 
     def test_the_units_are_units(self):
         """The example of a configuration is one, too, and the page's commands name files that are there."""

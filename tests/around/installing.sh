@@ -20,12 +20,9 @@ examples_named() {
 }
 
 expect "no example in the help and the man page: $(examples_named)" [ "$(examples_named | wc -l)" -ge 4 ]
-# A night has limits, and the strict drop-in lets it write nowhere else.
+# A night has limits.
 for unit in auditor/nightly/systemd/*.service; do
   expect "$unit has no limit of time or none of memory" [ "$(grep -cE '^(TimeoutStartSec|MemoryMax)=.' "$unit")" = 2 ]
-done
-for line in ProtectSystem=strict ProtectHome=read-only PrivateTmp=yes NoNewPrivileges=yes; do
-  expect "strict.conf lacks $line" grep -qx "$line" auditor/nightly/strict.conf
 done
 
 # Whatever builds with Go takes no settings of its user's, and no other Go than Debian's.
