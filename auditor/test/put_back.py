@@ -103,12 +103,38 @@ class PutBack(unittest.TestCase):
         there = {text_of(path) for root in (self.saved, *(device.files for device in self.devices)) for path in root.rglob("*") if path.is_file()}
         return set(GOOD.values()) - there
 
-    def try_(self, steps, *groups):
+    def follow_scripts(self, _):
+        """Fills in and runs the scripts of an answer, in the order of their names."""
+        homes = [word for device in self.devices for word in ("--home", device.home)]
+        scripts = self.saved / "scripts"
+        ran = subprocess.run([self.program, "check", *homes, "--syncaudit", auditor(), "--script", scripts], capture_output=True, text=True)
+        self.assertEqual(ran.returncode, 1, ran.stderr)
+        for path in sorted(scripts.iterdir()):
+            device = next(device for device in self.devices if path.name.endswith(f"-{device.id[:7]}.sh"))
+            path.write_text("\n".join(self.filled(line, device) for line in path.read_text().split("\n")))
+            subprocess.run(["sh", path], check=True, stdout=subprocess.DEVNULL)
+            self.assertEqual(self.missing(), set(), path)
+
+    def filled(self, line, on):
+        """A line of a script, with what it asks for filled in."""
+        named = line.split("=")[0]
+        if named == "stopped":
+            return "stopped=yes"
+        if named == "aside":
+            return f"aside='{self.saved / 'aside' / on.id[:7]}'"
+        if named.startswith("folder_"):
+            return f"{named}='{on.files}'"
+        if named.startswith("source_"):
+            device = next(device for device in self.devices if f" of {device.id[:7]} is" in line)
+            return f"{named}='{device.files}'"
+        return line
+
+    def try_(self, steps, *groups, follow=None):
         """Makes these steps, has groups of devices run one after another, gives what each device has then of the good names, and puts all back."""
         kept = self.room.with_name("kept")
         subprocess.run(["cp", "-a", self.room, kept], check=True)
         try:
-            self.follow(steps)
+            (follow or self.follow)(steps)
             for group in groups:
                 start(group)
                 rest([device for device in self.devices if device.process])
@@ -127,6 +153,11 @@ class PutBack(unittest.TestCase):
             self.assertEqual(came, GOOD)
         self.assertEqual(self.outlook()["without_steps"], 1, "nobody can tell which bytes of one file are right")
         self.assertEqual({text_of(path) for path in self.saved.rglob("*") if path.is_file()}, {"rotten", "goo", "good grown", "a file"})
+
+    def test_scripts_bring_all_back(self):
+        one, two, three = self.devices
+        for came in self.try_(None, [two, three], [one], follow=self.follow_scripts):
+            self.assertEqual(came, GOOD)
 
     def test_what_has_its_steps_is_right_if_the_next_is_never_made(self):
         """All run after some of the steps, each time after others."""
