@@ -26,7 +26,7 @@ func filesIn(t *testing.T, directory string) []string {
 // A kept index that a disk damaged keeps no run from a device, and crashes or hangs none. What couldn't be read is told, and the next run keeps one again.
 func TestADamagedIndexThatIsKept(t *testing.T) {
 	draw, damaged := rand.New(rand.NewSource(1)), 0
-	for round := 0; round < 60; round++ {
+	for round := 0; round < 30; round++ {
 		directory := t.TempDir()
 		run(t, directory, fileOf("a", 1, true), fileOf("b", 2, true), fileOf("c", 3, true))
 		files := filesIn(t, filepath.Join(directory, "last"))
@@ -76,7 +76,7 @@ func TestADamagedIndexThatIsKept(t *testing.T) {
 			kept.Close()
 		}
 	}
-	if damaged < 10 {
+	if damaged < 5 {
 		t.Errorf("only %d were damaged so that it was seen", damaged)
 	}
 }
