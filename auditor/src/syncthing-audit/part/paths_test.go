@@ -2,6 +2,7 @@ package part
 
 import (
 	"reflect"
+	"strings"
 	"testing"
 )
 
@@ -25,4 +26,18 @@ func TestNoReasonTellsAFoldersPath(t *testing.T) {
 		}
 	}
 	(&Name{Out: []LeftOut{{}}}).HidePaths("/srv") // nothing stands on the disk
+}
+
+// Another index is named where the part tells paths, and what to do is told by whose it is.
+func TestWhatAnotherIndexIsCalled(t *testing.T) {
+	for called, one := range map[string]*Newer{"another index": {}, "'/srv/my index'": {Path: "/srv/my index"}} {
+		if one.Called() != called {
+			t.Errorf("%s, not %s", one.Called(), called)
+		}
+	}
+	for isOfTwo, begin := range map[bool]string{true: "If Syncthing 2 runs on that device now", false: "If Syncthing has its database there now"} {
+		if told := (&Newer{IsOfTwo: isOfTwo}).WhatToDo(); !strings.HasPrefix(told, begin) {
+			t.Error(told)
+		}
+	}
 }
