@@ -167,7 +167,7 @@ class Watched(Nights):
     def test_configurations_that_are_wrong(self):
         """Nothing is done then, and it is told, as far as it is known whom to tell."""
         for elements, why in (('<device plaice="x"/>', "<device> has no attribute plaice"), ("<devices place=\"x\"/>", "<watch> has no element <devices>"),
-                              ("", "it names no <device>, no <parts> and no <observed>"), ('<device place=""/>', 'place=".."> isn\'t given'),
+                              ("", "it names no <device>, no <parts> and no <observed>"), ('<device place=""/>', '<device place=""> is empty'), ('<device data="x"/>', 'place=".."> isn\'t given'),
                               (f'{self.homes_alone}<slices count="0"/>', 'count="0" isn\'t taken'), (f'{self.homes_alone}<slices count="7" hour="24"/>', 'hour="24" isn\'t taken'),
                               (f'{self.homes_alone}<slices count="seven"/>', "invalid syntax"), (f'{self.homes_alone}<state path="a"/><state path="b"/>', "<state> stands twice"),
                               ('<observed id="A" address="tcp://a:1"/>', "each <folder> is to be named"), (f'<parts directory="{self.parts}" hours="-1"/>', 'hours="-1" isn\'t taken'),
