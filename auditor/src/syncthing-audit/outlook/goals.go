@@ -15,6 +15,18 @@ func goalOf(name *forecast.Name, told *Name, kinds []damage.Kind) *forecast.Node
 			return nil
 		}
 	}
+	if node := wantedOf(name, told); node != nil && !isEmptyBesideBytes(name, node) {
+		return node
+	}
+	return nil
+}
+
+// isEmptyBesideBytes says whether something is an empty file, and another one at the name has bytes: it may be damage, also where it was recorded.
+func isEmptyBesideBytes(name *forecast.Name, node *forecast.Node) bool {
+	return thingOf(node).isEmpty() && slices.IndexFunc(name.Disk, func(what *forecast.Node) bool { return what != nil && what.Content.Size > 0 }) >= 0
+}
+
+func wantedOf(name *forecast.Name, told *Name) *forecast.Node {
 	switch told.Fate {
 	case Lost:
 		return lastRecorded(name, told.certain)

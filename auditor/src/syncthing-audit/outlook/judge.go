@@ -100,6 +100,7 @@ func keptOf(end *forecast.End) map[string]map[int]forecast.Why {
 func (j *judge) name(name *forecast.Name) Name {
 	made := Name{Name: part.Bytes(name.Name), IsAll: j.answer.IsAll, Ends: j.endsOf(name), Loses: j.losesOf(name), Kept: j.keptOf(name), Now: thingsNow(name)}
 	made.certain = j.losesWithoutMeeting(name, made.Loses)
+	made.deleted = j.deletedOf(name, made.Ends)
 	switch {
 	case len(made.Loses) > 0:
 		made.Fate = Lost

@@ -1,6 +1,7 @@
 package outlook
 
 import (
+	"golang.org/x/exp/slices"
 	"syncthing-audit/damage"
 	"syncthing-audit/forecast"
 	"syncthing-audit/part"
@@ -24,6 +25,22 @@ func (j *judge) losesOf(name *forecast.Name) []Thing {
 		}
 	}
 	return made
+}
+
+// deletedOf gives what goes by a recorded deletion: nothing stands at the name at some end.
+func (j *judge) deletedOf(name *forecast.Name, ends [][]Thing) []Thing {
+	var made []Thing
+	for _, thing := range filesOf(thingsNow(name)) {
+		if slices.IndexFunc(ends, isEmptyEnd) >= 0 && !j.survives(name.Name, &thing) && j.wayOf(name, &thing) == byRecord {
+			made = append(made, thing)
+		}
+	}
+	return made
+}
+
+// isEmptyEnd says whether nothing stands at a name but copies.
+func isEmptyEnd(end []Thing) bool {
+	return slices.IndexFunc(end, func(thing Thing) bool { return !thing.IsCopy }) < 0
 }
 
 // goesBy says whether something that stands at a name goes in this way.

@@ -64,6 +64,7 @@ type Name struct {
 	Plan  *Plan   `json:"-"`
 
 	certain []Thing // what is lost where no conflict copies meet, too
+	deleted []Thing // what goes by a recorded deletion, where nothing stands at the name in the end
 }
 
 // Thing is what stands at a name, or in a conflict copy of it, on some devices.

@@ -86,7 +86,8 @@ func (p *planner) plan(group *forecast.World, told []Name, damaged map[string][]
 	}
 	for place := range told {
 		if told[place].Plan == nil && told[place].Fate == Lost {
-			told[place].Plan = &Plan{Steps: savesOf(&group.Names[place], told[place].Loses, damaged[group.Names[place].Name]), IsAll: told[place].IsAll}
+			goes := append(append([]Thing{}, told[place].Loses...), told[place].deleted...)
+			told[place].Plan = &Plan{Steps: savesOf(&group.Names[place], goes, damaged[group.Names[place].Name]), IsAll: told[place].IsAll}
 		}
 	}
 }
@@ -264,7 +265,7 @@ func planOf(group *forecast.World, one hand, found *advice.Plan, damaged map[str
 			thing := thing
 			made.Goal = &thing
 		}
-		if !thing.isEmpty() && !judge.survives(name.Name, &thing) && judge.wayOf(name, &thing) == byNothing {
+		if !thing.isEmpty() && !judge.survives(name.Name, &thing) && judge.wayOf(name, &thing) != byRecord {
 			made.Steps = append(made.Steps, Step{Act: Save, Member: thing.Members[0]})
 		}
 		if judge.isCopyAtAll(name.Name, &thing) {

@@ -90,7 +90,7 @@ func (r *repair) find() {
 		wasHarmed := false
 		for member := range name.Disk {
 			wasHarmed = wasHarmed || r.isHarmed(name, member, name.Disk[member], &r.told[place])
-			if what := r.world.At(member, name.Name); r.isHarmed(name, member, what, &r.told[place]) && r.hasDirectoryAbove(member, name.Name) {
+			if what := r.world.At(member, name.Name); member != from && r.isHarmed(name, member, what, &r.told[place]) && r.hasDirectoryAbove(member, name.Name) {
 				r.add(name.Name, member, from, what, due)
 			}
 		}
@@ -223,10 +223,13 @@ func (r *repair) dueOf(name *forecast.Name, told *Name) (*forecast.Node, int) {
 			last = own
 		}
 	}
-	if from >= 0 || last == nil || last.Deleted {
-		return due, from
+	if from < 0 && last != nil && !last.Deleted {
+		due, from = r.holderOf(name, last)
 	}
-	return r.holderOf(name, last)
+	if due != nil && isEmptyBesideBytes(name, due) {
+		return nil, -1
+	}
+	return due, from
 }
 
 // isLater says whether a record takes the place of another one, as Syncthing chooses.

@@ -110,7 +110,7 @@ var repairs = []struct {
 		cut(row.At[0].Disk, 9, 90)
 		cut(row.At[1].Disk, 0, 0)
 		return []*join.Row{row}
-	}, "a: copy to 1 from 0; then what 0 have"},
+	}, "a: save on 2, copy to 1 from 0; then what 0 have"},
 	{"a directory comes back with all that is below it", func() []*join.Row {
 		all := full(30)
 		goneAt(1, all)

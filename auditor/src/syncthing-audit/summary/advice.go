@@ -265,7 +265,7 @@ func diskAdvice(one *Fault, file *File, named labels) string {
 	switch {
 	case file.foretold.hasGoal() || file.isRightByItself() || one.Cause == Missing && (file.comesBack(one) || file.isGoneElsewhere(one)):
 		return ""
-	case one.Cause != Missing && (file.foretold.is(outlook.Deleted) || file.foretold.is(outlook.ByItself)): // a recorded change takes its place
+	case one.Cause != Missing && (file.foretold.is(outlook.Deleted) || file.foretold.is(outlook.ByItself)) || file.isToGoOn(one.Device): // a recorded change takes its place
 		return ""
 	case file.foretold.isKnown() && takes != "" && one.Cause != Changed:
 		return ""
@@ -281,6 +281,12 @@ func diskAdvice(one *Fault, file *File, named labels) string {
 		have = "To have again what "
 	}
 	return told + have + at + " recorded, " + file.putsBack(one, named)
+}
+
+// isToGoOn says whether it is known that a device takes a recorded deletion of the name.
+func (f *File) isToGoOn(device string) bool {
+	lack := f.lackOn(device)
+	return f.foretold.isKnown() && lack != nil && lack.Deletion
 }
 
 // recordAdvice says what a record asks for that isn't as others', where that isn't foretold.
