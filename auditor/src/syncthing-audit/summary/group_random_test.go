@@ -82,3 +82,19 @@ func rowText(row *join.Row) string {
 	}
 	return text
 }
+
+// Names of which other things go aren't told as one, though the same is to be done about them.
+func TestNamesThatBecomeOtherThingsAreNotOneGroup(t *testing.T) {
+	answer := answerOf(2, func(folder *finding.Folder) {
+		for number := 0; number <= mostAlone; number++ {
+			other := byte(10 + 3*number)
+			fails(folder, fmt.Sprint("changed ", number), []*part.Name{file(2, other), file(1, other+1)}, "RecordDiffers 2", "StoreDiffers 2")
+			fails(folder, fmt.Sprint("new ", number), []*part.Name{file(2, other+2), nil}, "RecordMissing 2", "StoreDiffers 2")
+		}
+	})
+	foretellAll(answer)
+	groups := Of(answer).Folders[0].Groups
+	if len(groups) != 2 || !reflect.DeepEqual(groups[0].Advice, groups[1].Advice) || groups[0].Foretold == groups[1].Foretold {
+		t.Errorf("%d groups: %+v", len(groups), groups)
+	}
+}

@@ -40,7 +40,7 @@ func voicesOf(advice []string) string {
 // An entry speaks with one voice, be it of one name or of a group, and whatever is known of what happens.
 func TestAnEntrySpeaksWithOneVoice(t *testing.T) {
 	found := map[string]int{}
-	for seed := int64(1); seed <= manyWorlds; seed++ {
+	for seed := int64(1); seed <= manyWorlds/2; seed++ {
 		random := rand.New(rand.NewSource(seed))
 		all := randomWorld(random)
 		row := all.randomName(random)
@@ -66,7 +66,7 @@ func TestAnEntrySpeaksWithOneVoice(t *testing.T) {
 		}
 	}
 	for _, what := range []string{"nothing", "runs", "right", "before", "back"} {
-		if found[what] < 15 {
+		if found[what] < 8 {
 			t.Errorf("too few entries of a kind: %v", found)
 		}
 	}
@@ -75,7 +75,7 @@ func TestAnEntrySpeaksWithOneVoice(t *testing.T) {
 // What an entry points to stands above it, and nothing is chosen beside steps that change what it does.
 func TestWhatAnEntryPointsToStandsAbove(t *testing.T) {
 	found := map[string]int{}
-	for seed := int64(1); seed <= manyWorlds/2; seed++ {
+	for seed := int64(1); seed <= manyWorlds/4; seed++ {
 		random := rand.New(rand.NewSource(seed))
 		all := randomWorld(random)
 		for _, name := range []string{"a", "b", "c"} {
@@ -97,7 +97,7 @@ func TestWhatAnEntryPointsToStandsAbove(t *testing.T) {
 		}
 		found["another audit"] += strings.Count(text, "as another audit says")
 	}
-	if found["to do in"] < 50 || found["to choose in"] < 10 || found["another audit"] < 10 {
+	if found["to do in"] < 25 || found["to choose in"] < 5 || found["another audit"] < 5 {
 		t.Error("too few entries of a kind:", found)
 	}
 }
