@@ -1,6 +1,7 @@
 package stignore
 
 import (
+	"errors"
 	"fmt"
 	"strings"
 
@@ -18,13 +19,44 @@ type Patterns struct {
 type pattern struct {
 	text      string
 	match     glob.Glob
+	linear    *linear
+	stars     int // and braces
 	isIgnored bool
 	foldsCase bool
+}
+
+// How many characters that stand for others a line may have, and all lines together. The package that compiles patterns takes the cube of a line's, and a
+// part may come from anybody.
+const (
+	mostWild      = 64
+	mostWildOfAll = 20000
+	mostPattern   = 4096 // bytes: no path is longer
+)
+
+// errTooWild says that patterns take too long.
+var errTooWild = errors.New("it takes too long")
+
+// checkWild says whether lines take too long to be compiled or compared.
+func checkWild(lines []string) error {
+	all := 0
+	for _, line := range lines {
+		wild := 0
+		for _, one := range "*?[{," {
+			wild += strings.Count(line, string(one))
+		}
+		if all += wild; wild > mostWild || all > mostWildOfAll || len(line) > mostPattern {
+			return fmt.Errorf("it has over %d bytes or %d of the characters '*?[{,' on a line, or over %d of these: %w", mostPattern, mostWild, mostWildOfAll, errTooWild)
+		}
+	}
+	return nil
 }
 
 // Parse reads the lines of a .stignore whose includes are in their places. On some systems patterns don't heed case.
 func Parse(lines []string, foldCase bool) (*Patterns, error) {
 	made := &Patterns{}
+	if err := checkWild(lines); err != nil {
+		return nil, err
+	}
 	for _, line := range lines {
 		if strings.HasPrefix(line, "#") {
 			return nil, fmt.Errorf("it has the line %q, which this program doesn't know", line)
@@ -68,9 +100,12 @@ func (p *Patterns) add(line string, foldCase bool) error {
 		one := made
 		var err error
 		one.text = next
-		if one.match, err = glob.Compile(strings.TrimPrefix(next, "/"), '/'); err != nil {
+		text := strings.TrimPrefix(next, "/")
+		if one.match, err = glob.Compile(text, '/'); err != nil {
 			return err
 		}
+		one.linear = &linear{pattern: text}
+		one.stars = strings.Count(strings.ReplaceAll(text, "**", "*"), "*") + strings.Count(text, "{")
 		p.patterns = append(p.patterns, one)
 	}
 	return nil
@@ -110,22 +145,38 @@ func (p *Patterns) IsIgnored(name string) bool {
 			}
 			text = lower
 		}
-		if fits(one.match, text) {
+		if one.fits(text) {
 			return one.isIgnored
 		}
 	}
 	return false
 }
 
-// fits says whether a pattern fits a name. The package panics at a few patterns with names of several bytes a letter, and Syncthing with it: nobody knows
-// what they say of such a name then, so it counts as the folder's.
-func fits(match glob.Glob, name string) (is bool) {
+// mostSteps is how many ways to place its stars in a name Syncthing's package may try.
+const mostSteps = 1e7
+
+// steps says how many these are.
+func (p *pattern) steps(name string) float64 {
+	made := 1.0
+	for star := 1; star <= p.stars && made <= mostSteps; star++ {
+		made *= float64(len(name)+star) / float64(star)
+	}
+	return made
+}
+
+// fits says whether a pattern fits a name, as Syncthing's package has it. It panics at a few patterns with names of several bytes a letter, and Syncthing with
+// it: nobody knows what they say of such a name then, so it counts as the folder's. Where it would take very long, at names that no person gives, what the
+// pattern means counts.
+func (p *pattern) fits(name string) (is bool) {
+	if p.steps(name) > mostSteps {
+		return p.linear.fits(name)
+	}
 	defer func() {
 		if recover() != nil {
 			is = false
 		}
 	}()
-	return match.Match(name)
+	return p.match.Match(name)
 }
 
 // TakesIgnored says whether a directory that is kept out may be the folder's all the same, since a pattern takes in something below it.

@@ -1,0 +1,99 @@
+package stignore
+
+import (
+	"errors"
+	"regexp"
+	"strings"
+	"sync"
+	"unicode/utf8"
+)
+
+// linear says which names a pattern fits, in a time that grows no faster than the pattern times the name: Syncthing's package tries each place for each star,
+// so a few stars and a long name keep it for years.
+type linear struct {
+	pattern string
+	once    sync.Once
+	made    *regexp.Regexp // nothing of a pattern that is none
+}
+
+// fits says whether the pattern fits a name. Of one whose braces aren't closed, which Syncthing's package takes, nobody knows it.
+func (l *linear) fits(name string) bool {
+	l.once.Do(func() {
+		if text, rest, err := expression(l.pattern, 0); err == nil && rest == "" {
+			l.made, _ = regexp.Compile(`(?s)\A(?:` + text + `)\z`)
+		}
+	})
+	return l.made != nil && l.made.MatchString(name)
+}
+
+// expression translates a pattern up to the end of the braces it stands in, and gives what comes behind that.
+func expression(pattern string, depth int) (made, rest string, err error) {
+	for pattern != "" {
+		letter, length := utf8.DecodeRuneInString(pattern)
+		next := pattern[length:]
+		switch {
+		case letter == '*' && strings.HasPrefix(next, "*"):
+			made, next = made+`.*`, next[1:]
+		case letter == '*':
+			made += `[^/]*`
+		case letter == '?':
+			made += `[^/]`
+		case letter == '\\' && next != "":
+			_, length = utf8.DecodeRuneInString(next)
+			made, next = made+regexp.QuoteMeta(next[:length]), next[length:]
+		case letter == '\\':
+			return "", "", errors.New("it ends with a backslash")
+		case letter == '[':
+			class, behind, err := classOf(next)
+			if err != nil {
+				return "", "", err
+			}
+			made, next = made+class, behind
+		case letter == '{':
+			inner, behind, err := expression(next, depth+1)
+			if err != nil {
+				return "", "", err
+			}
+			made, next = made+"(?:"+inner+")", behind
+		case letter == '}' && depth > 0:
+			return made, next, nil
+		case letter == ',' && depth > 0:
+			made += "|"
+		default:
+			made += regexp.QuoteMeta(pattern[:length])
+		}
+		pattern = next
+	}
+	if depth > 0 {
+		return "", "", errors.New("a brace isn't closed")
+	}
+	return made, "", nil
+}
+
+// classOf translates a class behind its bracket: a range of letters, or a list.
+func classOf(pattern string) (class, rest string, err error) {
+	inside, rest, is := strings.Cut(pattern, "]")
+	if !is {
+		return "", "", errors.New("a bracket isn't closed")
+	}
+	not := ""
+	if strings.HasPrefix(inside, "!") {
+		not, inside = "^", inside[1:]
+	}
+	if letters := []rune(inside); len(letters) == 3 && letters[1] == '-' {
+		return "[" + not + quoted(letters[0]) + "-" + quoted(letters[2]) + "]", rest, nil
+	}
+	made := ""
+	for _, letter := range inside {
+		made += quoted(letter)
+	}
+	return "[" + not + made + "]", rest, nil
+}
+
+// quoted gives a letter as it stands in a class.
+func quoted(letter rune) string {
+	if letter < utf8.RuneSelf && strings.ContainsRune(`\]^-[`, letter) {
+		return `\` + string(letter)
+	}
+	return string(letter)
+}

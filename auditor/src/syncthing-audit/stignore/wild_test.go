@@ -1,0 +1,70 @@
+package stignore
+
+import (
+	"errors"
+	"strings"
+	"testing"
+	"time"
+)
+
+// Lines that a part may have from anybody are read and compared in a while, or refused.
+func TestLinesThatTakeLong(t *testing.T) {
+	name := strings.Repeat("a", 4000)
+	for _, piece := range []string{"{a,b}", "{a,", "{*a,", "{?*,*", "*a", "*?", "**a", "?", "a,", "[a-z]*", "{**a,?*b,[a-z]*}", "{", "x", "a[", "{{a,b},{c,d}}"} {
+		for _, length := range []int{60, 600, 60000, 600000} {
+			wild := strings.Repeat(piece, length/len(piece))
+			closed := strings.Repeat("}", strings.Count(wild, "{")-strings.Count(wild, "}"))
+			for _, line := range []string{wild + "b", wild + "a" + closed, "{" + wild + "b}"} {
+				ended := make(chan error, 1)
+				go func() {
+					patterns, err := Parse([]string{line}, false)
+					if err == nil {
+						patterns.IsIgnored(name)
+					}
+					ended <- err
+				}()
+				select {
+				case err := <-ended:
+					if length > 70000 && !errors.Is(err, errTooWild) {
+						t.Errorf("%d of %q: %.200v", length, piece, err)
+					}
+				case <-time.After(20 * time.Second):
+					t.Fatalf("%d of %q take too long", length, piece)
+				}
+			}
+		}
+	}
+	lines := []string{}
+	for len(lines) < 9000 {
+		lines = append(lines, "a*?b")
+	}
+	if _, err := Parse(lines, false); err != nil {
+		t.Error(err)
+	}
+	if _, err := Parse(append(lines, lines...), false); !errors.Is(err, errTooWild) {
+		t.Error(err)
+	}
+}
+
+// Where a pattern is compared in the way that takes no long time, it fits what it means.
+func TestWhatAPatternMeans(t *testing.T) {
+	many := strings.Repeat("a", 4000)
+	for _, one := range []struct {
+		pattern, name string
+		is            bool
+	}{
+		{"*a*a*a*a*b", many + "b", true}, {"*a*a*a*a*b", many, false}, {"*a*a*b", many + "/b", false}, {"**a**a**b", many + "/b", true},
+		{"{*a*,x}*a*b", "x" + many + "b", true}, {"{*x*,y}*a*b", many + "b", false}, {"*[b-d]*a*?e", many + "cae", false}, {"*[b-d]*a*?e", many + "caae", true},
+		{"*[!b-d]*c", "bbbbc", false}, {"*[!b-d]*c", "bbabc", true}, {"[^a]x", "^x", true}, {"[^a]x", "bx", false}, {"[a\\]x", "\\x", true}, {"[a-]x", "-x", true},
+		{"\\*x", "*x", true}, {"\\*x", "ax", false}, {"a.c", "abc", false}, {"a,b", "a,b", true}, {"{a,{b,c}d}", "cd", true}, {"{a,{b,c}d}", "c", false}, {"?", "é", true},
+		{"?", "/", false}, {"*", "a\nb", true}, {"{a", "a", false}, {"[a", "a", false}, {"a\\", "a", false}, {"é*", "éa", true}, {"a}", "a}", true},
+	} {
+		if is := (&linear{pattern: one.pattern}).fits(one.name); is != one.is {
+			t.Errorf("%q fits %.40q: %v", one.pattern, one.name, is)
+		}
+	}
+	patterns, err := Parse([]string{"*a*a*a*a*b"}, false)
+	if err != nil || !patterns.IsIgnored(many+"b") || patterns.IsIgnored(many+"c") || !patterns.IsIgnored("x/"+many+"b/y") {
+		t.Error(err)
+	}
+}
