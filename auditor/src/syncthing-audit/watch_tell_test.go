@@ -21,7 +21,7 @@ func TestTellingGoesBeforeAPing(t *testing.T) {
 	}
 	defer state.Close()
 	said := filepath.Join(room, "said")
-	config := &watch.Config{Notify: []watch.Command{{Command: "echo told >> " + said}}, Ping: []watch.Command{{Command: "echo pinged >> " + said}}}
+	config := &watch.Config{State: []watch.Place{{Path: room}}, Notify: []watch.Command{{Command: "echo told >> " + said}}, Ping: []watch.Command{{Command: "echo pinged >> " + said}}}
 	made := &night{config: config, began: time.Now(), output: io.Discard, log: io.Discard, state: state, news: []string{"it is new"},
 		audits: []audited{{name: "run", told: "in step\n", answer: &summary.Summary{}}}}
 	if status := made.tell(); status != statusDone {
