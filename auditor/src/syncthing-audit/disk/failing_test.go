@@ -295,7 +295,7 @@ func TestTheFirstBlockThatDiffers(t *testing.T) {
 
 // Once a piece of a file couldn't be read, no more pieces are begun, and whoever waits for the file is told why.
 func TestALongFileThatCannotBeRead(t *testing.T) {
-	const size = int64(1) << 45
+	const size = int64(1) << 40
 	room, node := sparseFile(t, size)
 	file := changed(fileAt(t, filepath.Join(room, "file")), func(file *File) { file.Name, file.Node, file.Longest = "gone", node, size })
 	pool := NewPool(2)
