@@ -58,7 +58,7 @@ observe --re|--records
 run $work/ho|$work/homes
 check --l|--leave-out --lines
 export --in|--into
-sum -|--help --json --lines
+sum -|--help --json --lines --script
 watch -|--help --jobs --still --syncaudit
 sum --leave|
 check --leave-out a|absent
