@@ -357,6 +357,7 @@ ADVICE = [
     (r"nothing is lost: the bytes are the same", nothing),
     (r"let Syncthing run on all", run_all),
     (r"let Syncthing run on (\w{7}) and on (.*?), and let them finish", run_some),
+    (r"copy elsewhere before Syncthing starts on any of these devices what is to stay of what stands on (" + NEEDED + ")", save_on),
     (r"once what is to stay is saved, let Syncthing run on all", run_all),
     (r"copy elsewhere what is to stay\. Then, while Syncthing is stopped on all", save_all_and_put),
     (r"before Syncthing starts or scans on any of these devices, copy elsewhere what is to stay of what stands on (" + NEEDED + ")", save_on),

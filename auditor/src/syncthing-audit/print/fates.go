@@ -107,6 +107,27 @@ func isAt(end []Thing, thing *Thing) bool {
 	return false
 }
 
+// GoesFrom gives the devices from which a file or a symlink goes at some end, where nothing comes in its place there and no copy of it is kept.
+func (f *Fate) GoesFrom() []string {
+	var made []string
+	for place := range f.Now {
+		thing := &f.Now[place]
+		for _, end := range f.Ends {
+			if thing.Type == "directory" || isAt(end, thing) {
+				continue
+			}
+			left := without(thing.Devices, made)
+			for _, other := range end {
+				if !other.Copy {
+					left = without(left, other.Devices)
+				}
+			}
+			made = append(made, left...)
+		}
+	}
+	return made
+}
+
 // isSame says whether two things are alike, wherever they stand.
 func (t *Thing) isSame(other *Thing) bool {
 	isSameTarget := t.Target == other.Target || t.Target != nil && other.Target != nil && *t.Target == *other.Target

@@ -69,6 +69,9 @@ func (f *File) toMakeSafe() []string {
 			made = addOnce(made, f.Faults[place].Device)
 		}
 	}
+	for _, device := range f.goesFrom() {
+		made = addOnce(made, device)
+	}
 	if f.isModeFirst() {
 		for place := range f.Permissions {
 			if f.Permissions[place].isStray() {

@@ -54,6 +54,9 @@ const (
 func adviceOf(file *File, named labels) []string {
 	made := append(file.waitsAdvice(named), file.bestAdvice(named)...)
 	made = append(made, file.mounted(named)...)
+	if from := file.goesFrom(); len(from) > 0 {
+		made = append(made, "copy elsewhere before Syncthing starts on any of these devices what is to stay of what stands on "+named.all(from)+": "+file.say("it goes", "they go")+" there")
+	}
 	if !file.foretold.isKnown() {
 		made = append(made, file.toSave(named)...)
 	} else if told := file.stepsFor(named); told != "" {
@@ -114,6 +117,14 @@ func (f *File) ifItMayGo() string {
 		return told
 	}
 	return told + ". If not, copy " + it + " elsewhere before Syncthing starts on any of these devices"
+}
+
+// goesFrom gives the devices from which the name goes though it stays on others, or may stay: nothing above the entries says that.
+func (f *File) goesFrom() []string {
+	if !f.foretold.isKnown() || f.foretold.plan != nil || !f.foretold.is(outlook.Stays) && !f.foretold.is(outlook.Depends) {
+		return nil
+	}
+	return f.foretold.fate.GoesFrom()
 }
 
 // isRightByItself says whether nothing has to be done for the name but to let Syncthing run: nothing of it is lost, and all devices come to have one thing.

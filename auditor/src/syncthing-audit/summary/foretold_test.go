@@ -124,6 +124,46 @@ func TestWhatIsLostWithoutSteps(t *testing.T) {
 	}
 }
 
+// Where all ends are without loss nothing is put back, whatever stands on a disk.
+func TestNothingIsPutBackThatComesRight(t *testing.T) {
+	state := &State{Type: "file", Size: 5}
+	for _, fate := range []outlook.Fate{outlook.Depends, outlook.ByItself} {
+		file := &File{Faults: []Fault{{Device: server, Cause: Changed, Recorded: state, Found: state}}, foretold: &foretold{fate: &print.Fate{Fate: string(fate)}}}
+		if is := adviceOf(file, labels{}); len(is) != 1 || !runs.MatchString(is[0]) {
+			t.Errorf("%s: %q", fate, is)
+		}
+	}
+}
+
+// What goes from some devices though others keep it is to be saved before a start, and the line above all entries says so.
+func TestWhatGoesFromSomeDevicesIsSaved(t *testing.T) {
+	size := int64(5)
+	thing := func(content string, devices ...string) print.Thing {
+		return print.Thing{Devices: devices, Type: "file", Size: &size, Content: content}
+	}
+	now := []print.Thing{thing("rot", server), thing("good", laptop, phone)}
+	for _, one := range []struct {
+		ends [][]print.Thing
+		from string
+	}{
+		{[][]print.Thing{{thing("rot", server)}}, "laptop, phone"},
+		{[][]print.Thing{{thing("rot", server), thing("newer", laptop)}}, "phone"},
+		{[][]print.Thing{{thing("rot", server), {Devices: []string{laptop}, Type: "file", Size: &size, Content: "good", Copy: true}}}, ""},
+		{[][]print.Thing{{thing("rot", server), thing("newer", laptop, phone)}}, ""},
+		{[][]print.Thing{{thing("rot", server), thing("good", laptop, phone)}, {thing("rot", server)}}, "laptop, phone"},
+	} {
+		for _, fate := range []outlook.Fate{outlook.Stays, outlook.Depends, outlook.Deleted} {
+			file := &File{Faults: []Fault{{Device: server, Cause: OtherBytes}}, foretold: &foretold{fate: &print.Fate{Fate: string(fate), Now: now, Ends: one.ends}}}
+			named := labels{laptop: "laptop", server: "server", phone: "phone"}
+			is := adviceOf(file, named)[0]
+			if told := strings.HasPrefix(is, "copy elsewhere before Syncthing starts on any of these devices what is to stay of what stands on "+one.from+": it goes there"); told !=
+				(one.from != "" && fate != outlook.Deleted) || told && len(file.toMakeSafe()) == 0 {
+				t.Errorf("%s, %v: %q", fate, one.ends, is)
+			}
+		}
+	}
+}
+
 // putBack is what gives a device back what it recorded.
 var putBack = regexp.MustCompile(`(?:[Tt]o have again what|put the bytes back that) (\w+) recorded.*?copy it from (\w+) to (\w+) `)
 
