@@ -204,10 +204,10 @@ def try_day(seed, room, program, keep):
     try:
         day.go_bad()
         found, told, used = followed(day, room, program, keep)
-    except AssertionError as failed:
-        if "address already in use" not in str(failed):
+    except (AssertionError, ConnectionError) as failed:
+        if "address already in use" not in str(failed) and not isinstance(failed, ConnectionError):
             raise
-        print(f"day {seed} wasn't followed to its end, since another program took a port", flush=True)
+        print(f"day {seed} wasn't followed to its end: another program took a port, or a device was silent", flush=True)
         return None, set()
     finally:
         stop(day.devices)
@@ -221,7 +221,7 @@ def try_day(seed, room, program, keep):
 
 
 def whole_day(seed, program, keep):
-    """The same, tried again where another program took a device's port meanwhile."""
+    """The same, tried again where it couldn't be followed to its end."""
     for _ in range(MOST_TRIES):
         with tempfile.TemporaryDirectory(prefix="trial-") as room:
             found, used = try_day(seed, Path(room), program, keep)
