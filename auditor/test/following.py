@@ -175,7 +175,7 @@ class Operator:
         label = f"{choice['act']} on {device.name}"
         self.used.add(choice["act"])
         self.has_chosen = True
-        for loss in choice["loses"]:
+        for loss in choice["loses"] + choice.get("goes", []):
             for thing in loss["loses"]:
                 self.save(self.by_id[thing["devices"][0]], loss["name"])
         self.judge("save what is lost by " + label)

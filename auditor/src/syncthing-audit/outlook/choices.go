@@ -23,6 +23,8 @@ type Choice struct {
 	Alike   int64  // of these: all devices have one thing then
 	Loses   []Loss // what is lost by it alone, by names: the first MostListed
 	Lost    int64  // of how many names that is
+	Goes    []Loss // what else stands on a disk now, stays if nobody does anything and goes by it, since a recorded change or deletion replaces it: the first MostListed
+	Gone    int64  // of how many names that is
 	Unknown int64  // of how many names nobody knows what it does
 	IsAll   bool   // all orders were tried
 }
@@ -46,15 +48,15 @@ func newChoices(forecaster *forecast.Forecaster, damaged map[string][]damage.Kin
 }
 
 // take takes a group with what becomes of its names if nobody does anything.
-func (c *choices) take(group *forecast.World, told []Name) {
+func (c *choices) take(group *forecast.World, told []Name, before *judge) {
 	for member, device := range group.Devices {
 		switch {
 		case device.Kind == forecast.ReceiveOnly && hasLocals(group, told, member):
-			c.add(group, told, Step{Act: Revert, Member: member})
-			c.add(group, told, Step{Act: Both, Member: member})
+			c.add(group, told, before, Step{Act: Revert, Member: member})
+			c.add(group, told, before, Step{Act: Both, Member: member})
 		case device.Kind == forecast.SendOnly && keeps(told, member, forecast.OnlySends):
-			c.add(group, told, Step{Act: Override, Member: member})
-			c.add(group, told, Step{Act: Both, Member: member})
+			c.add(group, told, before, Step{Act: Override, Member: member})
+			c.add(group, told, before, Step{Act: Both, Member: member})
 		}
 	}
 }
@@ -93,7 +95,7 @@ func keeps(told []Name, member int, why forecast.Why) bool {
 }
 
 // add counts what a choice does to a group.
-func (c *choices) add(group *forecast.World, told []Name, step Step) {
+func (c *choices) add(group *forecast.World, told []Name, before *judge, step Step) {
 	choice := c.found[step]
 	if choice == nil {
 		choice = &Choice{Act: step.Act, Member: step.Member, IsAll: true}
@@ -106,7 +108,9 @@ func (c *choices) add(group *forecast.World, told []Name, step Step) {
 	}
 	judge := newJudge(group, &answer, c.damage)
 	for place := range told {
-		choice.take(&told[place], judge.name(&group.Names[place]), len(group.Devices))
+		name := &group.Names[place]
+		choice.take(&told[place], judge.name(name), len(group.Devices))
+		choice.takeReplaced(name, before, judge)
 	}
 }
 
@@ -147,6 +151,23 @@ func (c *Choice) take(before *Name, after Name, devices int) {
 	c.Lost++
 	if len(c.Loses) < MostListed {
 		c.Loses = append(c.Loses, Loss{after.Name, loses})
+	}
+}
+
+// takeReplaced counts what goes by a choice since something recorded replaces it.
+func (c *Choice) takeReplaced(name *forecast.Name, before, after *judge) {
+	var goes []Thing
+	for _, thing := range filesOf(thingsNow(name)) {
+		if before.survives(name.Name, &thing) && !after.survives(name.Name, &thing) && after.wayOf(name, &thing) != byNothing {
+			goes = append(goes, thing)
+		}
+	}
+	if len(goes) == 0 {
+		return
+	}
+	c.Gone++
+	if len(c.Goes) < MostListed {
+		c.Goes = append(c.Goes, Loss{part.Bytes(name.Name), goes})
 	}
 }
 

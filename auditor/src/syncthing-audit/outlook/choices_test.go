@@ -70,6 +70,9 @@ func TestChoicesOfADeviceThatOnlySends(t *testing.T) {
 	if override.Member != 1 || override.Alike != 1 || override.Lost != 1 || !reflect.DeepEqual(override.Loses[0].Loses[0].Members, []int{0}) {
 		t.Errorf("an override: %+v", override)
 	}
+	if override.Gone != 0 || both.Gone != 1 || !reflect.DeepEqual(both.Goes[0].Loses[0].Members, []int{1}) {
+		t.Errorf("what is replaced: %+v, %+v", override, both)
+	}
 	if both.Alike != 1 || both.Lost != 0 {
 		t.Errorf("both: %+v", both)
 	}

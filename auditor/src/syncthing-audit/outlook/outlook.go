@@ -157,7 +157,7 @@ func (t *teller) group(group forecast.World, forecaster *forecast.Forecaster) {
 	for place := range group.Names {
 		made.names = append(made.names, made.judge.name(&group.Names[place]))
 	}
-	t.choices.take(&group, made.names)
+	t.choices.take(&group, made.names, made.judge)
 	t.groups = append(t.groups, made)
 }
 

@@ -15,6 +15,8 @@ type Choice struct {
 	Alike     int64  `json:"alike_then"`
 	Loses     []Loss `json:"loses"`
 	Lost      int64  `json:"names_that_lose"`
+	Goes      []Loss `json:"goes,omitempty"`
+	Gone      int64  `json:"names_that_go,omitempty"`
 	Unknown   int64  `json:"not_known"`
 	AllOrders bool   `json:"all_orders"`
 }
@@ -31,6 +33,10 @@ func (n naming) choice(choice *outlook.Choice) Choice {
 	for _, loss := range choice.Loses {
 		made.Loses = append(made.Loses, Loss{Text(loss.Name), n.things(loss.Loses)})
 	}
+	for _, loss := range choice.Goes {
+		made.Goes = append(made.Goes, Loss{Text(loss.Name), n.things(loss.Loses)})
+	}
+	made.Gone = choice.Gone
 	return made
 }
 
@@ -49,9 +55,8 @@ func (p *Person) choices(folder string, o *Outlook) {
 		last = choice.Device
 		p.line("  %s", wordsOfChoice[outlook.Act(choice.Act)])
 		p.line("    %s", ofChoice(choice))
-		if choice.Lost > 0 {
-			p.losses(choice)
-		}
+		p.losses(choice.Loses, choice.Lost, "something that stands on a disk now")
+		p.losses(choice.Goes, choice.Gone, "what a recorded change or deletion then replaces")
 		if choice.Unknown > 0 {
 			p.line("    of %s it isn't known what this does: save %s first", Counted(choice.Unknown, "name", "names"), itOrThem(choice.Unknown))
 		}
@@ -94,11 +99,13 @@ func ofChoice(choice *Choice) string {
 	return told
 }
 
-// losses names what is lost by a choice alone.
-func (p *Person) losses(choice *Choice) {
-	p.line("    %s something that stands on a disk now: copy %s elsewhere before Syncthing starts, if it is to stay", Counted(choice.Lost, "name loses", "names lose"),
-		one(choice.Lost, "it", "that"))
-	for place, loss := range choice.Loses {
+// losses names what goes by a choice alone, of so many names.
+func (p *Person) losses(all []Loss, count int64, of string) {
+	if count == 0 {
+		return
+	}
+	p.line("    %s %s: copy %s elsewhere before Syncthing starts, if it is to stay", Counted(count, "name loses", "names lose"), of, one(count, "it", "that"))
+	for place, loss := range all {
 		if place == mostNamed {
 			break
 		}
@@ -109,7 +116,7 @@ func (p *Person) losses(choice *Choice) {
 		}
 		p.line("      %s: %s", shell.Path(string(loss.Name)), strings.Join(words, "; "))
 	}
-	if more := choice.Lost - mostNamed; more > 0 {
+	if more := count - mostNamed; more > 0 {
 		p.line("      and %s (--json has them)", Counted(more, "more name", "more names"))
 	}
 }

@@ -145,6 +145,20 @@ to choose in docs on phone, for the whole folder, once all that is to stay is sa
 	}
 }
 
+// What a choice takes away since something recorded replaces it is named, too.
+func TestWhatGoesByAChoice(t *testing.T) {
+	goes := []outlook.Loss{{Name: "a", Loses: []outlook.Thing{file(5, "aa", 1)}}}
+	of := outlook.Outlook{Names: 9, Choices: []outlook.Choice{{Act: outlook.Both, Member: 1, Names: 3, Alike: 3, IsAll: true, Goes: goes, Gone: 1}}}
+	var to strings.Builder
+	(&Person{To: &to, Called: strings.ToLower, Zone: time.UTC}).plans("docs", OutlookOf(&of, devices))
+	if told := to.String(); !strings.Contains(told, `
+    1 name loses what a recorded change or deletion then replaces: copy it elsewhere before Syncthing starts, if it is to stay
+      a: 5 bytes on server (modified 2020-09-13 12:26:40 UTC)
+`) {
+		t.Error(told)
+	}
+}
+
 // Where steps are to be taken, what may be chosen is told by another audit: they change what it does, and move what it loses.
 func TestNothingIsChosenBesideSteps(t *testing.T) {
 	of := outlook.Outlook{Names: 9, Plans: []outlook.Plan{{Names: []part.Bytes{"a"}, Count: 1, Steps: []outlook.Step{{Act: outlook.Save, Member: 1}}}},
