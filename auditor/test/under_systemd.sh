@@ -1,8 +1,8 @@
 #!/usr/bin/env bash
-# under_systemd.sh [DIR]: the nightly audit of auditor/nightly/ under a real systemd, with two real Syncthing devices, one of which
-# has a rotten file: its timer fires, the mail comes, the metrics are written, and Syncthing runs again. By hand alone, as
-# root. It needs Debian's packages debootstrap, systemd-container and syncthing, and a network for debootstrap; DIR keeps
-# the Debian that it makes, so that the next run begins at once.
+# under_systemd.sh [DIR]: the units of auditor/nightly/ under a real systemd and a real mail server, with two real Syncthing devices of one user: the
+# first night's mail comes, then that of a rotten file, and the monthly one; a timer that is late fires. One device makes its part with its Syncthing
+# stopped, which runs again, also where the service is killed. By hand alone, as root. It needs Debian's packages debootstrap, systemd-container and
+# syncthing, and a network for debootstrap; DIR keeps the Debian that it makes, so that the next run begins at once.
 set -euo pipefail
 top=$(dirname "$(dirname "$(dirname "$(readlink -f "$0")")")")
 root=${1:-$(mktemp -d)}
@@ -67,73 +67,85 @@ until_there "the machine boots" pgrep -P "$nspawn"
 leader=$(pgrep -P "$nspawn" | head -n 1)
 until_there "systemd runs" within systemctl is-system-running --wait
 
-# ---- two users, each with a device, and what auditor/nightly/README.md says
+# ---- a user with two devices, and what auditor/nightly/README.md says
 
-for user in laptop server; do
-  within useradd -m -s /bin/bash "$user"
-  within loginctl enable-linger "$user"
-done
+within useradd -m -s /bin/bash me
+within loginctl enable-linger me
 within python3 - << 'END'
 import sys
 from pathlib import Path
 sys.path.insert(0, "/syncaudit/auditor/test")
 from syncthing import Device
-devices = [Device(Path("/home"), user) for user in ("laptop", "server")]
-for one in devices:
-    one.configure(devices)
+devices = [Device(Path("/home/me"), name) for name in ("one", "two")]
+for device in devices:
+    device.configure(devices)
 END
-for user in laptop server; do
-  "$top/install" "$root/machine/home/$user/.local" > "$root/told"
-  within sh -c "mkdir -p /home/$user/.config && ln -s ../home /home/$user/.config/syncthing && chown -R $user: /home/$user"
-  as "$user" 'cp -r /syncaudit/contrib . && install -m 755 auditor/nightly/syncthing-audit-nightly ~/.local/bin/ &&
-    install -D -m 600 auditor/nightly/nightly.conf ~/.config/syncthing-audit/nightly.conf &&
-    install -D -m 644 -t ~/.config/systemd/user auditor/nightly/systemd/syncthing-audit.* && systemctl --user daemon-reload'
-done
-as laptop 'for one in 1 2 3 4; do head -c 300000 /dev/urandom > files/$one.raw; done; systemctl --user enable --now syncthing'
-as server 'mkdir -p .local/state/syncthing-audit metrics; chmod 755 .; chmod 777 .local/state/syncthing-audit
-  printf "MAIL_TO=server@localhost\nMETRICS=/home/server/metrics/audit.prom\n" >> .config/syncthing-audit/nightly.conf
-  systemctl --user enable --now syncthing'
-as laptop 'printf "%s\n" "SEND=install -m 644 \"\$PART\" /home/server/.local/state/syncthing-audit/laptop.part" \
-  >> .config/syncthing-audit/nightly.conf'
-until_there "the devices are in step" as server 'test -e files/1.raw -a -e files/2.raw -a -e files/3.raw -a -e files/4.raw'
+"$top/install" "$root/machine/home/me/.local" > "$root/told"
+within chown -R me: /home/me
+as me 'cd /syncaudit && install -D -m 600 auditor/nightly/watch.xml ~/.config/syncthing-audit/watch.xml &&
+  install -D -m 600 auditor/nightly/part.conf ~/.config/syncthing-audit/part.conf &&
+  install -D -m 644 -t ~/.config/systemd/user auditor/nightly/systemd/syncthing-audit-* &&
+  cd && mkdir -p metrics && sed -i "s|<device place=\"~/.config/syncthing\"/>|<device place=\"~/one/home\"/><device place=\"~/two/home\"/>|
+    s|<device place=\"laptop:\"/>||; s|me@example.org|me@localhost|
+    s|<!-- <metrics path=.* -->|<metrics path=\"~/metrics/audit.prom\"/>|; s|<!-- <page path=.* -->|<page path=\"~/audit.html\"/>|" .config/syncthing-audit/watch.xml
+  printf "%s\n" UNIT=syncthing-two.service "WORDS=--home $HOME/two/home" "SEND=install -m 600 \"\$PART\" $HOME/sent.part" >> .config/syncthing-audit/part.conf
+  for one in one two; do
+    printf "[Service]\nExecStart=/usr/bin/syncthing serve --home=%%h/$one/home --no-browser --no-restart\n[Install]\nWantedBy=default.target\n" \
+      > .config/systemd/user/syncthing-$one.service
+  done
+  for one in 1 2 3 4; do head -c 300000 /dev/urandom > one/files/$one.raw; done
+  systemctl --user daemon-reload; systemctl --user enable --now syncthing-one syncthing-two'
+until_there "the devices are in step" as me 'test -e two/files/1.raw -a -e two/files/2.raw -a -e two/files/3.raw -a -e two/files/4.raw'
 sleep 10
 
-# ---- the laptop sends its part; a file rots on the server; the server's timer fires
+# night: the service's run; its status.
+night() {
+  as me 'systemctl --user start syncthing-audit-watch.service' > "$root/told" 2>&1 || true
+  as me 'systemctl --user show -p ExecMainStatus --value syncthing-audit-watch.service'
+}
 
-as laptop 'systemctl --user start syncthing-audit.service'
-as server 'cd files; was=$(stat -c %y 3.raw); printf XYZ | dd of=3.raw bs=1 seek=150000 conv=notrunc status=none; touch -d "$was" 3.raw'
-as server 'mkdir -p .config/systemd/user/syncthing-audit.timer.d
-  printf "[Timer]\nOnCalendar=\nOnCalendar=*:*:00/15\nRandomizedDelaySec=0\nAccuracySec=1s\n" \
-    > .config/systemd/user/syncthing-audit.timer.d/soon.conf
-  systemctl --user daemon-reload; systemctl --user enable --now syncthing-audit.timer'
-until_there "the mail comes" as server 'test -s /var/mail/server'
-as server 'systemctl --user stop syncthing-audit.timer'
-until_there "the service has ended" as server \
-  'test "$(systemctl --user show -p ActiveState --value syncthing-audit.service)" != activating'
-within journalctl --no-pager -o cat _SYSTEMD_USER_UNIT=syncthing-audit.service + USER_UNIT=syncthing-audit.service
-as server 'systemctl --user status syncthing-audit.service --no-pager -n 0' || true
-as server 'cat metrics/audit.prom /var/mail/server'
+# mailed COUNT: whether so many mails have come.
+mailed() { as me "test \"\$(grep -c ^Subject: /var/mail/me)\" = $1"; }
 
+# ---- the first night, one in which nothing is new, and one after a file has rotted
+
+expect "the first night is in step" [ "$(night)" = 0 ]
+until_there "its mail comes" mailed 1
+expect "it says how all is" as me 'grep -q "^Subject: .*: in step$" /var/mail/me && grep -q "^2 devices, " /var/mail/me'
+expect "a night in which nothing is new is in step" [ "$(night)" = 0 ]
+as me 'cd two/files; was=$(stat -c %y 3.raw); printf XYZ | dd of=3.raw bs=1 seek=150000 conv=notrunc status=none; touch -d "$was" 3.raw'
+as me 'mkdir -p .config/systemd/user/syncthing-audit-watch.timer.d
+  printf "[Timer]\nOnCalendar=\nOnCalendar=*:*:00/15\nRandomizedDelaySec=0\nAccuracySec=1s\n" > .config/systemd/user/syncthing-audit-watch.timer.d/soon.conf
+  systemctl --user daemon-reload; systemctl --user enable --now syncthing-audit-watch.timer'
+until_there "the timer fires, and the mail of the rotten file comes" mailed 2
+as me 'systemctl --user stop syncthing-audit-watch.timer'
+until_there "the service has ended" as me 'test "$(systemctl --user show -p ActiveState --value syncthing-audit-watch.service)" != activating'
+as me 'cat metrics/audit.prom /var/mail/me'
 expect "the status is that of a cluster that isn't in step" \
-  as server 'test "$(systemctl --user show -p ExecMainStatus --value syncthing-audit.service)" = 1'
-expect "the mail names the file and the device" \
-  as server 'grep -q "^3.raw  (in " /var/mail/server && grep -q "^  .*: other bytes on the disk" /var/mail/server'
-expect "the metrics tell one wrong name" as server 'grep -q "^syncthing_audit_names_wrong{.*} 1$" metrics/audit.prom'
-expect "Syncthing runs again on the laptop" as laptop 'systemctl --user is-active syncthing'
-expect "Syncthing runs again on the server" as server 'systemctl --user is-active syncthing'
+  as me 'test "$(systemctl --user show -p ExecMainStatus --value syncthing-audit-watch.service)" = 1'
+expect "the mail names the file and what is wrong" as me 'grep -q "^new: 3.raw in docs: StoreDiffers$" /var/mail/me && grep -q ": other bytes on the disk" /var/mail/me'
+expect "the metrics tell one wrong name" as me 'grep -q "^syncthing_audit_names_wrong{.*} 1$" metrics/audit.prom'
+expect "the page tells it" as me 'grep -q "NOT in step: 1 name wrong" audit.html'
+expect "the next night finds the same rot" [ "$(night)" = 1 ]
+expect "it isn't mailed again" mailed 2
+as me 'sed -i "s/\"month\":\"[^\"]*\"/\"month\":\"2020-01\"/" .local/state/syncthing-audit/watch/watch.json'
+expect "the next month has its night" [ "$(night)" = 1 ]
+until_there "the monthly mail comes" mailed 3
+as me 'printf "[Timer]\nRandomizedDelaySec=0\n" > .config/systemd/user/syncthing-audit-watch.timer.d/soon.conf
+  sed -i "s/\"month\":\"[^\"]*\"/\"month\":\"2020-01\"/" .local/state/syncthing-audit/watch/watch.json; systemctl --user daemon-reload
+  touch -d "2 days ago" .local/share/systemd/timers/stamp-syncthing-audit-watch.timer; systemctl --user start syncthing-audit-watch.timer'
+until_there "a timer that is late fires" mailed 4
 
-# ---- a timer whose time passed while the machine was off; a run that is ended while it hashes
+# ---- a device makes its part, and sends it; then the service is killed while it hashes
 
-as server 'printf "[Timer]\nRandomizedDelaySec=0\n" > .config/systemd/user/syncthing-audit.timer.d/soon.conf
-  systemctl --user daemon-reload; : > /var/mail/server
-  touch -d "2 days ago" .local/share/systemd/timers/stamp-syncthing-audit.timer; systemctl --user start syncthing-audit.timer'
-until_there "a timer that is late fires" as server 'test -s /var/mail/server'
-as laptop 'systemctl --user stop syncthing; truncate -s 12G files/large; systemctl --user start syncthing
-  systemctl --user start --no-block syncthing-audit.service'
-until_there "the laptop hashes" within sh -c 'ls /home/laptop/.local/state/syncthing-audit/.syncthing-audit-*'
-as laptop 'systemctl --user stop syncthing-audit.service' 2> "$root/told"
-expect "a run that is ended says so" as laptop 'test "$(systemctl --user show -p ExecMainStatus --value syncthing-audit.service)" = 143'
-expect "it leaves no half of a part" within sh -c '! ls /home/laptop/.local/state/syncthing-audit/.syncthing-audit-*'
-expect "and Syncthing runs again" as laptop 'systemctl --user is-active syncthing'
-expect "nothing is left in the machine's temporary directory" within sh -c '! ls /tmp | grep syncthing-audit'
+as me 'systemctl --user start syncthing-audit-part.service'
+expect "the part is sent" as me 'test -s sent.part'
+expect "Syncthing runs again" as me 'systemctl --user is-active syncthing-two'
+expect "it was stopped meanwhile" as me 'journalctl --user -u syncthing-two -o cat | grep -q Stopped'
+as me 'rm sent.part; systemctl --user stop syncthing-two; truncate -s 12G two/files/large; systemctl --user start syncthing-two; sleep 5
+  systemctl --user start --no-block syncthing-audit-part.service'
+until_there "it hashes" within sh -c 'ls /home/me/.local/state/syncthing-audit/sent/.syncthing-audit-*'
+as me 'systemctl --user kill -s KILL syncthing-audit-part.service' 2> "$root/told" || true
+until_there "Syncthing runs again after a kill" as me 'systemctl --user is-active syncthing-two'
+expect "nothing is sent then" as me 'test ! -e sent.part'
 exit "$failed"

@@ -131,6 +131,18 @@ class Watched(Nights):
         self.night(both)
         self.assertIn("\nno device and no folder is left out any more\n", self.night()[2])
 
+    def test_a_home_that_cannot_be_read(self):
+        """It is left out with why, in one line: its certificate says whose it is."""
+        self.night()
+        configuration = self.homes[1] / "config.xml"
+        configuration.rename(self.homes[1] / "away")
+        try:
+            status, _, mails = self.night()
+        finally:
+            (self.homes[1] / "away").rename(configuration)
+        self.assertEqual((status, len(re.findall(r"(?m)^left out: docs of device2: .*config.xml: no such file or directory", mails)), "no home or part of it is given" in mails),
+                         (6, 2, False), mails)
+
     def test_no_answer_is_told_each_night(self):
         for _ in range(2):
             status, _, mails = self.night(SYNCAUDIT="/nowhere/syncaudit")

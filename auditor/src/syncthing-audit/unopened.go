@@ -29,9 +29,8 @@ func (i *inputs) orLeaveOut(asked options, dir string, maps device.Maps, err err
 	if err == nil || !asked.consent().Has(part.Absent) {
 		return err
 	}
-	left := leftPlace{called: dir, why: strings.TrimPrefix(strings.TrimPrefix(err.Error(), "refused:"), " ")}
+	left := leftPlace{called: dir, device: device.IDOf(dir), why: strings.TrimPrefix(strings.TrimPrefix(err.Error(), "refused:"), " ")}
 	if id, about, unread := device.About(dir, maps...); unread == nil {
-		left.device = id.String()
 		i.homes = append(i.homes, &device.Home{Dir: dir, ID: id, Config: about}) // nothing is written into its folders
 	}
 	i.left = append(i.left, left)

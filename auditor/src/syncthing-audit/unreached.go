@@ -4,6 +4,7 @@ import (
 	"fmt"
 
 	"syncthing-audit/audit"
+	"syncthing-audit/device"
 	"syncthing-audit/join"
 	"syncthing-audit/outside"
 	"syncthing-audit/part"
@@ -65,7 +66,9 @@ func (r *running) left() []leftPlace {
 			continue
 		}
 		id := one.device
-		if id == "" {
+		if id == "" && one.host == "" {
+			id = device.IDOf(one.home)
+		} else if id == "" {
 			id = r.known.ids[atPlace(one)]
 		}
 		made = append(made, leftPlace{one.called(), id, r.out[at]})
