@@ -7,7 +7,7 @@ _syncthing_audit_flags() {
     part) echo '--observer --home --data --map --folder --names --slice --jobs --about --begin --end --tokens --heed-input --rescan --still --strict --leave-out --sign --paths -o --help' ;;
     run) echo '--observer --data --map --folder --names --slice --jobs --strict --leave-out --lines --json --script --syncaudit --still --rescan --remote-program --paths --dry-run --history --help' ;;
     check) echo '--observer --home --data --map --folder --names --slice --jobs --strict --leave-out --bytes --allowed-signers --lines --json --script --syncaudit --history --help' ;;
-    observe) echo '--init --home --folder --names --slice --jobs --records --listen --disk --still --into --history --strict --leave-out --lines --json --script --syncaudit --help' ;;
+    observe) echo '--init --home --folder --names --slice --jobs --records --budget --every --passwords --listen --disk --still --into --history --strict --leave-out --lines --json --script --syncaudit --help' ;;
     disk) echo '--after --block-size --names --slice --jobs --config --marker --paths --sign -o --help' ;;
     export) echo '--observer --home --data --map --folder --names --slice --jobs --strict --leave-out --bytes --allowed-signers --into --help' ;;
     report) echo '--observer --home --data --map --folder --names --slice --jobs --strict --leave-out --allowed-signers --syncaudit --history --html --watch --help' ;;
@@ -36,9 +36,9 @@ _syncthing_audit() {
   fi
   case $before in
     --home | --data | --into | --script | --history) mapfile -t COMPREPLY < <(compgen -d -- "$word") ;;
-    --syncaudit | --tokens | --sign | --allowed-signers | --disk | --config | --html | --watch | -o) mapfile -t COMPREPLY < <(compgen -f -- "$word") ;;
+    --syncaudit | --tokens | --passwords | --sign | --allowed-signers | --disk | --config | --html | --watch | -o) mapfile -t COMPREPLY < <(compgen -f -- "$word") ;;
     --leave-out) mapfile -t COMPREPLY < <(_syncthing_audit_kinds "$word") ;;
-    --map | --folder | --names | --slice | --jobs | --still | --remote-program | --listen | --observer | --after | --block-size | --marker) ;;
+    --map | --folder | --names | --slice | --jobs | --still | --remote-program | --budget | --every | --listen | --observer | --after | --block-size | --marker) ;;
     *)
       if [[ $word == -* ]]; then
         mapfile -t COMPREPLY < <(compgen -W "$(_syncthing_audit_flags "$command")" -- "$word")

@@ -57,6 +57,9 @@ complete -c syncthing-audit -n "__fish_seen_subcommand_from disk" -l block-size 
 complete -c syncthing-audit -n "__fish_seen_subcommand_from disk" -l config -r -d 'The config.xml of the Syncthing there'
 complete -c syncthing-audit -n "__fish_seen_subcommand_from disk" -l marker -x -d 'What marks the directory of a folder'
 complete -c syncthing-audit -n "__fish_seen_subcommand_from observe" -l records -d 'Compare records alone'
+complete -c syncthing-audit -n "__fish_seen_subcommand_from observe" -l budget -x -d 'How many bytes a look reads'
+complete -c syncthing-audit -n "__fish_seen_subcommand_from observe" -l every -x -d 'How often to look'
+complete -c syncthing-audit -n "__fish_seen_subcommand_from observe" -l passwords -r -d 'The passwords of encrypted folders'
 complete -c syncthing-audit -n "__fish_seen_subcommand_from observe" -l listen -x -d 'Where devices connect'
 
 complete -c syncthing-audit -n "__fish_seen_subcommand_from check run observe sum" -l lines -d "Each failure in a line, in syncaudit's words"

@@ -150,6 +150,14 @@ class DiskHalves(Halves):
         status, told = self.answer(self.devices)
         self.assertEqual((status, self.found(told)), (1, homes))
 
+    def test_which_blocks_differ(self):
+        """The disks say that a file has other bytes, and the observer asks for that file which blocks these are."""
+        self.plant()
+        status, told = self.answer(self.devices)
+        blocks = {(one["name"], fault["device"]): (fault["blocks"]["count"], fault["blocks"]["ranges"])
+                  for one in told["folders"][0]["files"] for fault in one["faults"] if "blocks" in fault}
+        self.assertEqual((status, blocks), (1, {("folder/large", self.two.id): (1, [[0, 0]])}))
+
     def test_a_mixed_cluster(self):
         """One stopped device by its home, one by its disks and the wire, one by the wire alone."""
         one, two, three = self.devices

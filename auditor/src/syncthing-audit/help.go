@@ -16,7 +16,8 @@ var usage = fmt.Sprintf(`usage: syncthing-audit part [--home DIR [--data DIR]] [
        syncthing-audit watch CONFIG
        syncthing-audit report --html FILE (--watch CONFIG | [--home DIR ..] [PART ..] [--history DIR])
        syncthing-audit observe --init [--home DIR]
-       syncthing-audit observe [--folder ID ..] [--records] [--listen tcp://:PORT] [DEVICE-ID[@tcp://HOST:PORT] [--disk FILE] ..]
+       syncthing-audit observe [--folder ID ..] [--records | --budget BYTES] [--every TIME] [--passwords FILE]
+                       [--listen tcp://:PORT] [DEVICE-ID[@tcp://HOST:PORT] [--disk FILE] ..]
        syncthing-audit disk --after TOKEN [--block-size BYTES ..] [--names PREFIX] [--slice K/N] [--config FILE] [--sign KEY] -o FILE FOLDER-ID=DIR ..
        syncthing-audit part (--begin [--rescan] | --end --tokens FILE ..) [--home DIR [--data DIR]] [--folder ID ..] -o FILE
        syncthing-audit part --about [--rescan] [--home DIR [--data DIR]] [--folder ID ..]
@@ -73,6 +74,11 @@ Says whether Syncthing devices are in step and, if they aren't, which device is 
   --remote-program P   of run: how to call this program on the other machines (syncthing-audit, on PATH or in ~/.local/bin)
   --init               of observe: make the observer's key, and print its device id
   --records            of observe: compare records alone, and read no file
+  --budget BYTES       of observe: read so many bytes, as 20GB, of all devices together, of the files that were read longest ago. Of the others the
+                       records are compared
+  --every TIME         of observe: go on, and look so often, as 12h or 1d
+  --passwords FILE     of observe: a file that only you can read, with a folder's id, a space and its password on each line: for folders that are
+                       encrypted at a device
   --listen ADDRESS     of observe: wait there for devices that are given by their ids alone
   --disk FILE          of observe, behind a device: its disks are walked on the device itself, by 'disk'. FILE is where that file will be
   --after TOKEN        of disk: of which device the disks are, and after which look of the observer they are walked
@@ -127,7 +133,7 @@ var flagsOfCommands = map[string]string{
 	"part":    "--observer --home --data --map --folder --names --slice --jobs --about --begin --end --tokens --heed-input --rescan --still --strict --leave-out --sign --paths -o",
 	"run":     "--observer --data --map --folder --names --slice --jobs --strict --leave-out --lines --json --script --syncaudit --still --rescan --remote-program --paths --dry-run --history",
 	"check":   "--observer --home --data --map --folder --names --slice --jobs --strict --leave-out --bytes --allowed-signers --lines --json --script --syncaudit --history",
-	"observe": "--init --home --folder --names --slice --jobs --records --listen --disk --still --into --history --strict --leave-out --lines --json --script --syncaudit",
+	"observe": "--init --home --folder --names --slice --jobs --records --budget --every --passwords --listen --disk --still --into --history --strict --leave-out --lines --json --script --syncaudit",
 	"disk":    "--after --block-size --names --slice --jobs --config --marker --paths --sign -o",
 	"report":  "--observer --home --data --map --folder --names --slice --jobs --strict --leave-out --allowed-signers --syncaudit --history --html --watch",
 	"export":  "--observer --home --data --map --folder --names --slice --jobs --strict --leave-out --bytes --allowed-signers --into",

@@ -16,6 +16,7 @@ type remembering struct {
 	history *history.History
 	watch   *history.Watch
 	tees    []*history.Tee
+	waiting []history.Waiting // what isn't read yet
 }
 
 // remember opens the history that was asked for, and has it see what is read of the devices; nothing without one.
@@ -91,7 +92,7 @@ func (r *remembering) keep(answer *finding.Answer, now time.Time) (*history.Sinc
 	if err != nil {
 		return nil, faultOf(err)
 	}
-	since.Unkept = strings.Join(unkept, "; ")
+	since.Unkept, since.Waiting = strings.Join(unkept, "; "), r.waiting
 	return since, nil
 }
 

@@ -12,6 +12,7 @@ import (
 
 	"github.com/syncthing/syncthing/lib/protocol"
 	"syncthing-audit/ask"
+	"syncthing-audit/discover"
 	"syncthing-audit/leftover"
 	"syncthing-audit/observe"
 	"syncthing-audit/outside"
@@ -31,6 +32,9 @@ func runObserve(words []string, output, log io.Writer) (int, error) {
 		flags.Float64Var(&read.still, "still", secondsOfStillness, "")
 		flags.StringVar(&read.history, "history", "", "")
 		flags.Var(halfOf{read}, "disk", "")
+		flags.Var(bytesOf{read}, "budget", "")
+		flags.Var(everyOf{read}, "every", "")
+		flags.Var(passwordsOf{read}, "passwords", "")
 	})
 	if err != nil {
 		return 0, err
@@ -56,7 +60,11 @@ func observeDevices(asked options, output, log io.Writer) (int, error) {
 			return 0, err
 		}
 	}
-	return lookOverWire(asked, observer, program, output, log)
+	look := func() (int, error) { return lookOverWire(asked, observer, program, output, log) }
+	if asked.every == 0 {
+		return look()
+	}
+	return systemClock.repeat(asked.every, look, log)
 }
 
 // checkObserve says what is wrong with the words of 'observe'.
@@ -80,10 +88,12 @@ func (o *options) checkObserve() error {
 	case o.history != "" && o.into != "":
 		return &wrongUsage{"--into writes parts in place of an answer: give --history to the 'check' of these"}
 	}
-	if err := o.checkDisks(); err != nil {
-		return err
+	for _, check := range []func() error{o.checkBudget, o.checkDisks, o.checkForm} {
+		if err := check(); err != nil {
+			return err
+		}
 	}
-	return o.checkForm()
+	return nil
 }
 
 // homeOfObserver gives the directory with the observer's key where none is named.
@@ -110,7 +120,7 @@ func initObserver(asked options, output, log io.Writer) error {
 		return fmt.Errorf("refused: %w", err)
 	}
 	outside.Print(log, "syncthing-audit: this is the observer's device id. On each device: 'Add Remote Device' with this id, and share the folders with it "+
-		"(no encryption password). Then: syncthing-audit observe --folder ID DEVICE-ID@tcp://HOST:22000 ..\n")
+		"(no encryption password). Then ask: syncthing-audit observe DEVICE-ID .., with the ids of these devices\n")
 	return outside.Printf(faulty{output}, "%s\n", observer.ID)
 }
 
@@ -119,20 +129,22 @@ type address struct {
 	id    protocol.DeviceID
 	where string
 	given string
+
+	isKept bool // whether it is where the device was reached last
 }
 
 // formOfAddress is a device's id with the address at which it listens.
 var formOfAddress = regexp.MustCompile(`^([A-Za-z0-9-]+)(?:@(?:tcp[46]?://)?([^/@]+:[0-9]+))?$`)
 
-// addressesOf reads where devices are. Of one that is given by its id alone it is where it was reached last; without any, all that were asked of one of the
-// folders before are.
+// addressesOf reads where devices are. Of one that is given by its id alone it is where it was reached last, or where it announces that it is; without any,
+// all that were asked of one of the folders before are.
 func addressesOf(asked options, kept *observe.Addresses) ([]address, error) {
 	made, words := []address{}, asked.parts
 	if len(words) == 0 {
 		words = kept.Of(asked.folders)
 	}
 	if len(words) == 0 {
-		return nil, &wrongUsage{"no device is given: its id and address as ID@tcp://HOST:22000, or its id alone with --listen"}
+		return nil, &wrongUsage{"no device is given: its id and address as ID@tcp://HOST:22000, or its id alone if it is in this network"}
 	}
 	for _, given := range words {
 		found := formOfAddress.FindStringSubmatch(given)
@@ -148,13 +160,11 @@ func addressesOf(asked options, kept *observe.Addresses) ([]address, error) {
 				return nil, &wrongUsage{fmt.Sprintf("device %s is given twice", id)}
 			}
 		}
-		if found[2] == "" && asked.listen == "" {
+		isKept := found[2] == "" && asked.listen == ""
+		if isKept {
 			found[2] = kept.Devices[id.String()]
 		}
-		if found[2] == "" && asked.listen == "" {
-			return nil, &wrongUsage{fmt.Sprintf("device %s has no address: %s@tcp://HOST:PORT, or --listen tcp://:PORT, so that it connects by itself", id, id)}
-		}
-		made = append(made, address{id, found[2], given})
+		made = append(made, address{id, found[2], given, isKept})
 	}
 	return made, nil
 }
@@ -180,6 +190,7 @@ func lookOverWire(asked options, observer *wire.Observer, program ask.Program, o
 		defer leftover.Remove(room)
 	}
 	observing := &observing{asked: asked, observer: observer, addresses: addresses, room: room, log: log, progress: progressOf(log)}
+	observing.discovering.port = discover.UsualPort
 	if err := observing.listen(); err != nil {
 		return 0, err
 	}
@@ -188,16 +199,19 @@ func lookOverWire(asked options, observer *wire.Observer, program ask.Program, o
 		return 0, err
 	}
 	files, err := observing.write()
-	if err == nil {
-		err = observing.finish()
+	if err != nil {
+		return 0, err
 	}
-	if err == nil {
-		err = observing.keepAddresses(kept)
+	status := statusDone
+	if asked.into == "" {
+		status, err = observing.answer(program, files, output)
 	}
-	if err != nil || asked.into != "" {
-		return statusDone, err
+	for _, keep := range []func() error{observing.finish, func() error { return observing.keepAddresses(kept) }} { // also where no answer came
+		if kept := keep(); err == nil {
+			err = kept
+		}
 	}
-	return observing.answer(program, files, output)
+	return status, err
 }
 
 // errNothingSeen says that no device was looked at twice.

@@ -11,6 +11,7 @@ import (
 
 	"github.com/syncthing/syncthing/lib/protocol"
 	"syncthing-audit/looks"
+	"syncthing-audit/observe"
 	"syncthing-audit/outside"
 	"syncthing-audit/part"
 	"syncthing-audit/regular"
@@ -76,8 +77,42 @@ func (o *observing) waitForDisks() error {
 			return err
 		}
 		o.devices[at].Half = half
+		if o.walked[at], err = walkedIn(o.asked.disks[at], o.devices[at]); err != nil {
+			return err
+		}
 	}
 	return nil
+}
+
+// walkedIn gives the files of a part of a device's disks that have other bytes than recorded.
+func walkedIn(path string, device *observe.Device) ([]*observe.Walked, error) {
+	file, _, err := regular.Open(path)
+	if err != nil {
+		return nil, err
+	}
+	defer file.Close()
+	reader, err := part.NewReader(file)
+	if err != nil {
+		return nil, err
+	}
+	made, in := []*observe.Walked{}, (*observe.Folder)(nil)
+	for {
+		line, err := reader.Next()
+		if errors.Is(err, io.EOF) {
+			return made, nil
+		}
+		switch {
+		case err != nil:
+			return nil, err
+		case line.Begin != nil:
+			in = device.Folder(line.Begin.Folder)
+			made = append(made, &observe.Walked{Folder: line.Begin.Folder})
+		case line.Name != nil && in != nil:
+			if err := made[len(made)-1].Walk(in, line.Name); err != nil {
+				return nil, err
+			}
+		}
+	}
 }
 
 // halves gives the files of the disks of all devices that were looked at twice.

@@ -21,7 +21,7 @@ func (o *observing) open() error {
 	}
 	o.found = found
 	for _, one := range o.addresses {
-		o.looks[one.id] = wire.Look{Folders: o.asked.folders, Kept: o.keeperOf(one.id)}
+		o.looks[one.id] = wire.Look{Folders: o.asked.folders, Kept: o.keeperOf(one.id), Passwords: o.asked.passwords}
 	}
 	return nil
 }
@@ -65,7 +65,7 @@ func directoryOfKept(home, folder string, id protocol.DeviceID) string {
 
 // lookSince gives what the second look asks of a device: what came since the first one, in indexes of their own.
 func (o *observing) lookSince(made *observe.Device) wire.Look {
-	look := wire.Look{}
+	look := wire.Look{Passwords: o.asked.passwords}
 	for _, one := range made.Folders {
 		look.Folders = append(look.Folders, one.ID())
 	}

@@ -9,6 +9,7 @@ import (
 	"regexp"
 	"runtime"
 	"strings"
+	"time"
 
 	"syncthing-audit/choice"
 	"syncthing-audit/device"
@@ -49,10 +50,13 @@ type options struct {
 	hasStill   bool    // whether they were asked for
 	remote     string  // how this program is called on other machines
 	init       bool
-	records    bool           // whether records alone are asked for over the wire
-	listen     string         // where devices connect to the observer
-	observers  []string       // devices that keep no files, by their ids
-	disks      map[int]string // of observe: where the parts of the disks of devices will be, by the devices' places
+	records    bool              // whether records alone are asked for over the wire
+	listen     string            // where devices connect to the observer
+	observers  []string          // devices that keep no files, by their ids
+	passwords  map[string]string // of observe: those of encrypted folders, by their ids
+	budget     int64             // of observe: how many bytes each look reads; 0 for all
+	every      time.Duration     // of observe: how often it looks; 0 for once
+	disks      map[int]string    // of observe: where the parts of the disks of devices will be, by the devices' places
 	program    string
 	history    string                 // the directory of a history; nothing without one
 	take       func(*summary.Summary) // is given the answer, too; not needed

@@ -224,6 +224,9 @@ func (s *Stream) join(wire, disk *part.Name) *part.Name {
 	}
 	if made.Disk != nil {
 		s.fit(made)
+		if wire != nil && made.HasOtherBytes() {
+			made.Disk.Differ = wire.Differ
+		}
 	}
 	if len(made.Out) == 0 && !made.IsAsRecorded(s.head.Folders[s.folder].Window()) {
 		waits := *made

@@ -200,3 +200,23 @@ func TestLinesThatDontFit(t *testing.T) {
 		}
 	}
 }
+
+// Which blocks of a file differ is told by the observer alone, and only of a file with other bytes than recorded.
+func TestBlocksThatDiffer(t *testing.T) {
+	content := func(hash byte) part.Content {
+		return part.Content{Size: 1, BlockSize: bep.MinBlockSize, Hash: part.Hash{hash}}
+	}
+	differ := &part.Differ{Count: 1, Ranges: [][2]int64{{0, 0}}}
+	wire := func(name string) *part.Name {
+		recorded := content(1)
+		return &part.Name{Name: part.Bytes(name), Own: &part.Record{ModifiedS: 5, Sequence: 1, Content: &recorded}, Differ: differ}
+	}
+	disk := func(name string, hash byte) *part.Name {
+		return &part.Name{Name: part.Bytes(name), Disk: &part.Node{ModifiedS: 5, Size: 1, Contents: []part.Content{content(hash)}}}
+	}
+	given := disk("other", 2)
+	names := joined(t, giving(wireHead(), wire("other"), wire("same")), giving(diskHead("linux"), given, disk("same", 1)))
+	if names["other"].Disk.Differ != differ || names["same"].Disk.Differ != nil || given.Disk.Differ != nil {
+		t.Errorf("%+v, %+v", names["other"].Disk, names["same"].Disk)
+	}
+}

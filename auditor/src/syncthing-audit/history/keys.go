@@ -18,6 +18,7 @@ const (
 	ofFault   = 'f' // folder, name, device, cause
 	ofLast    = 'l' // of the last audit that was kept
 	ofPart    = 'p' // folder, device: when its newest part was made
+	ofAsked   = 'a' // folder, device, name: when the bytes were asked for, where each look asks for some
 )
 
 func keyOfFormat() []byte { return []byte{ofFormat} }
@@ -32,6 +33,12 @@ func keyOfReadings(folder string, device uint64) []byte {
 
 func keyOfReading(folder string, device uint64, name string) []byte {
 	return append(keyOfReadings(folder, device), name...)
+}
+
+func keyOfAsked(folder string, device uint64, name string) []byte {
+	key := keyOfReading(folder, device, name)
+	key[0] = ofAsked
+	return key
 }
 
 func keyOfPart(folder string, device uint64) []byte {

@@ -19,6 +19,7 @@ type Since struct {
 	Changed []Changed  `json:"bytes_changed_everywhere"`
 	Count   int64      `json:"bytes_changed_everywhere_count"` // of all, also of those that aren't listed
 	Read    []Read     `json:"read"`
+	Waiting []Waiting  `json:"not_read_yet,omitempty"`
 	Unkept  string     `json:"not_kept,omitempty"` // why the history doesn't have all of this audit
 }
 

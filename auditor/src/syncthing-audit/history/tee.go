@@ -80,6 +80,14 @@ func (h *History) Watch() (*Watch, error) {
 	return made, err
 }
 
+// WasAtFault says whether something was wrong with a name before.
+func (w *Watch) WasAtFault(folder, name string) bool {
+	w.mutex.Lock()
+	defer w.mutex.Unlock()
+	_, is := w.unclear[place{folder, name}]
+	return is
+}
+
 func (w *Watch) take(folder string, line *part.Name, head *part.Head) {
 	if line == nil || len(line.Out) == 0 && len(line.Moved) == 0 && !isUnclearOverWire(head, line) {
 		return

@@ -7,7 +7,7 @@ import "syncthing-audit/part"
 func seenOverWire(head *part.Head, line *part.Name) *part.Name {
 	unread := &part.Name{Name: line.Name, Out: []part.LeftOut{{Kind: part.Unknown, Why: "its time isn't seen"}}}
 	switch {
-	case head.IsOfRecords():
+	case head.IsOfRecords() || line.NotRead:
 		return unread
 	case line.Disk == nil:
 		return line
@@ -27,7 +27,7 @@ func isUnclearOverWire(head *part.Head, line *part.Name) bool {
 	switch {
 	case !head.IsOverWireAlone():
 		return false
-	case head.IsOfRecords():
+	case head.IsOfRecords() || line.NotRead:
 		return true
 	case own == nil || own.Deleted || own.Content == nil:
 		return disk != nil

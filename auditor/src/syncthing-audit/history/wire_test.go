@@ -16,17 +16,18 @@ func TestWhatIsKeptOverTheWire(t *testing.T) {
 	}
 	for _, one := range []struct {
 		what                         string
-		isOfRecords                  bool
+		isOfRecords, isNotRead       bool
 		disk                         *part.Node
 		isKept, isForgotten, unclear bool
 	}{
-		{"the recorded bytes", false, bytes(3, nil), true, false, false},
-		{"rot", false, bytes(3, &part.Differ{Count: 1}), false, false, false},
-		{"cut", false, bytes(2, &part.Differ{Count: 1}), false, false, true},
-		{"missing", false, nil, false, true, true},
-		{"not asked for", true, nil, false, false, true},
+		{"the recorded bytes", false, false, bytes(3, nil), true, false, false},
+		{"rot", false, false, bytes(3, &part.Differ{Count: 1}), false, false, false},
+		{"cut", false, false, bytes(2, &part.Differ{Count: 1}), false, false, true},
+		{"missing", false, false, nil, false, true, true},
+		{"not asked for", true, false, nil, false, false, true},
+		{"not asked for this time", false, true, nil, false, false, true},
 	} {
-		head, line := &part.Head{Wire: part.NewWire("observer", one.isOfRecords)}, &part.Name{Name: "a", Own: own, Disk: one.disk}
+		head, line := &part.Head{Wire: part.NewWire("observer", one.isOfRecords)}, &part.Name{Name: "a", Own: own, Disk: one.disk, NotRead: one.isNotRead}
 		seen := seenOverWire(head, line)
 		reading := readingOf(seen, head.Made)
 		if (reading != nil) != one.isKept || isGone(seen) != one.isForgotten || isUnclearOverWire(head, line) != one.unclear {

@@ -2,14 +2,31 @@ package join
 
 import "syncthing-audit/part"
 
+// unopened adds what an observer says of a folder that it couldn't open at a device; nothing where it says nothing.
+func (p *Plan) unopened(folder, device string) string {
+	why := p.unreached[device]
+	if here := p.device(device); here != nil && here.Head.WhyWithout(folder) != nil {
+		why = here.whyUnseen(folder)
+	}
+	if why == "" {
+		return ""
+	}
+	return ": " + why
+}
+
 // takeOutEncrypted refuses the devices on which a folder is encrypted, each once, and takes them out: they have other names and other bytes
-// than the others, which have the same and are audited. It gives the ids of those that it takes out.
+// than the others, which have the same and are audited. One that was read with the folder's password has the same. It gives the ids of those that it
+// takes out.
 func (p *Plan) takeOutEncrypted(folder *Folder) map[string]bool {
 	encrypted := map[string]bool{}
+	opened := map[string]bool{}
+	for _, one := range folder.Members {
+		opened[one.Head.Device] = one.About.IsOpened
+	}
 	takeOut := func(device, name, why string) {
-		if !encrypted[device] {
+		if !encrypted[device] && !opened[device] {
 			encrypted[device] = true
-			p.refuse(part.Encrypted, folder, device, name, why)
+			p.refuse(part.Encrypted, folder, device, name, why+p.unopened(folder.ID, device))
 		}
 	}
 	for _, one := range folder.Members {

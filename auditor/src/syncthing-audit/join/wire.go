@@ -74,7 +74,7 @@ func (m *Member) fillDisk(one *part.Name) {
 	if len(one.Out)+len(one.Moved) > 0 {
 		return
 	}
-	if own != nil && !own.Deleted && one.Disk == nil && (own.Content == nil || m.Head.IsOfRecords()) {
+	if own != nil && !own.Deleted && one.Disk == nil && (own.Content == nil || m.Head.IsOfRecords() || one.NotRead) {
 		one.Disk = m.asRecorded(own)
 	} else if own != nil && own.Content != nil && one.Disk != nil {
 		disk := *one.Disk

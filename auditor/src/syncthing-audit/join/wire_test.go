@@ -149,6 +149,19 @@ func TestDisksOverTheWire(t *testing.T) {
 	}
 }
 
+// A file whose bytes weren't asked for this time is taken to be as recorded, and counted; one that is missing waits for a scan.
+func TestFilesThatWereNotReadThisTime(t *testing.T) {
+	one := partOf(0, true, false, 4, 0, part.Name{Name: "gone", Own: record(3, 0)}, part.Name{Name: "later", Own: record(4, 0), NotRead: true})
+	one.Head.Wire.IsPartial = true
+	folder, rows := rowsOf(t, one, partOf(1, true, false, 0, 4))
+	if at := rows["later"].At[0]; at.Disk == nil || at.Disk.Size != 3 || len(at.Moved) > 0 {
+		t.Errorf("%+v", at)
+	}
+	if at := rows["gone"].At[0]; len(at.Moved) != 1 || folder.Members[0].Unseen != (Unseen{Unread: 1}) {
+		t.Errorf("%+v, %+v", at, folder.Members[0].Unseen)
+	}
+}
+
 // A device that says over the wire that its last change is before one that another device knows of went back.
 func TestWentBackOverTheWire(t *testing.T) {
 	plan, err := NewPlan([]*Device{partOf(0, true, false, 5, 9), partOf(1, true, false, 7, 5)}, nil)

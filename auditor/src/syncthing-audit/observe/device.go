@@ -10,6 +10,7 @@ import (
 	"time"
 
 	"github.com/syncthing/syncthing/lib/protocol"
+	"syncthing-audit/budget"
 	"syncthing-audit/choice"
 	"syncthing-audit/wire"
 )
@@ -19,6 +20,8 @@ type Asked struct {
 	Names   choice.Names
 	Records bool   // records alone, and no bytes
 	Room    string // a directory for what is found
+
+	Chosen *budget.Plan // the names whose bytes are asked for; nothing where all are
 }
 
 // Device is what an observer has seen of a device.
@@ -37,35 +40,61 @@ type Device struct {
 // errWentBack says that an index isn't the one of the first look.
 var errWentBack = errors.New("its index was made anew or went back between the looks: look again")
 
-// Begin makes the first look at a device on a connection: all its indexes, which go into the next ones that are kept, and then its bytes. It calls read
-// with how many bytes it has read.
-func Begin(ctx context.Context, connection *wire.Connection, kept func(folder string) *Kept, asked Asked, read func(bytes int64)) (*Device, error) {
+// Begin begins the first look at a device on a connection: it takes all its indexes, which go into the next ones that are kept.
+func Begin(ctx context.Context, connection *wire.Connection, kept func(folder string) *Kept, room string) (*Device, error) {
 	made := &Device{ID: connection.Device, Hello: connection.Hello, Out: map[string]error{}}
 	for id, why := range connection.Out {
 		made.Out[id] = why
 	}
-	err := made.begin(ctx, connection, kept, asked, read)
-	if err != nil {
-		made.Close()
-		return nil, err
+	for _, one := range connection.Folders {
+		if err := made.beginFolder(ctx, one, kept(one.ID), room); err != nil {
+			made.Close()
+			return nil, inFolder(one.ID, err)
+		}
 	}
-	made.first = time.Now().UTC()
+	if len(made.Folders) == 0 {
+		return nil, made.whyNone()
+	}
 	return made, nil
 }
 
-func (d *Device) begin(ctx context.Context, connection *wire.Connection, kept func(folder string) *Kept, asked Asked, read func(bytes int64)) error {
-	for _, one := range connection.Folders {
-		folder, err := beginFolder(ctx, one, kept(one.ID), asked.Room, d.ID)
-		if err != nil {
-			return inFolder(one.ID, err)
-		}
+// beginFolder begins the first look at a folder. Of one that is encrypted there, and of which no password is given, names and bytes are counted.
+func (d *Device) beginFolder(ctx context.Context, shared *wire.Shared, kept *Kept, room string) error {
+	if shared.IsSealed() {
+		why, err := countSealed(ctx, shared)
+		d.Out[shared.ID] = why
+		return err
+	}
+	folder, err := beginFolder(ctx, shared, kept, room, d.ID)
+	if err == nil {
 		d.Folders = append(d.Folders, folder)
 	}
-	for place, one := range connection.Folders {
-		if err := d.Folders[place].read(ctx, one, asked, read); err != nil {
-			return inFolder(one.ID, err)
+	return err
+}
+
+// whyNone says why nothing is seen of the device.
+func (d *Device) whyNone() error {
+	ids := []string{}
+	for id := range d.Out {
+		ids = append(ids, id)
+	}
+	sort.Strings(ids)
+	for _, id := range ids {
+		if errors.Is(d.Out[id], wire.EncryptedFolder) {
+			return inFolder(id, d.Out[id])
 		}
 	}
+	return wire.NotShared
+}
+
+// Read ends the first look: it asks for the bytes, on the same connection. It calls read with how many it has read.
+func (d *Device) Read(ctx context.Context, connection *wire.Connection, asked Asked, read func(bytes int64)) error {
+	for _, one := range d.Folders {
+		if err := one.read(ctx, connection.Shared(one.ID()), asked, read); err != nil {
+			return inFolder(one.ID(), err)
+		}
+	}
+	d.first = time.Now().UTC()
 	return nil
 }
 

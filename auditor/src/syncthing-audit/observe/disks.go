@@ -44,17 +44,17 @@ func (d *disks) put(name string, found disk) error {
 	return d.db.Put([]byte(name), text, nil)
 }
 
-// get gives what was found of a name; nothing where it wasn't asked for.
-func (d *disks) get(name string) (disk, error) {
+// get gives what was found of a name, and whether it was asked for.
+func (d *disks) get(name string) (disk, bool, error) {
 	var found disk
 	text, err := d.db.Get([]byte(name), nil)
 	if errors.Is(err, leveldb.ErrNotFound) {
-		return found, nil
+		return found, false, nil
 	}
 	if err == nil {
 		err = json.Unmarshal(text, &found)
 	}
-	return found, err
+	return found, true, err
 }
 
 func (d *disks) close() {

@@ -2,9 +2,13 @@ package observe
 
 import (
 	"context"
+	"fmt"
 
 	"github.com/syncthing/syncthing/lib/protocol"
+	"syncthing-audit/budget"
+	"syncthing-audit/choice"
 	"syncthing-audit/device"
+	"syncthing-audit/part"
 	"syncthing-audit/wire"
 )
 
@@ -19,6 +23,9 @@ type Folder struct {
 	bytes int64
 	names int64 // of the device's own index
 
+	differ map[string]*part.Differ // of files that a walk of the disks found with other bytes: which blocks
+
+	isOpened   bool  // whether it is encrypted there, and was read with its password
 	wentBack   int64 // from which sequence of an earlier look its index went back; 0 where it didn't
 	isReceiver bool  // whether it has local changes, as a device that only receives has
 }
@@ -26,9 +33,14 @@ type Folder struct {
 // ID gives the folder's id.
 func (f *Folder) ID() string { return f.said.ID }
 
+// Place gives the folder as a budget knows it.
+func (f *Folder) Place(names choice.Names) budget.Place {
+	return budget.Place{Folder: f.ID(), Device: part.Number(f.of.String()), Index: f.index, Names: names}
+}
+
 // beginFolder takes the index of a folder, and compares it with the one of the last run.
 func beginFolder(ctx context.Context, shared *wire.Shared, kept *Kept, room string, of protocol.DeviceID) (*Folder, error) {
-	made := &Folder{of: of, said: shared.Folder}
+	made := &Folder{of: of, said: shared.Folder, isOpened: shared.IsOpened()}
 	var err error
 	if made.index, err = shared.Index(ctx); err != nil {
 		return nil, err
@@ -48,7 +60,12 @@ func (f *Folder) read(ctx context.Context, shared *wire.Shared, asked Asked, rea
 	if asked.Records {
 		return nil
 	}
-	isWanted := func(name string) bool { return asked.Names.Has(f.ID(), name) }
+	isWanted := func(entry device.Entry) (bool, error) {
+		if !asked.Names.Has(f.ID(), entry.Name) || asked.Chosen == nil || !budget.HasBytes(entry) {
+			return asked.Names.Has(f.ID(), entry.Name), nil
+		}
+		return asked.Chosen.Has(f.ID(), entry.Name)
+	}
 	return shared.Bytes(ctx, f.index, isWanted, func(entry device.Entry, found wire.Found) error {
 		f.bytes += found.Size - found.Unread
 		read(found.Size - found.Unread)
@@ -63,6 +80,28 @@ func (f *Folder) count() error {
 		f.isReceiver = f.isReceiver || entry.Record != nil && isLocalChange(entry.Record)
 		return nil
 	})
+}
+
+// countSealed says how much there is of a folder that is encrypted, and of which no password is given.
+func countSealed(ctx context.Context, shared *wire.Shared) (error, error) {
+	index, err := shared.Index(ctx)
+	if err != nil {
+		return nil, err
+	}
+	names, bytes := int64(0), int64(0)
+	err = index.Each(func(entry device.Entry) error {
+		if entry.Record != nil && entry.Record.Deleted {
+			return nil
+		}
+		names++
+		if entry.Record != nil && entry.Record.Content != nil {
+			bytes = part.Sum(bytes, entry.Record.Content.Size)
+		} else if entry.Out != nil {
+			bytes = part.Sum(bytes, entry.Out.Bytes)
+		}
+		return nil
+	})
+	return fmt.Errorf("%w: %d names, %d bytes", wire.EncryptedFolder, names, bytes), err
 }
 
 // end takes what came since the first look.

@@ -17,6 +17,9 @@ func diskOf(device protocol.DeviceID, name string, found wire.Found) disk {
 		if found.Unread > 0 { // nobody knows which other files have its bytes
 			content.Hash = sha256.Sum256([]byte("not read to its end over the wire\x00" + device.String() + "\x00" + name))
 		}
+		if found.Sealed && found.State == wire.Differs { // no other file has such bytes
+			content.Hash = sha256.Sum256([]byte("not what was encrypted\x00" + device.String() + "\x00" + name))
+		}
 		return disk{Node: &part.Node{Type: int(protocol.FileInfoTypeFile), Size: found.Size, Contents: []part.Content{content}, Differ: found.Differ, Unread: found.Unread}}
 	case wire.Missing:
 		return disk{}

@@ -15,7 +15,7 @@ func (d *Device) head(asked Asked, observer protocol.DeviceID, look string, devi
 	made := &part.Head{Device: d.ID.String(), Name: d.Hello.Name, Runs: d.Hello.Version, Made: time.Now().UTC().Truncate(time.Second), Names: asked.Names,
 		Look: &part.Look{Home: "over the wire", ID: look, After: map[string]string{}, At: d.first, Ended: d.again},
 		Wire: part.NewWire(observer.String(), asked.Records)}
-	made.Wire.Half = d.Half
+	made.Wire.Half, made.Wire.IsPartial = d.Half, asked.Chosen != nil
 	for _, one := range d.Folders {
 		made.Folders = append(made.Folders, one.head(observer))
 		if one.wentBack > made.Wire.WentBackFrom {
@@ -37,7 +37,7 @@ func (d *Device) head(asked Asked, observer protocol.DeviceID, look string, devi
 // is what it had at the second one.
 func (f *Folder) head(observer protocol.DeviceID) part.Folder {
 	made := part.Folder{ID: f.said.ID, Label: f.said.Label, Kind: f.kind(), Directory: "over the wire: " + f.of.String(), IndexID: f.index.ID, Max: f.since.Highest,
-		IgnoresPermissions: f.said.IgnoresPermissions, Sharing: []part.Sharing{}, Views: []part.View{}, Indexed: f.names, WentBackFrom: f.wentBack}
+		IgnoresPermissions: f.said.IgnoresPermissions, Sharing: []part.Sharing{}, Views: []part.View{}, Indexed: f.names, WentBackFrom: f.wentBack, IsOpened: f.isOpened}
 	for _, one := range f.said.Devices {
 		if one.Device == f.of || one.Device == observer {
 			continue
@@ -66,7 +66,7 @@ func (f *Folder) kind() string {
 	if f.said.SendOnly {
 		return "send-only"
 	}
-	if f.isReceiver {
+	if f.isReceiver || f.isOpened { // an untrusted device sends nothing of its own
 		return "receive-only"
 	}
 	return "send-receive"

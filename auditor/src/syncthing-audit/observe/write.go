@@ -6,6 +6,7 @@ import (
 	"sort"
 
 	"github.com/syncthing/syncthing/lib/protocol"
+	"syncthing-audit/budget"
 	"syncthing-audit/device"
 	"syncthing-audit/part"
 )
@@ -60,7 +61,7 @@ func (f *Folder) each(asked Asked, take func(*part.Name) error) error {
 		if !asked.Names.Has(f.ID(), entry.Name) {
 			return nil
 		}
-		line, err := f.line(entry)
+		line, err := f.line(asked, entry)
 		if err == nil && part.IsLongName(entry.Name) {
 			long = append(long, line)
 			return nil
@@ -103,7 +104,7 @@ func (f *Folder) news() ([]string, error) {
 }
 
 // line gives what was seen of a name.
-func (f *Folder) line(entry device.Entry) (*part.Name, error) {
+func (f *Folder) line(asked Asked, entry device.Entry) (*part.Name, error) {
 	made := &part.Name{Name: part.Bytes(entry.Name)}
 	if part.IsLongName(entry.Name) {
 		made.Name = part.HiddenLongName(f.ID(), entry.Name).Bytes()
@@ -118,10 +119,12 @@ func (f *Folder) line(entry device.Entry) (*part.Name, error) {
 		made.Moved = []string{part.MovedRecord}
 		return made, nil
 	}
-	found, err := f.disks.get(entry.Name)
+	found, isRead, err := f.disks.get(entry.Name)
 	if err != nil {
 		return nil, err
 	}
+	made.Differ = f.differ[entry.Name]
+	made.NotRead = !isRead && asked.Chosen != nil && budget.HasBytes(entry)
 	if found.Out != nil && found.Out.Kind == part.Ignored {
 		made.Out = []part.LeftOut{*found.Out}
 		return made, nil

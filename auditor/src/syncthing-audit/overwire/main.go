@@ -126,7 +126,7 @@ func names(ctx context.Context, shared *wire.Shared, index *wire.Index) ([]name,
 	if err != nil {
 		return nil, err
 	}
-	err = shared.Bytes(ctx, index, func(string) bool { return true }, func(entry device.Entry, found wire.Found) error {
+	err = shared.Bytes(ctx, index, func(device.Entry) (bool, error) { return true, nil }, func(entry device.Entry, found wire.Found) error {
 		one := name{Name: part.Bytes(entry.Name), Own: entry.Record, Out: entry.Out, State: found.State, Differ: found.Differ}
 		if found.Blocks != nil {
 			one.Content = &part.Content{Size: found.Size, BlockSize: found.BlockSize, Hash: disk.HashOf(found.Blocks)}

@@ -23,7 +23,7 @@ func TestVersions(t *testing.T) {
 	}{
 		{choice.Names{}, nil, 1, ""}, {begun, nil, 1, ""}, {begun, first, 2, ""}, {sliced, nil, 3, ""}, {sliced, first, 3, ""},
 		{sliced, nil, 1, "the part has version 1; " + other + " it is 3"}, {sliced, first, 2, other}, {begun, nil, 3, other}, {begun, nil, 2, other}, {begun, first, 1, other},
-		{begun, nil, 6, "reads versions 1 to 5"}, {begun, nil, 0, "reads versions 1 to 5"}, {begun, nil, 4, other}, {begun, nil, 5, other},
+		{begun, nil, 7, "reads versions 1 to 6"}, {begun, nil, 0, "reads versions 1 to 6"}, {begun, nil, 6, other}, {begun, nil, 4, other}, {begun, nil, 5, other},
 		{choice.Names{Slice: 8, Slices: 7}, nil, 3, "it has slice 8 of 7"}, {choice.Names{Slice: 1, Slices: 1}, nil, 3, "it has slice 1 of 1"},
 		{choice.Names{Slice: 3}, nil, 1, "it has slice 3 of 0"}, {sliced, &Look{Home: "home"}, 3, "look is none"},
 	} {

@@ -135,7 +135,7 @@ const mostIgnoreLines = 10000
 // checkHalfName says what no disk tells of a name.
 func checkHalfName(one *Name, half *Half) error {
 	switch {
-	case one.Own != nil || len(one.Views) > 0 || one.Receiving != "" || one.Waits != nil:
+	case one.Own != nil || len(one.Views) > 0 || one.Receiving != "" || one.Waits != nil || one.Differ != nil || one.NotRead:
 		return errors.New("more is told of it than a disk says")
 	case len(one.Moved) > 0 && !slices.Equal(one.Moved, []string{MovedDisk}):
 		return errors.New("something else than its disk moved")

@@ -132,10 +132,8 @@ func (r *rules) take(line Line) error {
 	if err := checkStanding(line.Name, r.head); err != nil {
 		return err
 	}
-	if r.head.Wire != nil {
-		if err := checkWireName(line.Name, r.head.IsOfRecords()); err != nil {
-			return fmt.Errorf("%s: %w", shell.Path(string(line.Name.Name)), err)
-		}
+	if err := checkWireName(line.Name, r.head.Wire, r.head.IsOfRecords()); err != nil {
+		return fmt.Errorf("%s: %w", shell.Path(string(line.Name.Name)), err)
 	}
 	if r.head.Half != nil {
 		if err := checkHalfName(line.Name, r.head.Half); err != nil {
@@ -296,7 +294,12 @@ func checkDiffer(one *Name) error {
 	if found := CountOfBlocks(one.Disk.Size, one.Own.Content.BlockSize); found > most {
 		most = found
 	}
-	differ, last := one.Disk.Differ, int64(-1)
+	return checkRanges(one.Disk.Differ, most)
+}
+
+// checkRanges says what is wrong with a list of blocks that differ, of so many.
+func checkRanges(differ *Differ, most int64) error {
+	last := int64(-1)
 	for _, next := range differ.Ranges {
 		if next[0] <= last || next[1] < next[0] || next[1] >= most {
 			return errors.New("its blocks that differ aren't in their places")

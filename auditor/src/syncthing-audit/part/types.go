@@ -123,6 +123,7 @@ type Folder struct {
 	Rest               *Rest     `json:"rest,omitempty"`           // of a second look; nothing where an older program made it
 	Options            *Options  `json:"options,omitempty"`        // nothing where an older program made it
 	Ignores            *Ignores  `json:"ignores,omitempty"`        // of disks alone
+	IsOpened           bool      `json:"opened,omitempty"`         // over the wire: it is encrypted there, and was read with its password
 	WentBackFrom       int64     `json:"went_back_from,omitempty"` // over the wire: as Wire has it, of this folder
 }
 
@@ -201,6 +202,8 @@ type Name struct {
 	Out   []LeftOut `json:"out,omitempty"`
 
 	Receiving string   `json:"receiving,omitempty"` // of a look: which temporary file Syncthing has of it
+	Differ    *Differ  `json:"differ,omitempty"`    // over the wire, where the disks are in another part: which blocks of the file there differ
+	NotRead   bool     `json:"not_read,omitempty"`  // over the wire: its bytes weren't asked for this time
 	Moved     []string `json:"moved,omitempty"`     // what changed while the device was looked at; the rest isn't told then
 
 	Waits *Name `json:"-"` // in memory alone, of a name that waits for a scan: its record and its disk, as both looks saw them

@@ -19,6 +19,8 @@ type Wire struct {
 
 	Without []Without `json:"without,omitempty"` // rising by folder
 
+	IsPartial bool `json:"partial,omitempty"` // the bytes of some files weren't asked for this time: their names say so
+
 	Half string `json:"disk_half,omitempty"` // the id of the part of the device's disks that was over when the second look began; it has what stands there
 }
 
@@ -84,6 +86,9 @@ func checkWire(head *Head) error {
 	if head.Wire.WentBackFrom < 0 || slices.IndexFunc(head.Folders, func(one Folder) bool { return one.WentBackFrom < 0 }) >= 0 {
 		return errors.New("the part's index went back from a sequence below 0")
 	}
+	if head.Wire.IsPartial && (head.IsOfRecords() || head.Wire.Half != "") {
+		return errors.New("the part has the bytes of some files, and of none")
+	}
 	if len(head.Wire.Without) > mostFolders {
 		return fmt.Errorf("the part says of %d folders that it is without them: at most %d are taken", len(head.Wire.Without), mostFolders)
 	}
@@ -109,9 +114,19 @@ func checkWireLook(head *Head) error {
 }
 
 // checkWireName says what an observer can't have seen of a name.
-func checkWireName(one *Name, isOfRecords bool) error {
+func checkWireName(one *Name, wire *Wire, isOfRecords bool) error {
 	switch {
-	case isOfRecords && one.Disk != nil:
+	case one.NotRead && (wire == nil || !wire.IsPartial):
+		return errors.New("its bytes weren't read, and the part has the bytes of all files")
+	case one.Differ != nil && (wire == nil || wire.Half == ""):
+		return errors.New("it says which blocks differ of a file in another part, and there is none")
+	case one.Differ != nil && (one.Own == nil || one.Own.Content == nil):
+		return errors.New("its blocks differ, and there is no file with a record")
+	case one.Differ != nil && checkRanges(one.Differ, CountOfBlocks(one.Own.Content.Size, one.Own.Content.BlockSize)) != nil:
+		return checkRanges(one.Differ, CountOfBlocks(one.Own.Content.Size, one.Own.Content.BlockSize))
+	case wire == nil:
+		return nil
+	case (isOfRecords || one.NotRead) && one.Disk != nil:
 		return errors.New("more is told of its disk than its record, and no bytes were asked for")
 	case len(one.Views) > 0:
 		return errors.New("it has records in views, which an observer isn't told")

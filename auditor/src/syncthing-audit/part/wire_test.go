@@ -24,8 +24,12 @@ func TestHeadsOverTheWire(t *testing.T) {
 		t.Fatal(err)
 	}
 	for told, change := range map[string]func(*Head){
-		"by what it says":        func(h *Head) { h.Version = VersionOfLooks },
-		"observer":               func(h *Head) { h.Wire.Observer = h.Device },
+		"by what it says": func(h *Head) { h.Version = VersionOfLooks },
+		"observer":        func(h *Head) { h.Wire.Observer = h.Device },
+		"of some files, and of": func(h *Head) {
+			h.Wire.IsPartial, h.Wire.Unseen, h.Version = true, NewWire("", true).Unseen, VersionOfBudget
+		},
+		"version 4; by what it":  func(h *Head) { h.Wire.IsPartial = true },
 		"isn't what this":        func(h *Head) { h.Wire.Unseen = h.Wire.Unseen[1:] },
 		"what this program know": func(h *Head) { h.Wire.Unseen = append(h.Wire.Unseen, "zones") },
 		"its looks are none":     func(h *Head) { h.Look = nil },
@@ -47,16 +51,54 @@ func TestNamesOverTheWire(t *testing.T) {
 		change(made)
 		return made
 	}
-	if err := checkWireName(file(func(*Name) {}), false); err != nil {
+	if err := checkWireName(file(func(*Name) {}), &Wire{}, false); err != nil {
 		t.Error(err)
 	}
 	for _, change := range []func(*Name){func(n *Name) { n.Disk.ModifiedS = 1 }, func(n *Name) { n.Disk.Permissions = 1 }, func(n *Name) { n.Disk.Type = 1 },
 		func(n *Name) { n.Views = []Seen{{}} }, func(n *Name) { n.Disk.Lost = "lost" }, func(n *Name) { n.Disk.Stamp = "1" }} {
-		if checkWireName(file(change), false) == nil {
+		if checkWireName(file(change), &Wire{}, false) == nil {
 			t.Errorf("%+v", file(change).Disk)
 		}
 	}
-	if checkWireName(file(func(*Name) {}), true) == nil {
+	if checkWireName(file(func(*Name) {}), &Wire{}, true) == nil {
 		t.Error("a disk where records alone were asked for")
+	}
+	unread, seen := &Name{Name: "a", NotRead: true}, &Name{Name: "a", NotRead: true, Disk: &Node{Size: 1}}
+	if err := checkWireName(unread, &Wire{IsPartial: true}, false); err != nil {
+		t.Error(err)
+	}
+	for why, err := range map[string]error{"a disk of a file that wasn't read": checkWireName(seen, &Wire{IsPartial: true}, false),
+		"a file that wasn't read in a part of all": checkWireName(unread, &Wire{}, false), "in one that no observer made": checkWireName(unread, nil, false)} {
+		if err == nil {
+			t.Error(why)
+		}
+	}
+}
+
+// Where the disks are in another part, an observer says which blocks of a file there differ: blocks of its record, and of no other part's.
+func TestBlocksThatDifferInAnotherPart(t *testing.T) {
+	name := func(change func(*Name)) *Name {
+		made := &Name{Name: "a", Own: &Record{Content: &Content{Size: 3 << 17, BlockSize: 1 << 17}}, Differ: &Differ{Count: 2, Ranges: [][2]int64{{1, 2}}}}
+		change(made)
+		return made
+	}
+	half := &Wire{Half: "walk"}
+	if err := checkWireName(name(func(*Name) {}), half, true); err != nil {
+		t.Error(err)
+	}
+	for why, err := range map[string]error{
+		"no walk":            checkWireName(name(func(*Name) {}), &Wire{}, true),
+		"no observer":        checkWireName(name(func(*Name) {}), nil, false),
+		"no record":          checkWireName(name(func(n *Name) { n.Own = nil }), half, true),
+		"a deleted one":      checkWireName(name(func(n *Name) { n.Own.Content = nil }), half, true),
+		"blocks behind it":   checkWireName(name(func(n *Name) { n.Differ.Ranges[0][1] = 3 }), half, true),
+		"another count":      checkWireName(name(func(n *Name) { n.Differ.Count = 1 }), half, true),
+		"a disk, too":        checkWireName(name(func(n *Name) { n.Disk = &Node{Size: 1} }), half, true),
+		"what a view has":    checkWireName(name(func(n *Name) { n.Views = []Seen{{}} }), half, true),
+		"a walk that has it": checkHalfName(&Name{Name: "a", Differ: &Differ{Count: 1, Ranges: [][2]int64{{0, 0}}}}, NewHalf("walk", "look", "linux", nil)),
+	} {
+		if err == nil {
+			t.Errorf("%s: it is taken", why)
+		}
 	}
 }

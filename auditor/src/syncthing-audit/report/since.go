@@ -41,6 +41,13 @@ func Since(to io.Writer, since *history.Since) {
 			outside.Printf(to, "read: %s %d files, %d bytes on %d, the oldest %s %s\n", read.Folder, read.Files, read.Bytes, part.Number(read.Device), read.Oldest.Format(time.RFC3339), printed(string(read.OldestName)))
 		}
 	}
+	for _, one := range since.Waiting {
+		oldest := ""
+		if one.Oldest != nil {
+			oldest = ", the oldest of the others " + one.Oldest.Format(time.RFC3339)
+		}
+		outside.Printf(to, "not read: %s %d files, %d bytes on %d, %d never%s\n", one.Folder, one.Files, one.Bytes, part.Number(one.Device), one.Never, oldest)
+	}
 	if since.Unkept != "" {
 		outside.Printf(to, "not kept in the history: %s\n", since.Unkept)
 	}

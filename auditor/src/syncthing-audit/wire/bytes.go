@@ -37,11 +37,12 @@ type Found struct {
 	Blocks    [][32]byte // hashes of the file's blocks
 	Unread    int64      // bytes at the end of a file that is very much longer than its record, which weren't read
 	Differ    *part.Differ
+	Sealed    bool // it is encrypted there: behind the recorded end nothing is seen, and other bytes aren't those of any file
 }
 
 // Bytes asks a device for the bytes of all recorded files that are wanted, and calls take with what is found of each, in the order of names. Where a
 // record has no file, or isn't one that a document has, it asks whether there is one. Names that no document has aren't asked for.
-func (s *Shared) Bytes(ctx context.Context, index *Index, isWanted func(name string) bool, take func(entry device.Entry, found Found) error) error {
+func (s *Shared) Bytes(ctx context.Context, index *Index, isWanted func(device.Entry) (bool, error), take func(entry device.Entry, found Found) error) error {
 	ctx, cancel := context.WithCancel(ctx)
 	defer cancel()
 	defer s.over.keepPace("answers", s.over.limits.BytesWhole, func() gave { return s.over.answers })()
@@ -51,8 +52,8 @@ func (s *Shared) Bytes(ctx context.Context, index *Index, isWanted func(name str
 	go func() {
 		defer close(results)
 		failed <- index.Each(func(entry device.Entry) error {
-			if !isWanted(entry.Name) || entry.Record == nil && limits.CheckName(entry.Name) != nil {
-				return nil
+			if is, err := isWanted(entry); err != nil || !is || entry.Record == nil && limits.CheckName(entry.Name) != nil {
+				return err
 			}
 			return asker.begin(ctx, entry, results)
 		})
@@ -104,6 +105,9 @@ func (a *asker) begin(ctx context.Context, entry device.Entry, results chan<- lo
 
 // look finds what stands where a file is recorded: first its length, since bytes behind a file's end are made up.
 func (a *asker) look(ctx context.Context, entry device.Entry) (Found, error) {
+	if a.of.key != nil {
+		return a.lookSealed(ctx, entry)
+	}
 	if entry.Record == nil || entry.Record.Deleted || entry.Record.Content == nil {
 		return a.lookWhereNone(ctx, entry.Name)
 	}

@@ -70,7 +70,7 @@ func look(t *testing.T, recorded map[string]string, change func(*fake)) (map[str
 const block = protocol.MinBlockSize
 
 // all is of each name.
-func all(string) bool { return true }
+func all(entries.Entry) (bool, error) { return true, nil }
 
 // Each fault is found, with the length that the file has; and no request had a recorded hash where other bytes stand.
 func TestFaults(t *testing.T) {

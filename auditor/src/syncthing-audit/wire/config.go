@@ -20,6 +20,8 @@ type Folder struct {
 	IgnoresPermissions bool
 	Paused             bool
 	Devices            []Sharing // itself and the observer, too
+
+	tokens map[protocol.DeviceID][]byte // of passwords
 }
 
 // Sharing is a device that a folder is shared with, and what the device that says so has of its index.
@@ -123,8 +125,14 @@ func folderOf(text []byte, most int) (*Folder, error) {
 			if len(made.Devices) == most {
 				return fmt.Errorf("%w: over %d", TooManyDevices, most)
 			}
-			sharing, err := sharingOf(field.Text)
+			sharing, token, err := sharingOf(field.Text)
 			made.Devices = append(made.Devices, sharing)
+			if sharing.Encrypted {
+				if made.tokens == nil {
+					made.tokens = map[protocol.DeviceID][]byte{}
+				}
+				made.tokens[sharing.Device] = token
+			}
 			return err
 		}
 		return nil
@@ -132,8 +140,11 @@ func folderOf(text []byte, most int) (*Folder, error) {
 	return made, err
 }
 
-// sharingOf reads what is said of a folder's device.
-func sharingOf(text []byte) (made Sharing, err error) {
+// longestToken is more than any token has: a folder's id with a few bytes.
+const longestToken = 2 * longestFolderID
+
+// sharingOf reads what is said of a folder's device, and the token of its password.
+func sharingOf(text []byte) (made Sharing, token []byte, err error) {
 	err = message.Each(text, func(field message.Field) error {
 		switch field.Number {
 		case deviceID:
@@ -147,14 +158,17 @@ func sharingOf(text []byte) (made Sharing, err error) {
 		case deviceIndexID:
 			made.IndexID = field.Value
 		case deviceToken:
-			made.Encrypted = len(field.Text) > 0
+			if len(field.Text) > longestToken {
+				return fmt.Errorf("%w: a password's token of %d bytes", BadMessage, len(field.Text))
+			}
+			made.Encrypted, token = len(field.Text) > 0, append([]byte(nil), field.Text...)
 		}
 		return nil
 	})
 	if err == nil && made.Sequence < 0 {
 		err = fmt.Errorf("a highest sequence of %d", made.Sequence)
 	}
-	return made, err
+	return made, token, err
 }
 
 // badly says that a message can't be read, unless the error is a refusal already.

@@ -43,6 +43,8 @@ type Connection struct {
 type Look struct {
 	Folders []string // nothing for all that the device shares with the observer
 	Kept    Keeper   // nothing where no index was kept
+
+	Passwords map[string]string // of encrypted folders, by their ids
 }
 
 // Dial connects to a device at an address, and has it tell its indexes of folders. Of an index that was kept the device tells what came since, if it is

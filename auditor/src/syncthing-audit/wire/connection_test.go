@@ -187,7 +187,7 @@ func TestRefusals(t *testing.T) {
 		{"paused", Paused, first(func(f *fake) []byte {
 			return f.config("docs", observer.ID, 42, 4, func(b []byte) []byte { return message.AppendNumber(b, folderPaused, 1) })
 		})},
-		{"encrypted", EncryptedFolder, first(func(f *fake) []byte {
+		{"encrypted for the observer", EncryptedForObserver, first(func(f *fake) []byte {
 			return f.config("docs", observer.ID, 42, 4, func(b []byte) []byte {
 				return message.AppendText(message.AppendText(nil, folderDevice, message.AppendText(message.AppendText(nil, deviceID, observer.ID[:]), deviceToken, []byte("x"))), 1, b[2:6])
 			})

@@ -6,6 +6,7 @@ import (
 	"github.com/syndtr/goleveldb/leveldb"
 	"google.golang.org/protobuf/encoding/protowire"
 	"syncthing-audit/message"
+	"syncthing-audit/secret"
 )
 
 // The numbers of the fields of an Index and of an Index Update.
@@ -20,6 +21,7 @@ type taker struct {
 	limits *Limits
 	spent  *spent
 	index  *Index
+	key    *secret.Key // of an encrypted folder
 }
 
 // spent is what a connection's index messages have had of its limits.
@@ -73,7 +75,11 @@ func (t *taker) read(text []byte, highest int64, to *leveldb.Batch) (int64, erro
 			return fmt.Errorf("%w: %d behind %d", SequenceFalls, entry.Sequence, highest)
 		}
 		highest = entry.Sequence
-		to.Put(keyOf(entry.Name), field.Text)
+		name, record := entry.Name, field.Text
+		if t.key != nil {
+			name, record = t.open(entry, field.Text)
+		}
+		to.Put(keyOf(name), record)
 		return nil
 	})
 	return highest, err

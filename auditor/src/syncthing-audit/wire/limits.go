@@ -55,6 +55,9 @@ const (
 	NotWhole        Refusal = "its index isn't whole"
 	NotShared       Refusal = "it doesn't share the folder with the observer"
 	Paused          Refusal = "the folder is paused there"
-	EncryptedFolder Refusal = "the folder is encrypted there or for the observer, which isn't read over the wire yet"
+	EncryptedFolder Refusal = "the folder is encrypted there, and no password is given"
+	OtherPassword   Refusal = "the folder is encrypted there with another password than the one that is given"
 	Closed          Refusal = "the connection is closed"
+
+	EncryptedForObserver Refusal = "the device encrypts the folder for the observer: have it share the folder without a password"
 )

@@ -65,7 +65,7 @@ func readAll(connection *Connection) error {
 	if err != nil {
 		return err
 	}
-	return folder.Bytes(context.Background(), index, func(string) bool { return true }, func(device.Entry, Found) error { return nil })
+	return folder.Bytes(context.Background(), index, all, func(device.Entry, Found) error { return nil })
 }
 
 // A device that says a little now and then, or without an end, is waited for no longer than any device needs.

@@ -1,11 +1,13 @@
 package wire
 
 import (
+	"crypto/subtle"
 	"fmt"
 	"sort"
 
 	"github.com/syncthing/syncthing/lib/protocol"
 	"syncthing-audit/message"
+	"syncthing-audit/secret"
 )
 
 // Shared is a folder that is observed on a connection.
@@ -14,7 +16,15 @@ type Shared struct {
 
 	over  *Connection
 	taker taker
+	key   *secret.Key // of a folder that is encrypted there; nothing of others
+	token []byte      // of its password
 }
+
+// IsSealed says whether the folder is encrypted there, and no password was given. Its names are encrypted ones then, and no bytes are asked for.
+func (s *Shared) IsSealed() bool { return s.key == nil && len(s.token) > 0 }
+
+// IsOpened says whether the folder is encrypted there, and is read with its password.
+func (s *Shared) IsOpened() bool { return s.key != nil }
 
 // Keeper gives what was kept of a device's index of a folder.
 type Keeper func(folder string) (*Index, error)
@@ -28,8 +38,8 @@ func (c *Connection) Shared(folder string) *Shared {
 	return nil
 }
 
-// agree hears the device's ClusterConfig, and answers with those folders that are observed. A folder that isn't shared with the observer, or that is
-// paused or encrypted there, isn't answered: the device would log that, and offer the folder to its user.
+// agree hears the device's ClusterConfig, and answers with those folders that are observed. A folder that isn't shared with the observer, that is paused
+// there, or that is encrypted with another password, isn't answered: the device would log that, and offer the folder to its user.
 func (o *Observer) agree(c *Connection, look Look) error {
 	what, text, err := readFrame(c.stream, c.limits.Message, func() {})
 	if err != nil {
@@ -64,6 +74,11 @@ func (o *Observer) share(c *Connection, folder *Folder, look Look) error {
 		c.Out[folder.ID] = err
 		return nil
 	}
+	key, err := keyOfFolder(folder, own, look)
+	if err != nil {
+		c.Out[folder.ID] = err
+		return nil
+	}
 	delete(c.Out, folder.ID)
 	kept := look.Kept
 	if kept == nil {
@@ -78,8 +93,27 @@ func (o *Observer) share(c *Connection, folder *Folder, look Look) error {
 			return err
 		}
 	}
-	c.Folders = append(c.Folders, &Shared{Folder: *folder, over: c, taker: taker{folder: folder.ID, limits: &c.limits, spent: &c.spent, index: index}})
+	c.Folders = append(c.Folders, &Shared{Folder: *folder, over: c, key: key, token: folder.tokens[c.Device],
+		taker: taker{folder: folder.ID, limits: &c.limits, spent: &c.spent, index: index, key: key}})
 	return nil
+}
+
+// keyOfFolder gives the key of a folder that is encrypted at a device, by the password that was given; nothing where none was. The device isn't told of a
+// password that isn't the one there: it would tell its user that somebody has another one.
+func keyOfFolder(folder *Folder, own Sharing, look Look) (*secret.Key, error) {
+	password, is := look.Passwords[folder.ID]
+	if !own.Encrypted || !is {
+		return nil, nil
+	}
+	key, err := secret.OfFolder(folder.ID, password)
+	if err != nil {
+		return nil, err
+	}
+	token, err := key.Token(folder.ID)
+	if err == nil && subtle.ConstantTimeCompare(token, folder.tokens[own.Device]) != 1 {
+		err = OtherPassword
+	}
+	return key, err
 }
 
 // whyNone says why no folder is observed.
@@ -106,8 +140,8 @@ func sharedWith(folder *Folder, device, observer protocol.DeviceID) (Sharing, er
 		return own, NotShared
 	case folder.Paused:
 		return own, Paused
-	case own.Encrypted || with.Encrypted:
-		return own, EncryptedFolder
+	case with.Encrypted:
+		return own, EncryptedForObserver
 	case !isThere:
 		return own, fmt.Errorf("%w: a ClusterConfig without the device itself", BadMessage)
 	}
@@ -133,6 +167,12 @@ func (o *Observer) answerOf(device protocol.DeviceID, folder *Shared) []byte {
 	}
 	own := message.AppendText(nil, deviceID, o.ID[:])
 	own = message.AppendNumber(own, deviceIndexID, o.indexID(folder.ID))
+	switch {
+	case folder.key != nil: // as a device with the password says that the other one hasn't it
+		other = message.AppendText(other, deviceToken, folder.token)
+	case folder.IsSealed(): // as a device that hasn't the password says so of itself
+		own = message.AppendText(own, deviceToken, folder.token)
+	}
 	made := message.AppendText(nil, folderID, []byte(folder.ID))
 	made = message.AppendNumber(made, folderNoTemporary, 1)
 	made = message.AppendText(made, folderDevice, other)

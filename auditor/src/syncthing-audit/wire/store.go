@@ -12,6 +12,7 @@ import (
 	"github.com/syndtr/goleveldb/leveldb/storage"
 	"github.com/syndtr/goleveldb/leveldb/util"
 	"syncthing-audit/device"
+	"syncthing-audit/part"
 )
 
 // Index is a device's own index of a folder, as it told it: of each name the newest record. It stands in a LevelDB, as Syncthing 1's own index does, so
@@ -179,6 +180,9 @@ func entryOf(text []byte) (device.Entry, error) {
 	read, err := entryIn(text, math.MaxInt)
 	if err != nil {
 		return device.Entry{}, err
+	}
+	if string(read.Encrypted) == sealed {
+		return device.Entry{Name: read.Name, Out: &part.LeftOut{Kind: part.Unknown, Why: whySealed}}, nil
 	}
 	return device.WireEntry(read), nil
 }

@@ -1,0 +1,50 @@
+package budget
+
+import (
+	"time"
+
+	"syncthing-audit/history"
+)
+
+// counts count what waits in each place.
+type counts struct {
+	places []Place
+	of     []history.Waiting
+}
+
+func newCounts(places []Place) *counts {
+	made := &counts{places: places, of: make([]history.Waiting, len(places))}
+	for at, one := range places {
+		made.of[at].Folder, made.of[at].Number = one.Folder, one.Device
+	}
+	return made
+}
+
+// wait counts a name that isn't asked for now.
+func (c *counts) wait(one *name) {
+	for _, file := range one.files {
+		of := &c.of[file.at]
+		of.Files++
+		of.Bytes += file.bytes
+		if file.file.at == 0 {
+			of.Never++
+			of.NeverBytes += file.bytes
+			continue
+		}
+		at := time.Unix(file.file.at, 0).UTC()
+		if of.Oldest == nil || at.Before(*of.Oldest) {
+			of.Oldest = &at
+		}
+	}
+}
+
+// told gives the places where something waits.
+func (c *counts) told() []history.Waiting {
+	made := []history.Waiting{}
+	for _, one := range c.of {
+		if one.Files > 0 {
+			made = append(made, one)
+		}
+	}
+	return made
+}

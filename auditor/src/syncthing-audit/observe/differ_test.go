@@ -1,0 +1,59 @@
+package observe
+
+import (
+	"fmt"
+	"testing"
+
+	"github.com/syncthing/syncthing/lib/protocol"
+	"syncthing-audit/part"
+)
+
+// Of what a walk found those files are asked for again that have other bytes under the recorded time and size, and not very many.
+func TestWhatIsAskedForAfterAWalk(t *testing.T) {
+	records := map[string][]byte{}
+	for at, name := range []string{"rot", "same", "edited", "longer", "moved", "out", "cut otherwise"} {
+		records[name] = fileOf(name, uint64(at+1), true)
+	}
+	folder := seenIn(t, "docs", records)
+	recorded := map[string]part.Hash{}
+	for name := range records {
+		entry, _, err := folder.index.Get(name)
+		if err != nil {
+			t.Fatal(err)
+		}
+		recorded[name] = entry.Record.Content.Hash
+	}
+	found := func(name string, change func(*part.Name)) *part.Name {
+		made := &part.Name{Name: part.Bytes(name), Disk: &part.Node{Size: 3, Contents: []part.Content{{Size: 3, BlockSize: protocol.MinBlockSize, Hash: part.Hash{9}}}}}
+		change(made)
+		return made
+	}
+	walked := &Walked{Folder: "docs"}
+	for _, one := range []*part.Name{
+		found("rot", func(*part.Name) {}), found("same", func(n *part.Name) { n.Disk.Contents[0].Hash = recorded["same"] }), found("edited", func(n *part.Name) { n.Disk.ModifiedS = 7 }),
+		found("longer", func(n *part.Name) { n.Disk.Size = 4 }), found("moved", func(n *part.Name) { n.Moved = []string{part.MovedDisk} }),
+		found("out", func(n *part.Name) { n.Out = []part.LeftOut{{Kind: part.Unreadable}} }), found("cut otherwise", func(n *part.Name) { n.Disk.Contents[0].BlockSize *= 2 }),
+		found("new", func(*part.Name) {}), {Name: "missing"},
+	} {
+		if err := walked.Walk(folder, one); err != nil {
+			t.Fatal(err)
+		}
+	}
+	if len(walked.found) != 1 || walked.found["rot"].Hash != (part.Hash{9}) {
+		t.Errorf("%v", walked.found)
+	}
+	many, all := map[string][]byte{}, &Walked{Folder: "docs"}
+	for at := 0; at < mostDiffering+5; at++ {
+		name := fmt.Sprintf("%06d", at)
+		many[name] = fileOf(name, uint64(at+1), true)
+	}
+	folder = seenIn(t, "docs", many)
+	for name := range many {
+		if err := all.Walk(folder, found(name, func(*part.Name) {})); err != nil {
+			t.Fatal(err)
+		}
+	}
+	if len(all.found) != mostDiffering {
+		t.Errorf("%d files", len(all.found))
+	}
+}

@@ -1,0 +1,43 @@
+package main
+
+import (
+	"errors"
+	"fmt"
+	"io/fs"
+	"strings"
+
+	"syncthing-audit/regular"
+)
+
+// passwordsOf is the flag of the file with the passwords of encrypted folders: a command line is seen by others.
+type passwordsOf struct{ read *options }
+
+func (p passwordsOf) String() string { return "" }
+
+const (
+	mostBytesOfPasswords = 1 << 20
+	mayOthersRead        = fs.FileMode(0o077)
+)
+
+// Set reads the file: a folder's id, a space and its password on each line.
+func (p passwordsOf) Set(value string) error {
+	text, about, err := regular.Read(value, mostBytesOfPasswords)
+	if err != nil {
+		return err
+	}
+	if about.Mode()&mayOthersRead != 0 {
+		return errors.New("others may read or write it (chmod 600)")
+	}
+	p.read.passwords = map[string]string{}
+	for at, line := range strings.Split(strings.TrimSuffix(string(text), "\n"), "\n") {
+		folder, password, is := strings.Cut(strings.TrimSuffix(line, "\r"), " ")
+		if !is || folder == "" || password == "" {
+			return fmt.Errorf("line %d isn't a folder's id, a space and its password", at+1)
+		}
+		if _, had := p.read.passwords[folder]; had {
+			return fmt.Errorf("line %d has the password of folder %q once more", at+1, folder)
+		}
+		p.read.passwords[folder] = password
+	}
+	return nil
+}
