@@ -98,3 +98,18 @@ func TestNothingToChoose(t *testing.T) {
 		}
 	}
 }
+
+// Of what goes by itself no choice is told that it takes it away.
+func TestWhatGoesByItselfGoesByNoChoice(t *testing.T) {
+	row := calm("a", 3, 1)
+	changed(row, 2, 60, 200)
+	changed(row, 0, 70, 300)
+	row.At[0].Own.Version = [][2]uint64{{1, 6}, {3, 5}, {9, 1}}
+	made := outlookOf(folderOf("send-receive", "send-only", "send-receive"), []*join.Row{row})
+	for _, choice := range made.Choices {
+		if choice.Act == Both && choice.Gone == 1 && len(choice.Goes[0].Loses) == 1 && reflect.DeepEqual(choice.Goes[0].Loses[0].Members, []int{1}) {
+			return
+		}
+	}
+	t.Errorf("%+v", made.Choices)
+}
