@@ -157,10 +157,12 @@ func parse(text []byte) (*Config, error) {
 	for {
 		token, err := decoder.Token()
 		if err == io.EOF {
-			if err := made.check(); err != nil {
-				return made, err
+			for _, check := range []func() error{made.checkKnown, func() error { return checkText(text) }, made.check} {
+				if err := check(); err != nil {
+					return made, err
+				}
 			}
-			return made, checkText(text)
+			return made, nil
 		}
 		if err != nil {
 			return made, err
