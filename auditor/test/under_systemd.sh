@@ -7,7 +7,7 @@ set -euo pipefail
 top=$(dirname "$(dirname "$(dirname "$(readlink -f "$0")")")")
 root=${1:-$(mktemp -d)}
 mkdir -p "$root"
-packages=systemd-sysv,dbus-user-session,libpam-systemd,python3,ca-certificates,syncthing,exim4-daemon-light,procps
+packages=systemd-sysv,dbus,dbus-user-session,libpam-systemd,python3,ca-certificates,syncthing,exim4-daemon-light,procps
 
 if ! [ -e "$root/made" ]; then
   debootstrap --variant=minbase --include=$packages bookworm "$root/clean" http://deb.debian.org/debian > "$root/told"
