@@ -120,3 +120,42 @@ func TestWhatIsHashedComesToItsName(t *testing.T) {
 		t.Error("another name is told")
 	}
 }
+
+// Who asks for a name before one is there waits for it, and for the end; how many wait is told meanwhile.
+func TestNamesThatComeLater(t *testing.T) {
+	q, came := NewQueue(), make(chan *Pending)
+	go func() {
+		for {
+			one, _ := q.Next()
+			came <- one
+			if one == nil {
+				return
+			}
+		}
+	}()
+	for _, one := range []*Pending{{Weight: 1}, {Weight: 2}, nil} {
+		time.Sleep(10 * time.Millisecond) // so that it is waited for
+		if names, weight := q.Waiting(); names != 0 || weight != 0 {
+			t.Errorf("%d names of %d wait", names, weight)
+		}
+		if one == nil {
+			q.End(nil)
+		} else if q.Reserve(one.Weight) {
+			q.Put(one)
+		}
+		select {
+		case is := <-came:
+			if is != one {
+				t.Errorf("%+v, not %+v", is, one)
+			}
+		case <-time.After(20 * time.Second):
+			t.Fatal("nothing comes")
+		}
+	}
+	full := NewQueue()
+	full.Reserve(7)
+	full.Put(&Pending{Weight: 7})
+	if names, weight := full.Waiting(); names != 1 || weight != 7 {
+		t.Errorf("%d names of %d wait", names, weight)
+	}
+}

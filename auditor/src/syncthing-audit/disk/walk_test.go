@@ -99,3 +99,23 @@ func TestADirectoryThatCannotBeReadIsInEachSlice(t *testing.T) {
 type unlisted struct{ fs.Filesystem }
 
 func (unlisted) DirNames(string) ([]string, error) { return nil, os.ErrPermission }
+
+// What Syncthing keeps for itself is passed over, files and directories with all that is below.
+func TestWhatIsSyncthingsOwnIsPassedOver(t *testing.T) {
+	room := t.TempDir()
+	for _, name := range []string{".stfolder/a", ".stversions/b/c", "d/.stfolder"} {
+		if err := os.MkdirAll(filepath.Join(room, filepath.Dir(name)), 0o755); err != nil {
+			t.Fatal(err)
+		}
+		if err := os.WriteFile(filepath.Join(room, name), nil, 0o600); err != nil {
+			t.Fatal(err)
+		}
+	}
+	if err := os.WriteFile(filepath.Join(room, ".stignore"), nil, 0o600); err != nil {
+		t.Fatal(err)
+	}
+	_, order, err := walked(fs.NewFilesystem(fs.FilesystemTypeBasic, room))
+	if err != nil || !reflect.DeepEqual(order, []string{"d", "d/.stfolder"}) {
+		t.Errorf("%q, %v", order, err)
+	}
+}
