@@ -69,8 +69,9 @@ fn are_shares_fit(row: &NameRow, shares: &[Share]) -> bool
     shares.iter().all(|share| is_said_fit(row, share))
 }
 
-// Whether what the row says of the share's device can stand there.
-fn is_said_fit(row: &NameRow, share: &Share) -> bool
+/// Whether what the row says of the share's device can stand there: each of its records has a sequence from 1 to the greatest, and
+/// what it pulls is valid. It takes no memory.
+pub fn is_said_fit(row: &NameRow, share: &Share) -> bool
     ensures { IsTrue result ↔ IsShareFit row.now (cell_of row.now.devices share.now.device) share.now }
 {
     is_share_fit(row, cell_of(row.devices.as_slice(), share.device), share)

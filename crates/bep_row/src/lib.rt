@@ -13,6 +13,6 @@ mod fits;
 mod make;
 mod row;
 
-pub use fits::{header_fits, row_fits, rows_make_cuts};
+pub use fits::{header_fits, is_said_fit, row_fits, rows_make_cuts};
 pub use make::cut_of;
 pub use row::{DeviceCell, NameRow, ViewCell};

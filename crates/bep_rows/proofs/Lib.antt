@@ -3,4 +3,4 @@ mod Order
 mod Whole
 mod Reading
 mod AllRows
-mod ListRead
+pub mod ListRead

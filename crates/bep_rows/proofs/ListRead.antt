@@ -21,17 +21,8 @@ use Rattle.bep_rows.specs.Names.{IsAbove, IsUpTo, Key, among, is_name}
 use Rattle.bep_rows.specs.Row.{IsRowOf}
 use Rattle.bep_rows.specs.Standing.{IsStanding}
 use Rattle.bep_rows.specs.Stream.{IsReadTo}
+use Rattle.bep_rows.specs.ListRead.{HasKeys, IsListRead}
 use Rattle.bep_rows.proofs.Reading.{all_read, in_first, up_to_below}
-
--- these names have the keys of all these rows
-abbrev pub HasKeys : List Key → List NameRow → Type 0
-HasKeys keys rows = (row : NameRow) → Contains rows row → among keys row.folder row.name ≡ true
-
--- what is known of a cut once these rows were read
-pub record IsListRead (header : CutParts) (rows : List NameRow) (stream : Stream) : Type 0 where
-  pub differ : NamesDiffer rows
-  pub up_to : (row : NameRow) → Contains rows row → IsUpTo stream.last (key_of_row row)
-  pub read : (whole : CutParts) → ((row : NameRow) → Contains rows row → IsRowOf whole header row) → (keys : List Key) × HasKeys keys rows × IsReadTo (tables_of whole) keys stream
 
 -- one more, of another name than all
 differ_more : (rows : List NameRow) (row : NameRow) → NamesDiffer rows → ((one : NameRow) → Contains rows one → key_of_row one ≢ key_of_row row) → NamesDiffer (rows ++ row ∷ [])

@@ -3,3 +3,4 @@ pub mod Standing
 pub mod Stream
 pub mod Row
 pub mod AllRows
+pub mod ListRead

@@ -1,5 +1,5 @@
 //! What is answered of a row beside its header.
-ghost use Rattle.std.specs.Prelude.{◌≡◌, ◌↔◌, Err, IfOk, OnOk};
+ghost use Rattle.std.specs.Prelude.{◌≡◌, ◌⊎◌, Err, IfErr, IfOk, OnOk};
 ghost use Rattle.bep_parts.specs.Parts.{only};
 ghost use Rattle.bep_row.specs.Fits.{Fits};
 ghost use Rattle.bep_rows.specs.Names.{is_name};
@@ -49,6 +49,7 @@ pub fn standing_of_row(alloc: Global, header: &Cut, row: &NameRow) -> Result<Sta
         IsStanding (only (is_name (row.now.folder, row.now.name)) (tables_of whole)) standing) }
     ensures fits { OnOk result (Fits header.now row.now) }
     ensures unfit { result ≡ Err Unfit → ¬ Fits header.now row.now }
+    ensures only { IfErr result (λ e. (e ≡ Unfit) ⊎ (e ≡ Memory)) }
 {
     documents_say_only();
     if !row_fits(header, row) {

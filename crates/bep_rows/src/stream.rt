@@ -65,6 +65,13 @@ impl Stream {
         }
     }
 
+    /// The last name that was read, if there was one.
+    pub fn last(&self) -> &Option<(FolderName, Name)>
+        ensures { result.now ≡ self.now.last }
+    {
+        &self.last
+    }
+
     /// What is answered of all names that were read. Of a cut that has no other name, it is the answer.
     pub fn standing(&self) -> &Standing
         ensures value { result.now ≡ self.now.standing }

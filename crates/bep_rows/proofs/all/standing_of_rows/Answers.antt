@@ -7,7 +7,8 @@ use Rattle.bep_rows.specs.AllRows.{cut_by, key_of_row}
 use Rattle.bep_rows.specs.Names.{IsAbove, Key, is_name}
 use Rattle.bep_rows.specs.Standing.{IsStanding}
 use Rattle.bep_rows.specs.Stream.{IsReadTo}
-use Rattle.bep_rows.proofs.ListRead.{IsListRead, none_is_read, one_more_is_read, whole_list_is_read}
+use Rattle.bep_rows.specs.ListRead.{IsListRead}
+use Rattle.bep_rows.proofs.ListRead.{none_is_read, one_more_is_read, whole_list_is_read}
 use Rattle.bep_rows.proofs.all.standing_of_rows.Goals as goal
 
 pub loop-row-init : goal.loop-row-init

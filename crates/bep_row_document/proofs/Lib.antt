@@ -1,0 +1,5 @@
+mod ListedFacts
+pub mod RecordFacts
+mod MadeFacts
+pub mod FaultFacts
+mod ReadingFacts
