@@ -1,0 +1,4 @@
+mod Above
+mod LineFacts
+mod SoFar
+mod Streamed

@@ -1,0 +1,18 @@
+use Rattle.std.proofs.Common.{◌∙◌, List, ℕ, sym, ap, subst, ◌++◌}
+use Rattle.std.specs.Io.KnownBytes.{Appends}
+use Rattle.bep_answer.specs.declared.outcome.Outcome.{Outcome}
+use Rattle.bep_rows_answer.specs.Stream.{IsSoFar, IsWholeAnswer, outcome_of}
+use Rattle.bep_rows_answer.proofs.SoFar.{whole_answer}
+use Rattle.bep_rows_answer.proofs.stream.end.Goals as goal
+
+pub returns-clause-ok : goal.returns-clause-ok
+returns-clause-ok g c =
+    let rows = c.in-Some.rows in
+    let more = c.in_ok-text-in-Some.text.items in
+    record {
+      more = more;
+      written = subst (λ (bytes : List ℕ). Appends (g.W.Write.contents c.args.writer.now) (g.W.Write.contents c.write_all.new.writer) bytes) c.as_slice.ensures.value c.in_ok-write_all-in-Some.ensures.ok;
+      says = λ lines text so_far.
+          subst (λ (outcome : Outcome). IsWholeAnswer lines outcome (text ++ more)) (sym (c.outcome_of.ensures ∙ ap outcome_of c.standing.ensures.value))
+          (whole_answer c.verdict_by_parts.ensures.settled c.rows_make_a_cut.ensures.rows c.rows_make_a_cut.ensures.names rows lines text more (rw c.in-Some.is at so_far) c.in_ok-text-in-Some.ensures);
+    }

@@ -1,0 +1,18 @@
+//! What the program answers to a stream of rows: a line for each name at fault as it comes, then the verdict and the counts.
+//!
+//! Rows are read one by one, and each is forgotten once it is answered:
+//!
+//!     let outcome = rows_text(alloc, &mut reader, &mut writer)?;
+#![tactic(auto)]
+
+mod counts;
+mod header;
+mod input;
+mod lines;
+mod rows;
+mod stream;
+
+pub use counts::FolderCount;
+pub use input::{MAX_LINE, Next};
+pub use rows::Rows;
+pub use stream::rows_text;

@@ -1,0 +1,204 @@
+//! The answer to a whole stream, from the bytes that come in to the bytes that go out.
+ghost use Rattle.std.specs.Prelude.{◌≡◌, ◌==◌, ◌&&◌, ◌<◌, ℕ, List, Option, IfErr, IfOk, IsSome, OnOk, is_some, length};
+ghost use Rattle.std.specs.Io.KnownBytes.{Appends};
+ghost use Rattle.bep_rows_answer.specs.inner.Answered.{IsAnsweredLast, IsAnsweredNext, IsEnded, IsFrontAnswered, IsNextStreamed, IsStreamedTo};
+ghost use Rattle.bep_rows_answer.specs.Lines.{refusal_line};
+ghost use Rattle.bep_rows_answer.specs.Stream.{IsAnswered, IsGrownText, IsLineRefusal, IsTakenNext};
+ghost use Rattle.bep_rows_answer.specs.Stream as spec;
+
+use crate::input::{Next, behind, read_line};
+use crate::lines::push_refusal;
+use crate::rows::Rows;
+use bep_answer::Outcome;
+use bep_document::{DocError, DocFault, Fault};
+use bep_parts::verdict_by_parts;
+use bep_report::{ReportError, write_all};
+use bep_rows::{Standing, rows_make_a_cut};
+use std::alloc::Global;
+use std::io::{Read, Write};
+
+/// Reads a stream of rows, a header first and then a row on each line, names rising, and answers as it reads: a line for each
+/// name at fault, then the verdict and a line for each folder. Where a line is refused, what was answered before it stands, and
+/// the last line says its number and its fault. No more memory is needed for many rows than for one.
+///
+/// `Read` and `Write` are answered where the reader or the writer answers any error, or takes nothing; `Memory` may come in place
+/// of an answer. What was written before stands then.
+pub fn rows_text<R: Read, W: Write>(
+    alloc: Global,
+    reader: &mut R,
+    writer: &mut W,
+) -> Result<Outcome, ReportError>
+    ensures ok { IfOk result (IsAnswered (R.remaining reader.old) (R.remaining reader.new) (W.contents writer.old) (W.contents writer.new)) }
+    ensures err { IfErr result (λ _. IsGrownText (W.contents writer.old) (W.contents writer.new)) }
+{
+    let mut state = None;
+    let mut pending = Vec::new(alloc);
+    for number in 1..u64::MAX {
+        let told = answer_next(alloc, reader, writer, &mut state, &mut pending, number)?;
+        if let Some(outcome) = told {
+            return Ok(outcome);
+        }
+    }
+    Err(ReportError::Read)
+}
+
+// Reads the next line, of this number, and writes its answer; the outcome, if that was the last.
+fn answer_next<R: Read, W: Write>(
+    alloc: Global,
+    reader: &mut R,
+    writer: &mut W,
+    state: &mut Option<Rows>,
+    pending: &mut Vec<u8>,
+    number: u64,
+) -> Result<Option<Outcome>, ReportError>
+    ensures ok { IfOk result (λ told. (unread held : Option (List ℕ)) →
+        IsStreamedTo unread (R.remaining reader.old) held (W.contents writer.old) state.old pending.old.items number →
+        IsNextStreamed unread (R.remaining reader.new) held (W.contents writer.new) state.new pending.new.items number told) }
+    ensures err { IfErr result (λ _. IsGrownText (W.contents writer.old) (W.contents writer.new)) }
+{
+    match read_line(reader, pending)? {
+        Next::Line(len) => answer_front(alloc, writer, state, pending, number, len),
+        Next::Last => {
+            let outcome = answer_last(alloc, writer, state, number, pending.as_slice())?;
+            Ok(Some(outcome))
+        }
+        Next::TooLong => {
+            refuse(alloc, writer, number, &DocFault::nowhere(Fault::Range))?;
+            Ok(Some(Outcome::Refused))
+        }
+    }
+}
+
+// Writes the answer to the first of the pending lines, of so many bytes, and passes it; the outcome, if it is refused.
+fn answer_front<W: Write>(
+    alloc: Global,
+    writer: &mut W,
+    state: &mut Option<Rows>,
+    pending: &mut Vec<u8>,
+    number: u64,
+    len: usize,
+) -> Result<Option<Outcome>, ReportError>
+    requires { len < length pending.old.items }
+    ensures ok { IfOk result (IsFrontAnswered len number pending.old.items pending.new.items state.old state.new (W.contents writer.old) (W.contents writer.new)) }
+    ensures err { IfErr result (λ _. IsGrownText (W.contents writer.old) (W.contents writer.new)) }
+{
+    if !answer_line(alloc, writer, state, number, &pending[..len])? {
+        return Ok(Some(Outcome::Refused));
+    }
+    *pending = behind(alloc, pending.as_slice(), len)?;
+    Ok(None)
+}
+
+// Takes the next line. The text of its answer, or the fault for which it is refused.
+fn take_line(alloc: Global, state: &mut Option<Rows>, line: &[u8]) -> Result<Vec<u8>, DocError>
+    ensures ok { IfOk result (λ more. IsTakenNext line.now state.old state.new more.items) }
+    ensures some { OnOk result (IsSome state.new) }
+    ensures err { IfErr result (IsLineRefusal line.now state.old) }
+{
+    match state {
+        None => {
+            *state = Some(Rows::behind(alloc, line)?);
+            Ok(Vec::new(alloc))
+        }
+        Some(rows) => rows.take(alloc, line),
+    }
+}
+
+// Takes the next line, and writes the text of its answer; or the line of the fault for which it is refused, and answers false.
+fn answer_line<W: Write>(
+    alloc: Global,
+    writer: &mut W,
+    state: &mut Option<Rows>,
+    number: u64,
+    line: &[u8],
+) -> Result<bool, ReportError>
+    ensures ok { IfOk result (IsAnsweredNext line.now number state.old state.new (W.contents writer.old) (W.contents writer.new)) }
+    ensures err { IfErr result (λ _. IsGrownText (W.contents writer.old) (W.contents writer.new)) }
+{
+    match take_line(alloc, state, line) {
+        Ok(text) => {
+            write_all(writer, text.as_slice())?;
+            Ok(true)
+        }
+        Err(DocError::Refused(fault)) => {
+            refuse(alloc, writer, number, &fault)?;
+            Ok(false)
+        }
+        Err(DocError::Memory) => Err(ReportError::Memory),
+    }
+}
+
+// Writes the line of a line that is refused.
+fn refuse<W: Write>(
+    alloc: Global,
+    writer: &mut W,
+    number: u64,
+    fault: &DocFault,
+) -> Result<(), ReportError>
+    ensures ok { IfOk result (λ _. Appends (W.contents writer.old) (W.contents writer.new) (refusal_line number fault.now)) }
+    ensures err { IfErr result (λ _. IsGrownText (W.contents writer.old) (W.contents writer.new)) }
+{
+    let mut text = Vec::new(alloc);
+    push_refusal(&mut text, number, fault)?;
+    write_all(writer, text.as_slice())
+}
+
+// Takes the last line, unless there is none, and writes its answer and the end. A stream without bytes is one line.
+fn answer_last<W: Write>(
+    alloc: Global,
+    writer: &mut W,
+    state: &mut Option<Rows>,
+    number: u64,
+    line: &[u8],
+) -> Result<Outcome, ReportError>
+    ensures ok { IfOk result (IsAnsweredLast line.now number state.old (W.contents writer.old) (W.contents writer.new)) }
+    ensures err { IfErr result (λ _. IsGrownText (W.contents writer.old) (W.contents writer.new)) }
+{
+    if is_over(line, state) {
+        return end(alloc, writer, state);
+    }
+    if !answer_line(alloc, writer, state, number, line)? {
+        return Ok(Outcome::Refused);
+    }
+    end(alloc, writer, state)
+}
+
+// Whether no line is left, behind a header.
+fn is_over(line: &[u8], state: &Option<Rows>) -> bool
+    ensures { result ≡ ((length line.now == 0) && is_some state.now) }
+{
+    line.is_empty() && state.is_some()
+}
+
+// Writes the verdict and the counts.
+fn end<W: Write>(
+    alloc: Global,
+    writer: &mut W,
+    state: &Option<Rows>,
+) -> Result<Outcome, ReportError>
+    requires { IsSome state.now }
+    ensures ok { IfOk result (IsEnded state.now (W.contents writer.old) (W.contents writer.new)) }
+    ensures err { IfErr result (λ _. IsGrownText (W.contents writer.old) (W.contents writer.new)) }
+{
+    rows_make_a_cut();
+    verdict_by_parts();
+    match state {
+        Some(rows) => {
+            let text = rows.end(alloc)?;
+            write_all(writer, text.as_slice())?;
+            Ok(outcome_of(rows.stream.standing()))
+        }
+        None => unreachable!(),
+    }
+}
+
+// The outcome of what is answered of all names.
+fn outcome_of(standing: &Standing) -> Outcome
+    ensures { result ≡ spec.outcome_of standing.now }
+{
+    match standing {
+        Standing::Settled => Outcome::Settled,
+        Standing::Not(..) => Outcome::NotSettled,
+        Standing::Unwon(..) => Outcome::NotSettled,
+    }
+}
