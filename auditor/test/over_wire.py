@@ -18,7 +18,7 @@ BLOCK = 128 << 10
 SECONDS_OF_A_RESCAN = 3
 # What a device logs of a connection of any device that it knows.
 OF_CONNECTIONS = re.compile(r"Established secure connection|New device connection|Lost primary connection|Connection (to|from) |Device \S+ client is|"
-                            r"has a new index ID|Additional connection|Connected to already connected device|Replacing old connection|closed: |Joined swarm|[Ff]ailed to exchange Hello")
+                            r"has a new index ID|Additional connection|Connected to already connected device|Replacing old connection|Listen \(BEP/tcp|closed: |Joined swarm|[Ff]ailed to exchange Hello")
 
 
 class OverTheWire(Exporting):

@@ -143,13 +143,13 @@ func TestLongestAgo(t *testing.T) {
 // A device that wasn't reached has its files asked for the next time, and with them those of the others.
 func TestADeviceThatWasNotReached(t *testing.T) {
 	c := newCluster(t, 2)
-	c.record("a", 100, 0, 1)
-	c.record("b", 100, 0)
+	c.record("b", 100, 0, 1)
+	c.record("a", 100, 0)
 	c.look(1000, 1, func(device uint64) bool { return device == 0 })
-	if got := c.look(100, 2, all); !same(got, "a") {
+	if got := c.look(100, 2, all); !same(got, "b") {
 		t.Errorf("%v", got)
 	}
-	if got := c.look(100, 3, all); !same(got, "b") {
+	if got := c.look(100, 3, all); !same(got, "a") {
 		t.Errorf("%v", got)
 	}
 }

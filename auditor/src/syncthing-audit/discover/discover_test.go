@@ -63,6 +63,11 @@ func TestWhatIsNone(t *testing.T) {
 
 // Packets are heard over loopback, broadcasts and multicasts, and what is none of them costs nothing. Another one may hear the group at the same port.
 func TestHearing(t *testing.T) {
+	if six, err := net.ListenPacket("udp6", "[::1]:0"); err != nil {
+		t.Skip("this machine has no IPv6")
+	} else {
+		six.Close()
+	}
 	port := 0
 	var listener *Listener
 	for try := 22100; try < 22200 && listener == nil; try++ {
@@ -73,7 +78,7 @@ func TestHearing(t *testing.T) {
 		}
 	}
 	if listener == nil {
-		t.Skip("no port for both, broadcasts and multicasts")
+		t.Fatal("no port of a hundred is there for both, broadcasts and multicasts")
 	}
 	defer listener.Close()
 	second, err := Listen(port)

@@ -27,7 +27,7 @@ func isUnclearOverWire(head *part.Head, line *part.Name) bool {
 	switch {
 	case !head.IsOverWireAlone():
 		return false
-	case head.IsOfRecords() || line.NotRead:
+	case head.IsOfRecords():
 		return true
 	case own == nil || own.Deleted || own.Content == nil:
 		return disk != nil

@@ -71,3 +71,23 @@ func TestAFolderThatIsNotShown(t *testing.T) {
 		}
 	}
 }
+
+// A device on which the folder is encrypted is audited if it was read with the password; otherwise it is left out, with what the observer says of it.
+func TestAFolderThatWasOpened(t *testing.T) {
+	for _, isOpened := range []bool{true, false} {
+		one, two := partOf(0, true, false, 9, 9), partOf(1, true, false, 9, 9)
+		one.Head.Folders[0].Sharing[0].Encrypted = true
+		two.Head.Folders[0].IsOpened = isOpened
+		plan, err := NewPlan([]*Device{one, two}, nil)
+		if err != nil || len(plan.Folders) != 1 || (len(plan.Folders[0].Members) == 2) != isOpened || (len(plan.Refusals) == 0) != isOpened {
+			t.Errorf("opened %v: %v, %+v", isOpened, err, plan)
+		}
+	}
+	one, two := twoFolders(0, 0), twoFolders(1, 0, part.Without{Folder: "photos", Why: "no password: 9 names", IsEncrypted: true})
+	one.Head.Folders[1].Sharing[0].Encrypted = true
+	plan, err := NewPlan([]*Device{one, two}, nil)
+	why := "the folder is shared encrypted with it by device " + ids[0][:7] + ": no password: 9 names"
+	if err != nil || len(plan.Refusals) != 1 || plan.Refusals[0].Why != why || plan.Refusals[0].Kind != part.Encrypted {
+		t.Errorf("%v, %+v", err, plan.Refusals)
+	}
+}
