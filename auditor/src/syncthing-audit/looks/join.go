@@ -181,9 +181,11 @@ func (s *Stream) both(one, other *part.Name) *part.Name {
 	if one.IsIgnored() && other.IsIgnored() {
 		return s.still(one)
 	}
-	if lost := lostBy(other); len(lost) > 0 && !one.IsDamaged() {
+	if first, second := lostBy(one), lostBy(other); len(first)+len(second) > 0 {
 		made := s.still(one)
-		made.Moved, made.Out = nil, append(append([]part.LeftOut(nil), one.Out...), lost...)
+		if made.Moved = nil; !one.IsDamaged() {
+			made.Out = append(append([]part.LeftOut(nil), one.Out...), second...)
+		}
 		return made
 	}
 	moved := append([]string(nil), one.Moved...)
