@@ -142,9 +142,10 @@ as me 'systemctl --user start syncthing-audit-part.service'
 expect "the part is sent" as me 'test -s sent.part'
 expect "Syncthing runs again" as me 'systemctl --user is-active syncthing-two'
 expect "it was stopped meanwhile" as me 'journalctl --user -u syncthing-two -o cat | grep -q Stopped'
-as me 'rm sent.part; systemctl --user stop syncthing-two; truncate -s 12G two/files/large; systemctl --user start syncthing-two; sleep 5
+as me 'rm sent.part; for one in 1 2 3; do truncate -s 12G two/files/large$one; done
   systemctl --user start --no-block syncthing-audit-part.service'
-until_there "it hashes" within sh -c 'ls /home/me/.local/state/syncthing-audit/sent/.syncthing-audit-*'
+until_there "it hashes" as me 'pgrep -x syncthing-audit'
+expect "Syncthing is stopped meanwhile" as me '! systemctl --user is-active syncthing-two'
 as me 'systemctl --user kill -s KILL syncthing-audit-part.service' 2> "$root/told" || true
 until_there "Syncthing runs again after a kill" as me 'systemctl --user is-active syncthing-two'
 expect "nothing is sent then" as me 'test ! -e sent.part'
