@@ -27,7 +27,7 @@ use Rattle.bep_audit.specs.declared.checkers.TheConstants.{REASONS}
 use Rattle.bep_audit.specs.Group.{IsGroupOf, GroupIsKnown}
 use Rattle.bep_audit.specs.Grouped.{same_group_same}
 use Rattle.bep_audit.specs.Walk.{Failure}
-use Rattle.bep_explain.specs.inner.Adding.{Each}
+use Rattle.bep_gather.specs.Adding.{Each}
 use Rattle.bep_explain.specs.Found.{IsMet}
 use Rattle.bep_explain.specs.inner.Says.{failure_at, NameHasRow, SaysOrder, SaysEntry, SaysHasRow, SaysAtRow}
 

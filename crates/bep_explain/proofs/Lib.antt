@@ -1,6 +1,3 @@
-pub mod AddFacts
-pub mod DistinctFacts
-pub mod KeptFacts
 pub mod FailureFacts
 pub mod RowFacts
 pub mod Gathered
@@ -13,5 +10,5 @@ pub mod NameSays
 pub mod RowLists
 pub mod GroupFound
 mod UnwonFacts
-mod JsonFacts
-mod LinesFacts
+pub mod JsonFacts
+pub mod LinesFacts

@@ -27,7 +27,7 @@ one_further shown all place y done below is left =
 pub all_found : {A B : Type 0} (shown : A → B) (all : List A) (place : ℕ) (done : List B) → length all ≤ place → done ++ map shown (drop place all) ≡ map shown all → done ≡ map shown all
 all_found shown all place done beyond left = sym (append-nil done) ∙ ap (λ l. done ++ map shown l) (sym (drop_all place all beyond)) ∙ left
 
-one_more_text : {A : Type 0} (text_of : A → List ℕ) (told : List A) (one : A) (old mid new : List ℕ) → mid ≡ old ++ flat_map text_of told → new ≡ mid ++ text_of one → new ≡ old ++ flat_map text_of (told ++ one ∷ [])
+pub one_more_text : {A : Type 0} (text_of : A → List ℕ) (told : List A) (one : A) (old mid new : List ℕ) → mid ≡ old ++ flat_map text_of told → new ≡ mid ++ text_of one → new ≡ old ++ flat_map text_of (told ++ one ∷ [])
 one_more_text text_of told one old mid new before here =
     here ∙ ap (λ l. l ++ text_of one) before ∙ append_assoc old (flat_map text_of told) (text_of one)
     ∙ ap (λ l. old ++ l) (ap (λ l. flat_map text_of told ++ l) (sym (append-nil (text_of one))) ∙ sym (flat_map-append text_of told (one ∷ [])))

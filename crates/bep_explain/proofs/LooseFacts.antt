@@ -16,11 +16,11 @@ use Rattle.bep_tables.specs.declared.table.entry.TableEntry.{TableEntry}
 use Rattle.bep_tables.specs.Listed.{Holding, Record, Node, Listed, key_at, listed}
 use Rattle.bep_audit.specs.Loose.{Loosening, loose_cmp, asked_by, place_at, loosening_at, loosening_of, AsksEntry, AsksEntries, MeetsFirm}
 use Rattle.bep_audit.specs.LooseOrder.{loose_total}
-use Rattle.bep_explain.specs.inner.Adding.{AddsFailing, Each}
+use Rattle.bep_gather.specs.Adding.{AddsFailing, Each}
 use Rattle.bep_explain.specs.inner.Rows.{row_shown, named_key}
 use Rattle.bep_explain.specs.declared.rows.NamedRow.{NamedRow}
-use Rattle.bep_explain.proofs.AddFacts.{adds_none, adds_as, adds_unless}
-use Rattle.bep_explain.proofs.FailureFacts.{same_number, same_place}
+use Rattle.bep_gather.specs.AddFacts.{adds_none, adds_as, adds_unless}
+use Rattle.bep_gather.specs.PlaceFacts.{same_number, same_place}
 
 -- ---- only equal ones tie
 

@@ -23,7 +23,7 @@ use Rattle.bep_tables.specs.Listed.{Listed}
 use Rattle.bep_audit.specs.Candidates.{FindsWinner}
 use Rattle.bep_audit.specs.Group.{AsksBeside, GroupIsAsked, IsGroupOf}
 use Rattle.bep_audit.specs.Walk.{Failure}
-use Rattle.bep_explain.specs.inner.Adding.{Each}
+use Rattle.bep_gather.specs.Adding.{Each}
 use Rattle.bep_explain.specs.inner.Rows.{AreAbout}
 use Rattle.bep_explain.specs.inner.Says.{failure_at, AsksBoth, AsksOtherBeside, SaysName, SaysAtRow}
 use Rattle.bep_explain.proofs.TwoContents.{same_content_suffices, two_contents_suffice}

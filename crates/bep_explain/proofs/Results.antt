@@ -6,9 +6,7 @@ use Rattle.std.specs.Ordering.{nat_cmp, ordering_then}
 use Rattle.std.specs.List.Sorted.{IsStrictlySortedBy, IsSorted, IsPermutation}
 use Rattle.std.proofs.lemmas.Cmp.{tied_itself}
 use Rattle.std.specs.Cmp.{nat_cmp_total, nat_cmp_is}
-use Rattle.bep_facts.specs.Members.{Contains-first, Contains-cons_cases, not_in_none}
-use Rattle.bep_facts.specs.Orders.{not_less_itself}
-use Rattle.bep_facts.specs.Rising.{below_later}
+use Rattle.bep_facts.specs.Members.{Contains-first, not_in_none}
 use Rattle.bep_model.specs.declared.row.Row.{Row}
 use Rattle.bep_model.specs.Tables.{Tables}
 use Rattle.bep_model.specs.Settled.{IsSettled}
@@ -18,26 +16,14 @@ use Rattle.bep_model.specs.Laws.{NumbersDiffer, SettledIsFaultless}
 use Rattle.bep_audit.specs.declared.failure.Failure as lends
 use Rattle.bep_audit.specs.FailureOrder.{failure_total, lent_cmp}
 use Rattle.bep_audit.specs.Walk.{Failure, failure_cmp, failure_shown}
-use Rattle.bep_explain.specs.inner.Adding.{AddsFailing}
-use Rattle.bep_explain.specs.inner.Distinct.{distinct}
+use Rattle.bep_gather.specs.Adding.{AddsFailing}
+use Rattle.bep_gather.specs.Distinct.{distinct}
 use Rattle.bep_explain.specs.Found.{IsMet, AreFailures, verdict_of}
-use Rattle.bep_explain.proofs.KeptFacts as kept
+use Rattle.bep_gather.specs.KeptFacts as kept
 use Rattle.bep_explain.proofs.FailureFacts.{failure_exact}
 
 abbrev shown : List lends.Failure → List Failure
 shown = map failure_shown
-
--- what stands before the first of a list that rises doesn't stand in it
-not_before : (one : Failure) (more : List Failure) → IsStrictlySortedBy failure_cmp (one ∷ more) → (before : Failure) → failure_cmp before one ≡ Less → ¬ Contains (one ∷ more) before
-not_before one more rise before less member =
-    ⊎_elim
-    (λ same. not_less_itself failure_total one (subst (λ x. failure_cmp x one ≡ Less) (sym same) less))
-    (λ later. not_less_itself failure_total one (failure_total.trans one before one (below_later failure_cmp (λ x. x) one more (subst (IsStrictlySortedBy failure_cmp) (sym (map_same (one ∷ more))) rise) before later) less))
-    (Contains-cons_cases one more before member)
-  where
-    map_same : (xs : List Failure) → map (λ x. x) xs ≡ xs
-    map_same [] = refl
-    map_same (x ∷ xs) = ap (λ rest. x ∷ rest) (map_same xs)
 
 module _ (t : Tables) (rows : List Row) where
   -- all that fails stands in the list, and nothing else
@@ -66,7 +52,7 @@ module _ (t : Tables) (rows : List Row) where
   )
 
   met_before : (one : Failure) (more : List Failure) → Tells (one ∷ more) → (before : Failure) → failure_cmp before one ≡ Less → IsMet t rows before
-  met_before one more told before less = ⊎_elim (λ there. absurd (not_before one more told.rise before less there)) (λ met. met) (told.rest before)
+  met_before one more told before less = kept.met_before failure_cmp failure_total (IsMet t rows) one more told before less
 
   then_second : (o p : Ordering) → o ≡ Equal → p ≡ Less → ordering_then o p ≡ Less
   then_second Less p e f = absurd (cc)

@@ -11,7 +11,7 @@ use Rattle.bep_facts.specs.Places.{done_with}
 use Rattle.bep_model.specs.declared.row.Row.{Row}
 use Rattle.bep_model.specs.Tables.{Folder, FileName}
 use Rattle.bep_model.specs.Settled.{HasRow, key_of}
-use Rattle.bep_explain.specs.inner.Adding.{Each}
+use Rattle.bep_gather.specs.Adding.{Each}
 use Rattle.bep_explain.specs.inner.Rows.{row_shown, named_key, AreAlike}
 use Rattle.bep_explain.specs.declared.rows.NamedRow.{NamedRow}
 

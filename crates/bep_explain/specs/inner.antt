@@ -1,7 +1,5 @@
 -- What only private contracts say: no public contract rests on it.
 pub mod Added
-pub mod Adding
-pub mod Distinct
 pub mod Lines
 pub mod Rows
 pub mod Says

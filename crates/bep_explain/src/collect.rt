@@ -7,7 +7,7 @@ ghost use Rattle.bep_tables.specs.Cut.{tables_of, shares_of};
 ghost use Rattle.bep_tables.specs.Listed.{IsGrouped, cut_listed, listed};
 ghost use Rattle.bep_audit.specs.Group.{AsksBeside, IsGroupOf};
 ghost use Rattle.bep_audit.specs.Walk.{failure_shown};
-ghost use Rattle.bep_explain.specs.inner.Adding.{AddsFailing, Each};
+ghost use Rattle.bep_gather.specs.Adding.{AddsFailing, Each};
 ghost use Rattle.bep_explain.specs.inner.Rows.{AreAbout, AreAlike, row_shown};
 ghost use Rattle.bep_explain.specs.inner.Says.{failure_at, AreWon, SaysOrder, AsksOtherBeside, SaysAtRow, SaysBoth};
 

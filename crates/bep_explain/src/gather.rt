@@ -5,8 +5,8 @@ ghost use Rattle.bep_model.specs.Verdict.{IsVerdict};
 ghost use Rattle.bep_tables.specs.Cut.{tables_of};
 ghost use Rattle.bep_audit.specs.FailureOrder.{lent_cmp};
 ghost use Rattle.bep_audit.specs.Walk.{failure_shown};
-ghost use Rattle.bep_explain.specs.inner.Adding.{AddsFailing};
-ghost use Rattle.bep_explain.specs.inner.Distinct.{is_below_next, distinct};
+ghost use Rattle.bep_gather.specs.Adding.{AddsFailing};
+ghost use Rattle.bep_gather.specs.Distinct.{is_below_next, distinct};
 ghost use Rattle.bep_explain.specs.Found.{AreFailures, IsMet, verdict_of};
 
 use crate::collect::{add_out_of_order, add_rows, copy_of};

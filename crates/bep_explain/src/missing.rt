@@ -5,7 +5,7 @@ ghost use Rattle.bep_model.specs.Settled.{key_cmp};
 ghost use Rattle.bep_model.specs.declared.reason.Reason.TheVariants.{NameMissing};
 ghost use Rattle.bep_tables.specs.Listed.{key_at, listed};
 ghost use Rattle.bep_audit.specs.Walk.{failure_shown};
-ghost use Rattle.bep_explain.specs.inner.Adding.{AddsFailing, Each};
+ghost use Rattle.bep_gather.specs.Adding.{AddsFailing, Each};
 ghost use Rattle.bep_explain.specs.inner.Rows.{named_key, row_shown};
 ghost use Rattle.bep_explain.specs.inner.Says.{failure_at, SaysHasRow};
 

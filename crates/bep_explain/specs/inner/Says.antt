@@ -18,7 +18,7 @@ use Rattle.bep_tables.specs.Listed.{Listed, key_at, listed}
 use Rattle.bep_audit.specs.Group.{AsksBeside}
 use Rattle.bep_audit.specs.declared.checkers.TheConstants.{REASONS}
 use Rattle.bep_audit.specs.Walk.{Failure}
-use Rattle.bep_explain.specs.inner.Adding.{Each}
+use Rattle.bep_gather.specs.Adding.{Each}
 
 -- the reason at this name, on this device
 abbrev pub failure_at : Reason → Folder × FileName → Option Device → Failure

@@ -3,9 +3,9 @@ use Rattle.std.specs.Option.{option_copied}
 use Rattle.bep_tables.specs.declared.share.Share.{Share}
 use Rattle.bep_tables.specs.Cut.{tables_of}
 use Rattle.bep_audit.specs.Walk.{failure_shown}
-use Rattle.bep_explain.specs.inner.Adding.{AddsFailing, Each}
+use Rattle.bep_gather.specs.Adding.{AddsFailing, Each}
 use Rattle.bep_explain.specs.inner.Says.{SaysBoth}
-use Rattle.bep_explain.proofs.AddFacts.{each_starts, each_goes_on, each_ends}
+use Rattle.bep_gather.specs.AddFacts.{each_starts, each_goes_on, each_ends}
 use Rattle.bep_explain.proofs.collect.add_devices.Goals as goal
 
 pub loop-share-init : goal.loop-share-init

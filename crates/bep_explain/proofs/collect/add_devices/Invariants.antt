@@ -2,7 +2,7 @@ use Rattle.std.proofs.Common.{map, take}
 use Rattle.std.specs.Option.{option_copied}
 use Rattle.bep_tables.specs.Cut.{tables_of}
 use Rattle.bep_audit.specs.Walk.{failure_shown}
-use Rattle.bep_explain.specs.inner.Adding.{AddsFailing, Each}
+use Rattle.bep_gather.specs.Adding.{AddsFailing, Each}
 use Rattle.bep_explain.specs.inner.Says.{SaysBoth}
 use Rattle.bep_explain.proofs.collect.add_devices.Given as goal
 

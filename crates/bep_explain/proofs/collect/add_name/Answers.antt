@@ -6,10 +6,10 @@ use Rattle.bep_model.specs.Settled.{key_of}
 use Rattle.bep_tables.specs.Cut.{tables_of, shares_of}
 use Rattle.bep_tables.specs.Listed.{listed}
 use Rattle.bep_audit.specs.Walk.{Failure, failure_shown}
-use Rattle.bep_explain.specs.inner.Adding.{Each}
+use Rattle.bep_gather.specs.Adding.{Each}
 use Rattle.bep_explain.specs.inner.Rows.{row_shown}
 use Rattle.bep_explain.specs.inner.Says.{failure_at, AreWon, SaysKnown, SaysBoth, SaysAtRow}
-use Rattle.bep_explain.proofs.AddFacts.{adds_both, adds_as}
+use Rattle.bep_gather.specs.AddFacts.{adds_both, adds_as}
 use Rattle.bep_explain.proofs.NameSays.{name_says, is_other, other_is_about}
 use Rattle.bep_explain.proofs.OneFact.{adds_at}
 use Rattle.bep_explain.proofs.collect.add_name.Goals as goal

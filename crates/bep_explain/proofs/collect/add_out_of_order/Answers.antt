@@ -4,7 +4,7 @@ use Rattle.bep_model.specs.Settled.{key_of}
 use Rattle.bep_model.specs.Reasons.{first_disordered}
 use Rattle.bep_audit.specs.Walk.{Failure, failure_shown}
 use Rattle.bep_explain.specs.inner.Says.{failure_at, SaysOrder}
-use Rattle.bep_explain.proofs.AddFacts.{adds_none, adds_as}
+use Rattle.bep_gather.specs.AddFacts.{adds_none, adds_as}
 use Rattle.bep_explain.proofs.OneFact.{adds_at}
 use Rattle.bep_explain.proofs.collect.add_out_of_order.Goals as goal
 

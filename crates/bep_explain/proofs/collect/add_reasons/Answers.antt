@@ -7,9 +7,9 @@ use Rattle.bep_tables.specs.Listed.{listed}
 use Rattle.bep_audit.specs.declared.checkers.TheConstants.{REASONS}
 use Rattle.bep_audit.specs.Walk.{failure_shown}
 use Rattle.bep_explain.specs.inner.Says.{failure_at, AsksBoth, SaysReasonBoth}
-use Rattle.bep_explain.proofs.AddFacts.{each_goes_on, each_ends}
+use Rattle.bep_gather.specs.AddFacts.{each_goes_on, each_ends, same_item}
 use Rattle.bep_explain.proofs.NameSays.{both_asked}
-use Rattle.bep_explain.proofs.OneFact.{adds_at, same_item}
+use Rattle.bep_explain.proofs.OneFact.{adds_at}
 use Rattle.bep_explain.proofs.collect.add_reasons.Goals as goal
 
 pub loop-reason-preserved : goal.loop-reason-preserved

@@ -1,10 +1,10 @@
 use Rattle.std.proofs.Common.{◌++◌, List, map, length, take, sym, subst}
 use Rattle.bep_model.specs.declared.row.Row.{Row}
 use Rattle.bep_audit.specs.Walk.{Failure, failure_shown}
-use Rattle.bep_explain.specs.inner.Adding.{AddsFailing, Each}
+use Rattle.bep_gather.specs.Adding.{AddsFailing, Each}
 use Rattle.bep_explain.specs.inner.Rows.{row_shown}
 use Rattle.bep_explain.specs.inner.Says.{SaysAtRow}
-use Rattle.bep_explain.proofs.AddFacts.{adds_both, adds_as}
+use Rattle.bep_gather.specs.AddFacts.{adds_both, adds_as}
 use Rattle.bep_explain.proofs.RowLists.{each_append, with_front, within_left}
 use Rattle.bep_explain.proofs.collect.add_rows.Goals as goal
 

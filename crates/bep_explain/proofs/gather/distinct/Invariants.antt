@@ -1,6 +1,6 @@
 use Rattle.std.proofs.Common.{◌≡◌, ◌++◌, drop}
 use Rattle.bep_audit.specs.FailureOrder.{lent_cmp}
-use Rattle.bep_explain.specs.inner.Distinct.{distinct}
+use Rattle.bep_gather.specs.Distinct.{distinct}
 use Rattle.bep_explain.proofs.gather.distinct.Given as goal
 
 -- what is kept so far, with what will be kept of the rest

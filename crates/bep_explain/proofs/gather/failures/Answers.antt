@@ -3,8 +3,8 @@ use Rattle.bep_model.specs.declared.row.Row.{Row}
 use Rattle.bep_tables.specs.Cut.{tables_of}
 use Rattle.bep_audit.specs.FailureOrder.{lent_cmp}
 use Rattle.bep_audit.specs.Walk.{failure_shown}
-use Rattle.bep_explain.specs.inner.Adding.{AddsFailing}
-use Rattle.bep_explain.specs.inner.Distinct.{distinct}
+use Rattle.bep_gather.specs.Adding.{AddsFailing}
+use Rattle.bep_gather.specs.Distinct.{distinct}
 use Rattle.bep_explain.specs.Found.{IsMet}
 use Rattle.bep_explain.proofs.Results.{Tells, tells, are_failures, empty_exactly, tells_verdict}
 use Rattle.bep_explain.proofs.gather.failures.Goals as goal

@@ -4,11 +4,11 @@ use Rattle.bep_model.specs.Settled.{key_cmp}
 use Rattle.bep_tables.specs.Cut.{tables_of}
 use Rattle.bep_tables.specs.Listed.{cut_listed, IsGrouped}
 use Rattle.bep_audit.specs.Walk.{Failure, failure_shown}
-use Rattle.bep_explain.specs.inner.Adding.{AddsFailing, Each}
+use Rattle.bep_gather.specs.Adding.{AddsFailing, Each}
 use Rattle.bep_explain.specs.Found.{IsMet}
 use Rattle.bep_explain.specs.inner.Rows.{AreSorted, named_key, row_shown}
 use Rattle.bep_explain.specs.inner.Says.{SaysOrder, SaysHasRow, SaysAtRow}
-use Rattle.bep_explain.proofs.AddFacts.{adds_both, adds_as}
+use Rattle.bep_gather.specs.AddFacts.{adds_both, adds_as}
 use Rattle.bep_explain.proofs.Gathered.{SortedSay, sorted_exactly}
 use Rattle.bep_explain.proofs.gather.gathered.Goals as goal
 

@@ -3,7 +3,7 @@ use Rattle.bep_tables.specs.declared.table.entry.TableEntry.{TableEntry}
 use Rattle.bep_tables.specs.Listed.{listed}
 use Rattle.bep_audit.specs.Loose.{loose_shown, AsksEntry}
 use Rattle.bep_explain.specs.inner.Rows.{row_shown}
-use Rattle.bep_explain.proofs.AddFacts.{each_starts, each_goes_on, each_ends}
+use Rattle.bep_gather.specs.AddFacts.{each_starts, each_goes_on, each_ends}
 use Rattle.bep_explain.proofs.loose.add_entries.Goals as goal
 
 pub loop-entry-init : goal.loop-entry-init

@@ -3,7 +3,7 @@ use Rattle.bep_tables.specs.declared.table.entry.TableEntry.{TableEntry}
 use Rattle.bep_tables.specs.Listed.{listed}
 use Rattle.bep_audit.specs.Loose.{loose_shown, AsksEntry}
 use Rattle.bep_explain.specs.inner.Rows.{row_shown}
-use Rattle.bep_explain.specs.inner.Adding.{AddsFailing, Each}
+use Rattle.bep_gather.specs.Adding.{AddsFailing, Each}
 use Rattle.bep_explain.proofs.loose.add_entries.Given as goal
 
 -- what the entries so far are asked in vain is there

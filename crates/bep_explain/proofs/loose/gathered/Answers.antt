@@ -5,10 +5,10 @@ use Rattle.bep_tables.specs.declared.table.entry.TableEntry.{TableEntry}
 use Rattle.bep_tables.specs.Cut.{tables_of}
 use Rattle.bep_tables.specs.Listed.{cut_listed, listed, IsGrouped}
 use Rattle.bep_audit.specs.Loose.{Loosening, loose_shown, AsksEntry}
-use Rattle.bep_explain.specs.inner.Adding.{AddsFailing, Each}
+use Rattle.bep_gather.specs.Adding.{AddsFailing, Each}
 use Rattle.bep_explain.specs.Loose.{IsFirmlyMet}
 use Rattle.bep_explain.specs.inner.Rows.{AreSorted, named_key, row_shown}
-use Rattle.bep_explain.proofs.AddFacts.{adds_as}
+use Rattle.bep_gather.specs.AddFacts.{adds_as}
 use Rattle.bep_explain.proofs.LooseFacts.{entries_ask, same_asked}
 use Rattle.bep_explain.proofs.loose.gathered.Goals as goal
 

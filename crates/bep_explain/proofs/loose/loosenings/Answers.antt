@@ -3,10 +3,10 @@ use Rattle.bep_model.specs.declared.row.Row.{Row}
 use Rattle.bep_tables.specs.Cut.{tables_of}
 use Rattle.bep_audit.specs.Loose.{Loosening, loose_cmp, loose_shown}
 use Rattle.bep_audit.specs.LooseOrder.{loose_lent_cmp, loose_total}
-use Rattle.bep_explain.specs.inner.Adding.{AddsFailing}
-use Rattle.bep_explain.specs.inner.Distinct.{distinct}
+use Rattle.bep_gather.specs.Adding.{AddsFailing}
+use Rattle.bep_gather.specs.Distinct.{distinct}
 use Rattle.bep_explain.specs.Loose.{IsFirmlyMet}
-use Rattle.bep_explain.proofs.KeptFacts.{Tells, tells, empty_exactly, fails_exactly}
+use Rattle.bep_gather.specs.KeptFacts.{Tells, tells, empty_exactly, fails_exactly}
 use Rattle.bep_explain.proofs.LooseFacts.{loose_exact}
 use Rattle.bep_explain.proofs.loose.loosenings.Goals as goal
 use Rattle.bep_explain.proofs.loose.loosenings.Goals.{In_ok-kept}

@@ -5,7 +5,7 @@ use Rattle.bep_tables.specs.Listed.{key_at, listed}
 use Rattle.bep_audit.specs.Walk.{failure_shown}
 use Rattle.bep_explain.specs.inner.Rows.{row_shown}
 use Rattle.bep_explain.specs.inner.Says.{failure_at, SaysHasRow}
-use Rattle.bep_explain.proofs.AddFacts.{each_starts, each_goes_on, each_ends}
+use Rattle.bep_gather.specs.AddFacts.{each_starts, each_goes_on, each_ends}
 use Rattle.bep_explain.proofs.OneFact.{adds_at}
 use Rattle.bep_explain.proofs.missing.add_missing.Goals as goal
 

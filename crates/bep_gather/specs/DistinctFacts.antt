@@ -10,7 +10,7 @@ use Rattle.std.specs.List.Sorted.{IsStrictlySortedBy}
 use Rattle.std.proofs.lemmas.Cmp.{alike_right}
 use Rattle.bep_facts.specs.Members.{Contains-first, Contains-more, Contains-cons_cases}
 use Rattle.bep_facts.specs.Orders.{Less_from_is_lt}
-use Rattle.bep_explain.specs.inner.Distinct.{is_below_next, distinct}
+use Rattle.bep_gather.specs.Distinct.{is_below_next, distinct}
 
 -- ---- by images
 

@@ -1,16 +1,18 @@
 -- What the sorted list of all that fail, each once, says: it is all of them, and it rises.
 use Rattle.std.proofs.Common.{◌≡◌, ◌⊎◌, ◌↔◌, false, List, [], ◌∷◌, Contains, map, get_or, refl, sym, ap, subst, ◌∙◌, inl, inr, ⊎_elim, arith}
 use Rattle.std.specs.declared.cmp.Ordering.{Ordering}
-use Rattle.std.specs.declared.cmp.Ordering.TheVariants.{Equal}
+use Rattle.std.specs.declared.cmp.Ordering.TheVariants.{Less, Equal}
 use Rattle.std.specs.Ordering.{is_lt}
 use Rattle.std.specs.Cmp.{IsTotalOrder}
 use Rattle.std.specs.List.Sorted.{IsStrictlySortedBy, IsSorted, IsPermutation}
 use Rattle.std.proofs.lemmas.Cmp.{on_total}
 use Rattle.std.proofs.lemmas.List.Sorted.{Contains-permutation, IsPermutation-sym}
-use Rattle.bep_facts.specs.Members.{Contains-first, Contains-image, Contains-from_image, not_in_none}
-use Rattle.bep_explain.specs.inner.Adding.{AddsFailing}
-use Rattle.bep_explain.specs.inner.Distinct.{distinct}
-use Rattle.bep_explain.proofs.DistinctFacts.{distinct_shown, lent, Steps, steps_from_sorted, distinct_rises, kept_in_distinct, distinct_from}
+use Rattle.bep_facts.specs.Members.{Contains-first, Contains-cons_cases, Contains-image, Contains-from_image, not_in_none}
+use Rattle.bep_facts.specs.Orders.{not_less_itself}
+use Rattle.bep_facts.specs.Rising.{below_later}
+use Rattle.bep_gather.specs.Adding.{AddsFailing}
+use Rattle.bep_gather.specs.Distinct.{distinct}
+use Rattle.bep_gather.specs.DistinctFacts.{distinct_shown, lent, Steps, steps_from_sorted, distinct_rises, kept_in_distinct, distinct_from}
 
 -- all that fails stands in the list, and nothing else
 pub record Tells {Y : Type 0} (cmp : Y → Y → Ordering) (IsMet : Y → Type 0) (found : List Y) : Type 0 where
@@ -61,3 +63,22 @@ module _ {X Y : Type 0} (shown : X → Y) (cmp : Y → Y → Ordering) (total : 
   -- so it is all that fails
   pub fails_exactly : (found : List Y) → Tells cmp IsMet found → (one : Y) → Contains found one ↔ (¬ IsMet one)
   fails_exactly found told one = (told.fails one, λ unmet. ⊎_elim (λ there. there) (λ met. absurd (unmet met)) (told.rest one))
+
+-- ---- what comes before the first
+
+module _ {Y : Type 0} (cmp : Y → Y → Ordering) (total : IsTotalOrder cmp) where
+  map_same : (xs : List Y) → map (λ x. x) xs ≡ xs
+  map_same [] = refl
+  map_same (x ∷ xs) = ap (λ rest. x ∷ rest) (map_same xs)
+
+  -- what stands before the first of a list that rises doesn't stand in it
+  not_before : (one : Y) (more : List Y) → IsStrictlySortedBy cmp (one ∷ more) → (before : Y) → cmp before one ≡ Less → ¬ Contains (one ∷ more) before
+  not_before one more rise before less member =
+      ⊎_elim
+      (λ same. not_less_itself total one (subst (λ x. cmp x one ≡ Less) (sym same) less))
+      (λ later. not_less_itself total one (total.trans one before one (below_later cmp (λ x. x) one more (subst (IsStrictlySortedBy cmp) (sym (map_same (one ∷ more))) rise) before later) less))
+      (Contains-cons_cases one more before member)
+
+  -- so what it tells of holds
+  pub met_before : (IsMet : Y → Type 0) (one : Y) (more : List Y) → Tells cmp IsMet (one ∷ more) → (before : Y) → cmp before one ≡ Less → IsMet before
+  met_before IsMet one more told before less = ⊎_elim (λ there. absurd (not_before one more told.rise before less there)) (λ met. met) (told.rest before)

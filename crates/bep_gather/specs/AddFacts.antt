@@ -1,12 +1,12 @@
 -- Adding those of which something doesn't hold, step by step.
-use Rattle.std.proofs.Common.{◌≡◌, ◌↔◌, ◌<◌, ◌≤◌, ◌+◌, ℕ, Bool, true, false, true≢false, List, [], ◌∷◌, ◌++◌, Contains, IsTrue, length, get_or, take, refl, sym, subst, inl, inr, ⊎_elim}
+use Rattle.std.proofs.Common.{◌≡◌, ◌↔◌, ◌<◌, ◌≤◌, ◌+◌, ℕ, zero, suc, Bool, true, false, true≢false, List, [], ◌∷◌, ◌++◌, Contains, IsTrue, length, get_or, take, refl, sym, subst, inl, inr, ⊎_elim, arith}
 use Rattle.std.specs.Prelude.{if◌then◌else◌}
 use Rattle.std.proofs.lemmas.List.{take_all}
 use Rattle.std.proofs.lemmas.List.Elements.{Contains-append_left, Contains-append_right, Contains-append_cases}
 use Rattle.bep_facts.specs.Decided.{OrNot}
 use Rattle.bep_facts.specs.Members.{Contains-first, Contains-one, not_in_none}
 use Rattle.bep_facts.specs.Places.{done_with}
-use Rattle.bep_explain.specs.inner.Adding.{AddsFailing, Each}
+use Rattle.bep_gather.specs.Adding.{AddsFailing, Each}
 
 module _ {X : Type 0} where
   -- nothing comes where all holds
@@ -80,3 +80,9 @@ module _ {X : Type 0} where
 
     pub each_ends : (place : ℕ) (old new : List X) → length ys ≤ place → AddsFailing (Each Says (take place ys)) old new → AddsFailing (Each Says ys) old new
     each_ends place old new past adds = subst (λ (all : List Y). AddsFailing (Each Says all) old new) (take_all place ys past) adds
+
+-- what stands at a place of a list, whatever would stand past its end
+pub same_item : {X : Type 0} (xs : List X) (place : ℕ) (d e : X) → place < length xs → get_or xs place d ≡ get_or xs place e
+same_item [] place d e below = absurd (omega (arith, below))
+same_item (x ∷ xs) zero d e below = refl
+same_item (x ∷ xs) (suc place) d e below = same_item xs place d e (omega (arith, below))
