@@ -1,6 +1,6 @@
 #!/usr/bin/env python3
 """Compares the program's answers with those of a second reading (reading.py): of `check`, `firm` and `explain` (with
-`--firm` too), each with `--certify` too, of `converge`, and of `certify` (with `--partial` too); on the examples, on
+`--firm` too), each with `--certify` too, of `converge` and `explain --converge`, and of `certify` (with `--partial` too); on the examples, on
 documents with something as great as it may be or one more, and on random documents.
 
     second/compare.py [COUNT [SEED]]
@@ -111,9 +111,10 @@ def compare(document):
         told = run(f"{command} --certify", document)
         if told != wanted:
             tell_difference(f"{command} --certify", document, wanted, told)
-    told, wanted = run("converge", document), converge.answer(document)
-    if told != wanted:
-        tell_difference("converge", document, wanted, told)
+    for command, wanted in zip(("converge", "explain --converge"), converge.answers(document)):
+        told = run(command, document)
+        if told != wanted:
+            tell_difference(command, document, wanted, told)
     compare_certified(document)
     compare_part(document)
     return check[0]

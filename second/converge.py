@@ -1,5 +1,5 @@
-"""Whether a cut converges, read a second time: the first condition of prevails.py that doesn't hold, by its reason; and how many
-pairs of a name and a device aren't yet at the winner.
+"""Whether a cut converges, read a second time: the conditions of prevails.py that don't hold, by their reasons; and how many pairs
+of a name and a device aren't yet at the winner.
 
     second/converge.py < DOCUMENT
 """
@@ -34,18 +34,17 @@ def names_of(cut):
             yield folder, prevails.Name(devices, name)
 
 
-def first_fault(cut):
-    """The first reason that fails, with folder, name and device; None where the cut converges."""
+def all_faults(cut):
+    """Each reason that fails, with folder, name and device, in order; none where the cut converges."""
     for reason, holds in OF_NAMES:
         for folder, at in names_of(cut):
             if not holds(at):
-                return reason, folder, at.name, None
+                yield reason, folder, at.name, None
     for reason, holds in OF_DEVICES:
         for folder, at in names_of(cut):
             for device in at.devices:
                 if not holds(at, device):
-                    return reason, folder, at.name, device.number
-    return None
+                    yield reason, folder, at.name, device.number
 
 
 def has_come(at, device):
@@ -70,17 +69,19 @@ def report_of(cut, fault):
     return [line, *progress(cut)], 0 if fault is None else 1
 
 
-def answer(document):
-    """What `syncaudit converge` should write, and its exit status."""
+def answers(document):
+    """What `syncaudit converge` should write, and its exit status; and what `explain --converge` should, but for what is indented."""
     try:
         read = reading.read_cut(document)
     except Fault as fault:
-        return reports.written(*reports.refusal(fault))
+        return (reports.written(*reports.refusal(fault)),) * 2
     cut = verdict.Cut(read, prevails.Sharer)
-    return reports.written(*report_of(cut, first_fault(cut)))
+    faults = list(all_faults(cut))
+    lines = [reports.fault_line(*fault) for fault in faults] or [b"converging"]
+    return reports.written(*report_of(cut, next(iter(faults), None))), reports.written(lines, 1 if faults else 0)
 
 
 if __name__ == "__main__":
-    written, exit_status = answer(sys.stdin.buffer.read())
+    written, exit_status = answers(sys.stdin.buffer.read())[0]
     sys.stdout.buffer.write(written)
     sys.exit(exit_status)

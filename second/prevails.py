@@ -55,11 +55,15 @@ class Name:
         return [one for one in own if not one["invalid"]
                 and all(is_at_most(other["version"], one["version"]) for other in self.records)]
 
-    def is_at_top(self, device: Sharer) -> bool:
+    def is_at(self, device: Sharer, top: dict) -> bool:
         """Whether the device's own record has the top's version, or the top is a deletion and it has no record."""
         if self.name not in device.own:
-            return any(top["deleted"] for top in self.tops())
-        return any(device.own_version(self.name) == top["version"] for top in self.tops())
+            return top["deleted"]
+        return device.own_version(self.name) == top["version"]
+
+    def is_at_top(self, device: Sharer) -> bool:
+        """Whether it is at one of the tops."""
+        return any(self.is_at(device, top) for top in self.tops())
 
 
 def has_top(at: Name) -> bool:
@@ -100,8 +104,8 @@ def has_own_content(at: Name, device: Sharer) -> bool:
 
 
 def takes_changes(at: Name, device: Sharer) -> bool:
-    """A device that isn't at the top takes changes."""
-    return at.is_at_top(device) or not device.sends_only
+    """A device that isn't at each top takes changes."""
+    return not device.sends_only or all(at.is_at(device, top) for top in at.tops())
 
 
 def counts_own(at: Name, device: Sharer) -> bool:

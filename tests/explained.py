@@ -1,5 +1,5 @@
-"""Compares what `explain --json` writes of a document with what `explain` writes, each also with `--firm`: the status, the
-verdict, and the reason and place of each failure, in order; and each detail with what the document says there."""
+"""Compares what `explain --json` writes of a document with what `explain` writes, each also with `--firm` and with `--converge`:
+the status, the verdict, and the reason and place of each failure, in order; and each detail with what the document says there."""
 
 import hashlib
 import json
@@ -43,8 +43,8 @@ def lines_of(document):
     if "refused" in document:
         return [refusal_line(document["refused"])]
     failures = document["failures"]
-    good = "firm" if "firm" in document else "settled"
-    if document["settled"] != all(failure["reason"] in OF_FIRM for failure in failures):
+    good = next(word for word in ("firm", "converging", "settled") if word in document)
+    if "settled" in document and document["settled"] != all(failure["reason"] in OF_FIRM for failure in failures):
         return [f"settled is {document['settled']}"]
     if document[good] != (not failures):
         return [f"{good} is {document[good]}"]
@@ -111,7 +111,8 @@ def is_said(document, failure, detail):
 
 def difference(program, document):
     """What differs, if anything does."""
-    return difference_in(program, ["explain"], document) or difference_in(program, ["explain", "--firm"], document)
+    asked = (["explain"], ["explain", "--firm"], ["explain", "--converge"])
+    return next(filter(None, (difference_in(program, words, document) for words in asked)), "")
 
 
 def difference_in(program, words, document):

@@ -23,7 +23,8 @@ SECONDS, LONGEST, AT_ONCE = 40, 5, 2
 CHECKS = {"check": {0, 1, 2}, "firm": {0, 1, 2}, "converge": {0, 1, 2}, "explain": {0, 1, 2}, "explain --json": {0, 1, 2},
           "explain --firm": {0, 1, 2}, "explain --firm --json": {0, 1, 2}, "certify": {0, 1, 2},
           "certify --partial": {0, 2, 6}, "check --certify": {0, 1, 2}, "firm --certify": {0, 1, 2},
-          "explain --certify": {0, 1, 2}, "explain --certify --json": {0, 1, 2}, "explain --certify --firm": {0, 1, 2}}
+          "explain --certify": {0, 1, 2}, "explain --certify --json": {0, 1, 2}, "explain --certify --firm": {0, 1, 2},
+          "explain --converge": {0, 1, 2}, "explain --converge --json": {0, 1, 2}}
 RUNS = {"run": {0, 1, 2}, "run --document": {0, 1, 2}, "run --turns 1": {0, 1, 2}}
 ALL = CHECKS | RUNS
 
@@ -48,8 +49,8 @@ def fault(command, status):
 
 
 def first_reason(answer):
-    """The first reason that is told, with its place, by `check` or by `explain`; what else stands on the first line."""
-    return answer[0].partition(b"\n")[0].removeprefix(b"not settled: ")
+    """The first reason that is told, with its place, by `check`, `converge` or `explain`; what else stands on the first line."""
+    return answer[0].partition(b"\n")[0].removeprefix(b"not settled: ").removeprefix(b"not converging: ")
 
 
 def contradictions(program, told):
@@ -61,6 +62,8 @@ def contradictions(program, told):
         yield "firm and explain --firm", status["firm"] != status["explain --firm"]
         yield "firm and check", status["firm"] == 0 != status["check"] or (status["firm"] == 2) != (status["check"] == 2)
         yield "certify and converge", (status["certify"] == 2) != (status["converge"] == 2)
+        yield "converge and explain --converge", first_reason(told["converge"]) != first_reason(told["explain --converge"])
+        yield "explain --converge and --json", status["explain --converge"] != status["explain --converge --json"]
         yield "certify and check --certify", (status["certify"] == 2) != (status["check --certify"] == 2)
         yield "check --certify and explain --certify", first_reason(told["check --certify"]) != first_reason(told["explain --certify"])
         yield "explain --certify and --json", status["explain --certify"] != status["explain --certify --json"]

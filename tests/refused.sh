@@ -148,7 +148,7 @@ refuse_all examples/cut-alone.json certify
 refuse_all examples/scenarios/conflict.json run
 # Without memory nothing is said of an old file in a view, where its deletion is known everywhere else.
 for words in check firm converge certify 'certify --partial' explain 'explain --firm' 'explain --json' 'explain --firm --json' \
-  'check --certify' 'firm --certify' 'explain --certify' 'explain --certify --json' 'explain --certify --firm'; do
+  'check --certify' 'firm --certify' 'explain --certify' 'explain --certify --json' 'explain --certify --firm' 'explain --converge' 'explain --converge --json'; do
   # shellcheck disable=SC2086 # words are several
   refuse_growth examples/old-file-in-a-view.json $words
 done

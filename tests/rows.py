@@ -110,6 +110,16 @@ def following_check(row, document, commands):
         yield replace(row, command=f"syncaudit check < <(syncaudit certify < {document})")
 
 
+def following_converge(row, document, commands):
+    """The row that follows from what `converge` tells of a check document: where the cut converges, or the document is refused,
+    `explain --converge` has one line to tell; else a row of its own says all that fails."""
+    command = f"syncaudit explain --converge < {document}"
+    if row.status != 1:
+        yield Row(command, row.output[:1], row.error, row.status)
+    elif command not in commands:
+        yield f"no row says all that keeps {document} from converging"
+
+
 def following_run(row, scenario):
     """The row that follows from where a scenario leads: so does the document of its end. Its refused steps are told beside
     it. Where it has no certificate, or none is made, it is answered in the document's place."""
@@ -125,9 +135,11 @@ def following_run(row, scenario):
 
 def following(row, commands):
     """The rows that follow from this one."""
-    document, scenario = row.reads("check"), row.reads("run")
+    document, scenario, converging = row.reads("check"), row.reads("run"), row.reads("converge")
     if document and re.fullmatch(r"examples/[a-z-]*\.json", document):
         yield from following_check(row, document, commands)
+    if converging:
+        yield from following_converge(row, converging, commands)
     if scenario and row.status <= 2:
         yield from following_run(row, scenario)
 

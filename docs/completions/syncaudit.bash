@@ -14,7 +14,7 @@ _syncaudit() {
   elif [ "$COMP_CWORD" = 2 ] && [ "$before" = certify ]; then
     mapfile -t COMPREPLY < <(compgen -W '--partial --help' -- "$word")
   elif [ "$COMP_CWORD" = 2 ] && [ "$before" = explain ]; then
-    mapfile -t COMPREPLY < <(compgen -W '--json --firm --certify --help' -- "$word")
+    mapfile -t COMPREPLY < <(compgen -W '--json --firm --converge --certify --help' -- "$word")
   elif [ "$COMP_CWORD" = 2 ] && [ "$before" = run ]; then
     mapfile -t COMPREPLY < <(compgen -W '--document --turns --help' -- "$word")
   elif [ "$COMP_CWORD" = 2 ]; then

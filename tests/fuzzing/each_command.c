@@ -25,6 +25,7 @@ static const struct command commands[] = {
     {{"check", "--certify"}, "012"}, {{"firm", "--certify"}, "012"},
     {{"explain", "--certify"}, "012"}, {{"explain", "--certify", "--json"}, "012"},
     {{"explain", "--certify", "--firm"}, "012"},
+    {{"explain", "--converge"}, "012"}, {{"explain", "--converge", "--json"}, "012"},
     {{"run"}, "012"},             {{"run", "--document"}, "012"},
     {{"run", "--turns", "1"}, "012"},
 };

@@ -2,6 +2,7 @@
 //! each reason, and explained, is compared on the examples.
 mod answer;
 mod audit;
+mod converge;
 mod document;
 mod firm;
 mod live;

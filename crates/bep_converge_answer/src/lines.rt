@@ -31,8 +31,8 @@ pub(crate) fn push_convergence(
     }
 }
 
-// Appends the line of a cut that converges.
-fn push_converging(text: &mut Vec<u8>) -> Result<(), AllocError>
+/// Appends the line of a cut that converges.
+pub fn push_converging(text: &mut Vec<u8>) -> Result<(), AllocError>
     ensures { AppendsWhole result text.old.items text.new.items (converge_line Converging) }
 {
     push_pieces(text, &[Piece::Text("converging\n")])
@@ -54,8 +54,8 @@ fn push_not_converging<'a>(
     or_as_before(text, len, pushed)
 }
 
-// The word by which the report names a reason.
-fn converge_word_of(reason: ConvergeReason) -> &'static str
+/// The word by which the report names a reason.
+pub fn converge_word_of(reason: ConvergeReason) -> &'static str
     ensures { result.now ≡ spec.converge_word_of reason }
 {
     match reason {

@@ -27,8 +27,8 @@ pub fn converge_and_tell<P: AllocGlobal + Eprint, R: Read, W: Write>(
     end_converge(rt, exchange(rt.alloc(), ConvergenceOfCut, reader, writer))
 }
 
-// Tells what was answered beside the outcome, if there is anything, or why there is no answer, and answers the exit status.
-fn end_converge<P: Eprint>(rt: &P, answer: Result<Hinted<Convergence>, ReportError>) -> u8
+/// Tells what was answered beside the outcome, if there is anything, or why there is no answer, and answers the exit status.
+pub fn end_converge<P: Eprint>(rt: &P, answer: Result<Hinted<Convergence>, ReportError>) -> u8
     ensures { result ≡ spec.converge_status_of (without_hint answer) }
 {
     match answer {

@@ -34,7 +34,7 @@ module _ (group : List Listed) where
   )
 
   -- an own record that is above a top is one
-  top_too : (top other : Entry) → IsTopIn group top → IsOwnIn group other → IsAtMost top.version other.version → IsTopIn group other
+  pub top_too : (top other : Entry) → IsTopIn group top → IsOwnIn group other → IsAtMost top.version other.version → IsTopIn group other
   top_too top other is own within = (own, λ entry has. through entry.version top.version other.version (is.1 entry has) within)
 
   pub top_wins : (top : Entry) → IsTopIn group top → AllAgree group top → FindsWinner group (Some top)

@@ -1,10 +1,16 @@
 pub mod WeightFacts
+pub mod SameVersions
 pub mod LineFacts
 pub mod KnownFacts
 pub mod NameSays
+pub mod AmongSays
 pub mod DeviceReasons
 pub mod AtName
 pub mod HinderWalk
+pub mod HinderFacts
+pub mod AllAtSays
+pub mod GatherWalk
 pub mod SoManyFacts
 pub mod BehindFacts
+pub mod TopFacts
 pub mod ProgressFacts

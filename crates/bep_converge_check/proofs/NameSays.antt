@@ -137,6 +137,17 @@ one_share cut is_cut folder one other here there same =
     let e : Some one ≡ Some other = sym first ∙ ap (λ (d : Device). share_of d (shares_of folder cut.folders)) same ∙ second in
     cc
 
+-- it takes changes exactly where it shares the folder in a kind other than send only
+pub takes_by_kind : CutSays → (cut : CutParts) → IsCut cut → (folder : Folder) (share : Share) → Contains (shares_of folder cut.folders) share → TakesChanges (tables_of cut) share.device folder ↔ (share.kind ≢ kinds.SendOnly)
+takes_by_kind said cut is_cut folder share member = (
+  λ takes.
+      let there = (said.sharing cut folder share.device takes.0).0 takes.1 in
+      let same : there.0 ≡ share = one_share cut is_cut folder there.0 share there.1 member there.2 in
+      let kind : share.kind ≡ takes.0 = ap (λ (s : Share). s.kind) (sym same) ∙ there.3 in
+      λ only. takes.2 (sym kind ∙ only),
+  λ other. (share.kind, (said.sharing cut folder share.device share.kind).1 (share, member, refl, refl), other),
+)
+
 module _ (said : CutSays) (cut : CutParts) (is_cut : IsCut cut) (folder : Folder) (name : FileName) (top : Entry) (is_top : IsTop (tables_of cut) folder name top) (agree : Agree (IsAnywhere (tables_of cut) folder name)) where
   top_here : IsAnywhere (tables_of cut) folder name top
   top_here = (is_top.owner, is_top.shares, inl is_top.owned)
@@ -155,14 +166,7 @@ module _ (said : CutSays) (cut : CutParts) (is_cut : IsCut cut) (folder : Folder
     Stored = (tables_of cut).node share.device folder name
 
     takes_as : TakesChanges (tables_of cut) share.device folder ↔ (share.kind ≢ kinds.SendOnly)
-    takes_as = (
-      λ takes.
-          let there = (said.sharing cut folder share.device takes.0).0 takes.1 in
-          let same : there.0 ≡ share = one_share cut is_cut folder there.0 share there.1 member there.2 in
-          let kind : share.kind ≡ takes.0 = ap (λ (s : Share). s.kind) (sym same) ∙ there.3 in
-          λ only. takes.2 (sym kind ∙ only),
-      λ other. (share.kind, (said.sharing cut folder share.device share.kind).1 (share, member, refl, refl), other),
-    )
+    takes_as = takes_by_kind said cut is_cut folder share member
 
     asked_by_tables : (reason : ConvergeReason) → AsksOwn reason top share.device share.kind Recorded Stored ↔ AsksThere (tables_of cut) reason folder name share.device
     asked_by_tables NothingPrevails = (λ h. tt, λ h. tt)

@@ -10,7 +10,7 @@ weight-cons : (c : ℕ × ℕ) (more : List (ℕ × ℕ)) → weight (c ∷ more
 weight-cons c more = sum_by-cons (λ (counter : ℕ × ℕ). counter.1) c more
 
 -- what is at most a version has no id before its first one
-not_before : (c d : ℕ × ℕ) (u v : List (ℕ × ℕ)) (low : ℕ) → RisesAbove low (c ∷ u) → RisesAbove low (d ∷ v) → IsAtMost (c ∷ u) (d ∷ v) → c.0 < d.0 → ⊥
+pub not_before : (c d : ℕ × ℕ) (u v : List (ℕ × ℕ)) (low : ℕ) → RisesAbove low (c ∷ u) → RisesAbove low (d ∷ v) → IsAtMost (c ∷ u) (d ∷ v) → c.0 < d.0 → ⊥
 not_before c d u v low ru rv within less =
     let here = counter_of-here c u c.0 refl in
     let none = counter_of-there d v c.0 (λ e. omega (arith, e, less)) in
@@ -20,7 +20,7 @@ not_before c d u v low ru rv within less =
     omega (arith, here, none, low_there, le, some)
 
 -- the first counters of two that begin with one id
-heads_within : (c d : ℕ × ℕ) (u v : List (ℕ × ℕ)) → c.0 ≡ d.0 → IsAtMost (c ∷ u) (d ∷ v) → c.1 ≤ d.1
+pub heads_within : (c d : ℕ × ℕ) (u v : List (ℕ × ℕ)) → c.0 ≡ d.0 → IsAtMost (c ∷ u) (d ∷ v) → c.1 ≤ d.1
 heads_within c d u v same within =
     let here = counter_of-here c u c.0 refl in
     let there = counter_of-here d v c.0 (sym same) in
@@ -28,7 +28,7 @@ heads_within c d u v same within =
     omega (arith, here, there, le)
 
 -- what is behind them
-tails_within : (c d : ℕ × ℕ) (u v : List (ℕ × ℕ)) (low : ℕ) → RisesAbove low (c ∷ u) → c.0 ≡ d.0 → IsAtMost (c ∷ u) (d ∷ v) → IsAtMost u v
+pub tails_within : (c d : ℕ × ℕ) (u v : List (ℕ × ℕ)) (low : ℕ) → RisesAbove low (c ∷ u) → c.0 ≡ d.0 → IsAtMost (c ∷ u) (d ∷ v) → IsAtMost u v
 tails_within c d u v low ru same within id =
     ⊎_elim
     (λ e. let none = counter_of-low u c.0 id ru.3 (omega (arith, e)) in omega (arith, none))

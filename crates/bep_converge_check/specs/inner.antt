@@ -8,4 +8,5 @@ pub mod Line
 pub mod Records
 pub mod Asked
 pub mod HindranceOrder
+pub mod Says
 pub mod Behind

@@ -92,8 +92,12 @@ fn beside_records<'a>(
     }
 }
 
-// That the reason fails at the name as a whole.
-fn at_whole<'a>(reason: ConvergeReason, folder: &'a FolderName, name: &'a Name) -> Hindrance<'a>
+/// That the reason fails at the name as a whole.
+pub(crate) fn at_whole<'a>(
+    reason: ConvergeReason,
+    folder: &'a FolderName,
+    name: &'a Name,
+) -> Hindrance<'a>
     ensures { hinder_shown result ≡ (record { reason = reason; place = record { folder = folder.now; name = name.now; device = None } }) }
 {
     Hindrance {
@@ -102,8 +106,8 @@ fn at_whole<'a>(reason: ConvergeReason, folder: &'a FolderName, name: &'a Name) 
     }
 }
 
-// That the reason fails at a device's part of the name.
-fn at_device<'a>(
+/// That the reason fails at a device's part of the name.
+pub(crate) fn at_device<'a>(
     reason: ConvergeReason,
     folder: &'a FolderName,
     name: &'a Name,

@@ -1,13 +1,20 @@
 //! What keeps a cut from converging, with its place.
-ghost use Rattle.std.specs.Prelude.{◌≡◌, option_map};
+ghost use Rattle.std.specs.Prelude.{◌≡◌, Some, option_map};
+ghost use Rattle.std.specs.Ordering.{eq_by_cmp, is_eq};
+ghost use Rattle.std.specs.Cmp.{partial_equiv_from_equiv, eq_by_cmp_equiv, partial_order_from_total};
+ghost use Rattle.std.specs.Cmp.Rules.{comparing};
+ghost use Rattle.std.proofs.Common.{rules};
 ghost use Rattle.bep_converge.specs.ConvergeReasons.{converge_number_of};
 ghost use Rattle.bep_converge_check.specs.Hindrance.{hinder_cmp, hinder_shown, precedes};
+ghost use Rattle.bep_converge_check.specs.inner.HindranceOrder.{hinder_lent_cmp, hinder_lent_total};
 
 use bep_audit::Spot;
 use bep_converge::ConvergeReason;
 use std::cmp::Ordering;
 
 /// A reason for which a cut doesn't converge, and where.
+///
+/// They are compared by their reasons, in the order in which reasons are told, and then by their places.
 #[derive(Clone, Copy, Debug)]
 pub struct Hindrance<'a> {
     /// The reason.
@@ -23,6 +30,44 @@ impl<'a> Hindrance<'a> {
     {
         let reasons = number_of(self.reason).cmp(&number_of(other.reason));
         reasons.then(self.spot.compare(&other.spot))
+    }
+}
+
+impl<'a> PartialEq for Hindrance<'a> {
+    ghost eq = { eq_by_cmp hinder_lent_cmp };
+
+    ghost laws = { partial_equiv_from_equiv (eq_by_cmp_equiv hinder_lent_total) };
+
+    fn eq(&self, other: &Hindrance<'a>) -> bool {
+        self.compare(other).is_eq()
+    }
+}
+
+impl<'a> Eq for Hindrance<'a> {
+    ghost laws = { eq_by_cmp_equiv hinder_lent_total };
+}
+
+impl<'a> PartialOrd for Hindrance<'a> {
+    ghost partial_cmp = { λ x y. Some (hinder_lent_cmp x y) };
+
+    ghost laws = { partial_order_from_total hinder_lent_total };
+
+    fn partial_cmp(&self, other: &Hindrance<'a>) -> Option<Ordering> {
+        Some(self.compare(other))
+    }
+}
+
+impl<'a> Ord for Hindrance<'a> {
+    ghost cmp = { hinder_lent_cmp };
+
+    ghost total = { hinder_lent_total };
+
+    ghost matches_partial_cmp = { Prim.search (comparing, rules) };
+
+    ghost matches_eq = { Prim.search (comparing, rules) };
+
+    fn cmp(&self, other: &Hindrance<'a>) -> Ordering {
+        self.compare(other)
     }
 }
 

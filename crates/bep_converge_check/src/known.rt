@@ -100,8 +100,8 @@ fn gathered<'a>(alloc: Global, group: &[TableEntry<'a>]) -> Result<Vec<Weighed<'
     Ok(records)
 }
 
-// The entry's record, if it holds a valid one.
-fn valid_record<'a>(entry: &TableEntry<'a>) -> Option<&'a Record>
+/// The entry's record, if it holds a valid one.
+pub(crate) fn valid_record<'a>(entry: &TableEntry<'a>) -> Option<&'a Record>
     ensures { option_copied result ≡ valid_held (held entry.now.held) }
 {
     match entry.held {

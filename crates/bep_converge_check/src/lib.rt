@@ -7,11 +7,16 @@
 //!         ConvergeVerdict::Converging => ..,
 //!         ConvergeVerdict::NotConverging(reason, folder, name, device) => ..,
 //!     }
+//!
+//! `hindrances` has all that keeps it from that.
 #![tactic(auto)]
 
+mod all_at;
+mod among;
 mod at_name;
 mod behind;
 mod checker;
+mod gather;
 mod hindrance;
 mod known;
 mod line;
@@ -23,5 +28,6 @@ mod weight;
 
 pub use bep_converge::ConvergeReason;
 pub use checker::{ConvergeVerdict, converge_verdict, converge_verdict_grouped};
+pub use gather::hindrances;
 pub use hindrance::Hindrance;
 pub use progress::{FolderProgress, progress_of};

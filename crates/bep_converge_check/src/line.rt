@@ -3,15 +3,13 @@ ghost use Rattle.std.specs.Prelude.{◌↔◌, IsTrue, Contains, map};
 ghost use Rattle.std.specs.List.Sorted.{IsSorted};
 ghost use Rattle.bep_converge_check.specs.inner.Line.{AreInLine, Agree};
 ghost use Rattle.bep_converge_check.specs.inner.Weight.{weighed_cmp, record_of};
-ghost use Rattle.bep_converge_check.specs.inner.Ascending.{Ascend};
 
 use crate::weight::Weighed;
 
-/// Whether of each two of the records one version is at most the other. Then they ascend as they stand.
+/// Whether of each two of the records one version is at most the other.
 pub(crate) fn are_in_line(sorted: &[Weighed<'_>]) -> bool
     requires { IsSorted weighed_cmp sorted.now }
-    ensures in_line { IsTrue result ↔ AreInLine (Contains (map record_of sorted.now)) }
-    ensures ascend { IsTrue result → Ascend sorted.now }
+    ensures { IsTrue result ↔ AreInLine (Contains (map record_of sorted.now)) }
 {
     for place in 1..sorted.len() {
         let (one, next) = (sorted[place - 1].version(), sorted[place].version());
@@ -24,7 +22,7 @@ pub(crate) fn are_in_line(sorted: &[Weighed<'_>]) -> bool
 
 /// Whether records of equal versions have equal contents.
 pub(crate) fn agree(sorted: &[Weighed<'_>]) -> bool
-    requires { Ascend sorted.now }
+    requires { IsSorted weighed_cmp sorted.now }
     ensures { IsTrue result ↔ Agree (Contains (map record_of sorted.now)) }
 {
     for place in 1..sorted.len() {

@@ -53,8 +53,8 @@ pub(crate) fn is_no_local_change(own: Option<&Record>) -> bool
     }
 }
 
-// Whether the store holds the content that the own record tells; nothing where there is none.
-fn holds_own(node: Option<&Node>, own: Option<&Record>) -> bool
+/// Whether the store holds the content that the own record tells; nothing where there is none.
+pub(crate) fn holds_own(node: Option<&Node>, own: Option<&Record>) -> bool
     ensures { IsTrue result ↔ (content_of_node (option_copied node.entry) ≡ content_owned (option_copied own.entry)) }
 {
     match own {
@@ -83,8 +83,8 @@ fn counts_all(own: Option<&Record>, top: &Record, device: DeviceId) -> bool
     top.entry().version.get(device) <= counted(own, device)
 }
 
-// How many of the device's own changes its own record counts.
-fn counted(own: Option<&Record>, device: DeviceId) -> u64
+/// How many of the device's own changes its own record counts.
+pub(crate) fn counted(own: Option<&Record>, device: DeviceId) -> u64
     ensures { result ≡ counter_of (version_of (option_copied own.entry)) device }
 {
     match own {

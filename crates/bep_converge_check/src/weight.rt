@@ -1,4 +1,5 @@
-//! Records by the weight of their versions, the sum of the counters: where two versions are in line, the one above is heavier.
+//! Records by the weight of their versions, the sum of the counters, and then by the counters: where two versions are in line,
+//! the one above is heavier, and equal ones stand side by side.
 ghost use Rattle.std.specs.Prelude.{◌≡◌, ◌↔◌, IsTrue, Some};
 ghost use Rattle.std.specs.Ordering.{eq_by_cmp, is_eq};
 ghost use Rattle.std.specs.Cmp.{partial_equiv_from_equiv, eq_by_cmp_equiv, partial_order_from_total};
@@ -11,7 +12,7 @@ ghost use Rattle.bep_converge_check.specs.inner.Weight.{weight, record_of, weigh
 use bep_record::{Record, Version};
 use std::cmp::Ordering;
 
-/// A record. Two of them are compared by the weights of their versions alone.
+/// A record. Two of them are compared by their versions alone: by weight, then counter by counter.
 #[derive(Clone, Copy)]
 pub(crate) struct Weighed<'a> {
     pub(crate) found: &'a Record,
@@ -30,16 +31,21 @@ impl<'a> Weighed<'a> {
 
     /// Whether it has the content of another record behind it, unless the other's version is above its version.
     pub(crate) fn is_like(&self, next: &Weighed<'_>) -> bool
-        ensures { IsTrue result ↔ (IsAtMost (record_of next.now).version (record_of self.now).version → content_of (record_of self.now) ≡ content_of (record_of next.now)) }
+        ensures well_formed { IsVersion (record_of self.now).version }
+        ensures next_well_formed { IsVersion (record_of next.now).version }
+        ensures like { IsTrue result ↔ (IsAtMost (record_of next.now).version (record_of self.now).version → content_of (record_of self.now) ≡ content_of (record_of next.now)) }
     {
-        !next.version().is_at_most(self.version()) || self.found.same_content(next.found)
+        let (version, following) = (self.version(), next.version());
+        !following.is_at_most(version) || self.found.same_content(next.found)
     }
 
-    // How two of them compare: by weight.
+    // How two of them compare: by weight, then by the counters.
     fn compare(&self, other: &Weighed<'_>) -> Ordering
         ensures { result ≡ weighed_cmp self.now other.now }
     {
-        weight_of(self.version()).cmp(&weight_of(other.version()))
+        let (version, against) = (self.version(), other.version());
+        let weights = weight_of(version).cmp(&weight_of(against));
+        weights.then(version.counters().cmp(against.counters()))
     }
 }
 

@@ -1,8 +1,10 @@
 -- The explanation as JSON: all failures, each with a tree of what is said of it (this project's profile).
 use Rattle.std.specs.Prelude.{◌≡◌, ◌≤◌, ◌++◌, ℕ, Bool, true, false, List, [], ◌∷◌, Option, Some, None, map, codes}
+use Rattle.json.specs.Written.{Written}
 use Rattle.serde_json.specs.Data.{Data, null, boolean, string, object, no_members, member, depth}
 use Rattle.serde_json.specs.Read.{read, max_depth}
 use Rattle.serde_json.specs.Written.{IsInOrder}
+use Rattle.bep_json.specs.Added.{Adds}
 use Rattle.bep_json.specs.Written.{whole, list_of}
 use Rattle.bep_model.specs.Reasons.{Place}
 use Rattle.bep_model.specs.Tables.{Device}
@@ -56,3 +58,13 @@ pub record IsJsonLine (tree : Data) (text : List ℕ) : Type 0 where
   pub in_order : IsInOrder json tree
   pub reads_back : depth tree ≤ max_depth → read json ≡ Some tree
   pub line : text ≡ json ++ newline
+
+-- ---- JSON that is written part by part
+
+-- a reason that fails, with something that is said of it, was written
+abbrev pub AddsReason : List ℕ → Place → Written → Written → Type 0
+AddsReason word place old new = (details : Data) × Adds (reason_tree word place details) old new
+
+-- where nothing stood before and this value alone was written, the text is its line
+abbrev pub TellsLine : Written → List ℕ → Type 0
+TellsLine out text = (d : Data) (start : Written) → start.tokens ≡ [] → Adds d start out → IsJsonLine d text

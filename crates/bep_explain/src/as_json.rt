@@ -4,9 +4,9 @@ ghost use Rattle.bep_audit.specs.Shown.{place_shown};
 ghost use Rattle.bep_audit.specs.Walk.{failure_shown};
 ghost use Rattle.bep_json.specs.Added.{Adds};
 ghost use Rattle.bep_lines.specs.declared.form.Form.TheVariants.{Json};
-ghost use Rattle.bep_explain.specs.Annotated.{device_tree};
+ghost use Rattle.bep_explain.specs.Annotated.{AddsReason, TellsLine, device_tree};
 ghost use Rattle.bep_explain.specs.document.Explained.{IsWritten};
-ghost use Rattle.bep_explain.specs.inner.Added.{AddsExplanation, AddsFailures, AddsReason, TellsLine};
+ghost use Rattle.bep_explain.specs.inner.Added.{AddsExplanation, AddsFailures};
 
 use crate::detail::Detail;
 use crate::details::details_of;
@@ -61,7 +61,7 @@ fn write_explanation<'a>(
 }
 
 /// What was written, on a line. Or want of memory.
-pub(crate) fn line_of(out: Writer) -> Result<Vec<u8>, AllocError>
+pub fn line_of(out: Writer) -> Result<Vec<u8>, AllocError>
     requires { out.before ≡ [] }
     ensures { IfOk result (λ text. TellsLine out text.items) }
 {
@@ -97,7 +97,7 @@ pub(crate) fn write_failures<'a>(
 }
 
 /// Writes a reason that fails, by its word, with its place and details.
-pub(crate) fn write_reason(
+pub fn write_reason(
     alloc: Global,
     out: &mut Writer,
     word: &str,

@@ -21,9 +21,9 @@ pub(crate) enum What {
     Pull,
 }
 
-/// A thing that a person asks next of a failure: a device, and what it has of the name.
+/// A thing that a person asks next of what fails: a device, and what it has of the name.
 #[derive(Drop)]
-pub(crate) struct Detail<'a> {
+pub struct Detail<'a> {
     pub(crate) what: What,
     /// The device, none where the name has no winner.
     pub(crate) device: Option<DeviceId>,

@@ -26,7 +26,7 @@ pub(crate) fn details_of<'a>(
         if one.spot.device == Some(share.device) {
             add_share(&mut details, of, one, share)?;
         } else if of.row.is_none() {
-            add_known(&mut details, of, one, share)?;
+            add_known(&mut details, of, one.spot.name, share)?;
         }
     }
     Ok(details)
@@ -75,7 +75,10 @@ fn add_not_below<'a>(
     }
 }
 
-fn add_winner<'a>(details: &mut Vec<Detail<'a>>, of: &OfOne<'_, 'a>) -> Result<(), AllocError> {
+pub(crate) fn add_winner<'a>(
+    details: &mut Vec<Detail<'a>>,
+    of: &OfOne<'_, 'a>,
+) -> Result<(), AllocError> {
     match of.winner {
         None => add_record(details, What::Winner, None, None, None),
         Some((device, record)) => {
@@ -110,17 +113,17 @@ fn add_share<'a>(
 }
 
 // All that a device knows of a name.
-fn add_known<'a>(
+pub(crate) fn add_known<'a>(
     details: &mut Vec<Detail<'a>>,
     of: &OfOne<'_, 'a>,
-    one: &Failure<'a>,
+    name: &'a Name,
     share: &'a Share,
 ) -> Result<(), AllocError> {
     let asked = Asked {
-        name: one.spot.name,
+        name,
         which: Which::All,
     };
-    add_held(details, share, one.spot.name)?;
+    add_held(details, share, name)?;
     add_views(details, &asked, share)?;
     add_coming(details, &asked, of.coming, share.device)?;
     add_pull(details, &asked, share)

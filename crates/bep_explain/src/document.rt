@@ -10,6 +10,6 @@ pub use answers::{
     explain_and_tell, explain_firm_and_tell, explain_firm_under_winners_and_tell, explain_text,
     explain_under_winners_and_tell,
 };
-pub use explain::ReasonsOfCut;
+pub use explain::{ReasonsOfCut, fault_in};
 pub use firm::FirmReasonsOfCut;
 pub use under_winners::{FirmReasonsUnderWinners, ReasonsUnderWinners};

@@ -16,6 +16,9 @@
 //! `document` answers so from the bytes that come in to the bytes that go out, as `bep_answer` does for the first reason:
 //! `explain_text`, and with the exit status `explain_and_tell` and `explain_firm_and_tell`;
 //! `explain_under_winners_and_tell` and `explain_firm_under_winners_and_tell` explain a cut under the winners of its names.
+//!
+//! A crate that tells of something else that fails looks its details up: `Lookup`, `details_told`, and as lines `lines_of` and
+//! `push_details`, or as JSON `write_reason` and `line_of`.
 #![tactic(auto)]
 
 mod as_json;
@@ -36,16 +39,21 @@ mod missing;
 mod none;
 mod rows;
 mod sources;
+mod telling;
 mod text;
 mod unwon;
 
-pub use as_json::explanation_json;
+pub use as_json::{explanation_json, line_of, write_reason};
+pub use detail::Detail;
 pub use document::{
     FirmReasonsOfCut, FirmReasonsUnderWinners, ReasonsOfCut, ReasonsUnderWinners, explain_and_tell,
     explain_firm_and_tell, explain_firm_under_winners_and_tell, explain_text,
-    explain_under_winners_and_tell,
+    explain_under_winners_and_tell, fault_in,
 };
 pub use firm_json::firm_explanation_json;
 pub use gather::failures;
+pub use lines::lines_of;
+pub use lookup::{Lookup, OfOne};
 pub use loose::loosenings;
-pub use text::{explanation, firm_explanation};
+pub use telling::{Telling, details_told};
+pub use text::{explanation, firm_explanation, push_details};

@@ -13,7 +13,7 @@ struct Told<'a> {
 }
 
 /// A line for each of these. Of files that have several blocks each line tells the same one: the first at which they differ.
-pub(crate) fn lines_of(alloc: Global, details: &[Detail<'_>]) -> Result<Vec<Vec<u8>>, AllocError> {
+pub fn lines_of(alloc: Global, details: &[Detail<'_>]) -> Result<Vec<Vec<u8>>, AllocError> {
     let mut stored = Vec::new(alloc);
     for detail in details {
         let list = stored_blocks(alloc, detail)?;

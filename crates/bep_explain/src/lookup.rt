@@ -10,7 +10,7 @@ use std::alloc::{AllocError, Global};
 
 /// Where it is looked up: the rows, and what is on its way, each by folder and name.
 #[derive(Drop)]
-pub(crate) struct Lookup<'a> {
+pub struct Lookup<'a> {
     cut: &'a Cut,
     rows: Vec<NamedRow<'a>>,
     coming: Vec<Coming<'a>>,
@@ -18,7 +18,7 @@ pub(crate) struct Lookup<'a> {
 
 /// What is found of a name.
 #[derive(Drop)]
-pub(crate) struct OfOne<'s, 'a> {
+pub struct OfOne<'s, 'a> {
     /// The device that wins the name, and its record.
     pub(crate) winner: Option<(DeviceId, &'a Record)>,
     /// The first row about it.
@@ -29,14 +29,14 @@ pub(crate) struct OfOne<'s, 'a> {
 
 impl<'a> Lookup<'a> {
     /// Of this cut and these rows; or want of memory.
-    pub(crate) fn of(alloc: Global, cut: &'a Cut, rows: &'a [Row]) -> Result<Self, AllocError> {
+    pub fn of(alloc: Global, cut: &'a Cut, rows: &'a [Row]) -> Result<Self, AllocError> {
         let rows = sorted_by_name(alloc, rows)?;
         let coming = sorted_coming(alloc, cut)?;
         Ok(Lookup { cut, rows, coming })
     }
 
     /// What is found of the name.
-    pub(crate) fn find<'s>(&'s self, folder: &FolderName, name: &Name) -> OfOne<'s, 'a> {
+    pub fn find<'s>(&'s self, folder: &FolderName, name: &Name) -> OfOne<'s, 'a> {
         OfOne {
             winner: winner_of(self.cut, folder, name),
             row: first_of(about(self.rows.as_slice(), folder, name)),

@@ -16,6 +16,8 @@ pub(crate) enum Which<'a> {
     Ahead(Option<&'a Record>, &'a Row),
     /// Those whose version isn't at most the row's.
     NotBelow(&'a Row),
+    /// Those that count more of this device's changes than this own record does.
+    CountsMore(Option<&'a Record>, DeviceId),
 }
 
 /// Which records are asked for: these of this name.
@@ -26,8 +28,8 @@ pub(crate) struct Asked<'a> {
 }
 
 impl Asked<'_> {
-    // Whether the record is asked for.
-    fn takes(&self, foreign: &Record) -> bool {
+    /// Whether the record is asked for.
+    pub(crate) fn takes(&self, foreign: &Record) -> bool {
         if foreign.entry().name != *self.name {
             return false;
         }
@@ -42,6 +44,7 @@ impl Asked<'_> {
                         .version
                         .is_at_most(&row.entry.entry().version)
             }
+            Which::CountsMore(own, device) => valid && counts_more(foreign, own, device),
         }
     }
 }
@@ -91,6 +94,14 @@ pub(crate) fn add_pull<'a>(
 ) -> Result<(), AllocError> {
     let (at, target) = (Some(share.device), share.pulls.get(asked.name));
     add_if_asked(details, asked, What::Pull, at, None, target)
+}
+
+fn counts_more(foreign: &Record, own: Option<&Record>, device: DeviceId) -> bool {
+    let counted = match own {
+        None => 0,
+        Some(own) => own.entry().version.get(device),
+    };
+    foreign.entry().version.get(device) > counted
 }
 
 fn record_of(holding: Held<'_>) -> Option<&Record> {

@@ -150,8 +150,8 @@ fn push_loose(
     Ok(())
 }
 
-// Appends a line for each of the details.
-fn push_details(text: &mut Vec<u8>, details: &[Vec<u8>]) -> Result<(), AllocError>
+/// Appends a line for each of the details.
+pub fn push_details(text: &mut Vec<u8>, details: &[Vec<u8>]) -> Result<(), AllocError>
     ensures { OnOk result (text.new.items ≡ text.old.items ++ flat_map spec.detail_line (map (λ said. said.items) details.now)) }
 {
     for said in details {

@@ -5,7 +5,8 @@ use Rattle.clap.specs.Lexer.{long_of}
 use Rattle.clap.specs.Facts.{explicit_source}
 use Rattle.clap.specs.Takes.{is_given}
 use Rattle.std.specs.List.{list_any}
-use Rattle.clap.specs.Kinds.{Kinds, or_else, check_kinds}
+use Rattle.clap.specs.Kinds.{HasKind, Kinds, or_else, check_kinds}
+use Rattle.clap.specs.declared.error.Error.{Error}
 use Rattle.clap.specs.declared.error.kind.ErrorKind.TheVariants.{DisplayHelp, InvalidSubcommand}
 use Rattle.clap.specs.Simple.{built, names_of, argument_words, entered}
 use Rattle.clap.specs.Walk.{Held, Names, Outcome, Step, Waiting, Walk, after_flag, after_step, arg_by_index, answers_to, finished, settled, Row, long_or_other, nothing_held, plain_word, short_or_plain, subcommand_met, subcommand_or_other, to_positional, walk, walk_from, walked, walked_from, word_met, next, trailing, subcommand, value, idle, option, positional, done, waits, plain, refused}
@@ -29,6 +30,10 @@ flagged app rule before made arg is takes local added = record {
 -- a parse of the program's words in which nothing is at fault
 pub no_fault : (app : App) (words : List Text) → app ≡ program → (is_simple_and_free app ≡ true → fault_of app words ≡ []) → fault_of program words ≡ []
 no_fault app words is none = subst (λ a. fault_of a words ≡ []) is (none (ap is_simple_and_free is))
+
+-- one in which something is at fault
+pub fails_as : (app : App) (words : List Text) (error : Error) → app ≡ program → (is_simple_and_free app ≡ true → HasKind (fault_of app words) error) → HasKind (fault_of program words) error
+fails_as app words error is fails = subst (λ a. HasKind (fault_of a words) error) is (fails (ap is_simple_and_free is))
 
 first_none : (one other : Kinds) → or_else one other ≡ [] → one ≡ []
 first_none [] other e = refl

@@ -39,7 +39,9 @@ abbrev pub converge_app : App
 converge_app = new_app (codes "converge")
 
 abbrev pub explain_app : App
-explain_app = with_rule (with_rule (with_rule (new_app (codes "explain")) (flag (codes "json"))) (flag (codes "firm"))) (flag (codes "certify"))
+explain_app =
+    let json = with_rule (new_app (codes "explain")) (flag (codes "json")) in
+    with_rule (with_rule (with_rule json (flag (codes "firm"))) (flag (codes "converge"))) (flag (codes "certify"))
 
 abbrev pub certify_app : App
 certify_app = with_rule (new_app (codes "certify")) (flag (codes "partial"))
@@ -84,9 +86,9 @@ is_set name met = is_set_under name (option_map (λ one. one.1) met)
 abbrev pub form_of : Option (Text × List Row) → Form
 form_of met = if is_set (codes "json") met then forms.Json else forms.Text
 
--- whether the subcommand in the words asks for firm
+-- whether the subcommand in the words asks for converging, for firm, or for neither
 abbrev pub goal_of : Option (Text × List Row) → Goal
-goal_of met = if is_set (codes "firm") met then goals.Firm else goals.Settled
+goal_of met = if is_set (codes "converge") met then goals.Converging else if is_set (codes "firm") met then goals.Firm else goals.Settled
 
 -- under which rows the subcommand in the words asks for an audit
 abbrev pub under_of : Option (Text × List Row) → Under

@@ -53,6 +53,8 @@ pub enum Goal {
     Settled,
     /// Being firm.
     Firm,
+    /// Converging, of which the certificate isn't looked at.
+    Converging,
 }
 
 /// What is written of the cut to which a scenario leads.
@@ -105,9 +107,11 @@ const EXPLAIN_HELP: &str =
      is told.\n\n\
      Example: syncaudit explain < examples/file-missing-in-store.json\n\
      With --firm it tells all that keeps it from being firm.\n\
+     With --converge it tells all that keeps the cut from converging. The certificate isn't looked at then, and neither is \
+     --firm.\n\
      With --certify it audits the cut under the winners of its names, and tells of each name without one.\n\
      With --json it writes one JSON document on a line: explanation.schema.json describes it.\n\n\
-     Exit status: 0 settled, or firm, 1 not, 2 document refused, 3 usage or help, 4 out of memory, \
+     Exit status: 0 settled, or firm, or converging, 1 not, 2 document refused, 3 usage or help, 4 out of memory, \
      5 read or write fault";
 
 const RUN_HELP: &str =
@@ -221,17 +225,19 @@ fn explain_command<'a>(alloc: Global) -> Result<Command<'a>, AllocError>
 {
     let json = flag(alloc, "json", "Writes one JSON document");
     let firm = flag(alloc, "firm", "Tells all that keeps it from being firm");
+    let converge = flag(alloc, "converge", "Tells all that keeps it from converging");
     let certify = certify_flag(alloc);
     let with_json = plain_command(
         alloc,
         "explain",
         "Tells all that keeps the check document on standard input from being settled",
-        "syncaudit explain [--json] [--firm] [--certify] < FILE",
+        "syncaudit explain [--json] [--firm] [--converge] [--certify] < FILE",
         EXPLAIN_HELP,
     )
     .arg(json)?;
     let with_firm = with_json.arg(firm)?;
-    with_firm.arg(certify)
+    let with_converge = with_firm.arg(converge)?;
+    with_converge.arg(certify)
 }
 
 fn run_command<'a>(alloc: Global) -> Result<Command<'a>, AllocError>
@@ -340,7 +346,9 @@ fn extent_of(matches: &ArgMatches<'_>) -> Extent
 fn goal_of(matches: &ArgMatches<'_>) -> Goal
     ensures { result ≡ goal_of (subcommand_rows_of matches.now) }
 {
-    if is_set(matches, "firm") {
+    if is_set(matches, "converge") {
+        Goal::Converging
+    } else if is_set(matches, "firm") {
         Goal::Firm
     } else {
         Goal::Settled

@@ -26,6 +26,8 @@ done_without_memory (Explain Settled Given form) unread held status told = recor
 done_without_memory (Explain Settled Winners form) unread held status told = record { answer = Err Memory; told = told; done = Keeps-refl held }
 done_without_memory (Explain goals.Firm Given form) unread held status told = record { answer = Err Memory; told = told; done = Keeps-refl held }
 done_without_memory (Explain goals.Firm Winners form) unread held status told = record { answer = Err Memory; told = told; done = Keeps-refl held }
+done_without_memory (Explain goals.Converging Given form) unread held status told = record { answer = Err Memory; told = told; done = Keeps-refl held }
+done_without_memory (Explain goals.Converging Winners form) unread held status told = record { answer = Err Memory; told = told; done = Keeps-refl held }
 done_without_memory (Run Report turns) unread held status told = record {
   at_rest = λ none. record { answer = Err Memory; told = told; done = Keeps-refl held };
   live = λ some. record { answer = Err Memory; told = told; done = Keeps-refl held };

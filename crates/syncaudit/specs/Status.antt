@@ -9,6 +9,7 @@ use Rattle.bep_answer.specs.Status.{IsCertificateTold, IsFirmTold, IsFirmToldUnd
 use Rattle.bep_answer.specs.UnderWinners.{SaysFirmUnderWinners, SaysSettledUnderWinners}
 use Rattle.bep_converge_answer.specs.Convergence.{SaysConverging}
 use Rattle.bep_converge_answer.specs.Status.{IsConvergeTold}
+use Rattle.bep_converge_explain.specs.Explained.{IsConvergeExplanationTold}
 use Rattle.bep_lines.specs.declared.form.Form.{Form}
 use Rattle.bep_live.specs.Lived.{EndsLived}
 use Rattle.bep_live.specs.Told.{IsLiveEndTold, IsLiveTold}
@@ -66,11 +67,13 @@ IsCertifying Won = IsPartTold
 abbrev pub IsExplainingGiven : Goal → Form → Option (List ℕ) → Option (List ℕ) → Option (List ℕ) → Option (List ℕ) → ℕ → Type 0
 IsExplainingGiven Settled form = IsExplanationTold form
 IsExplainingGiven goals.Firm form = IsFirmExplanationTold form
+IsExplainingGiven goals.Converging form = IsConvergeExplanationTold form
 
--- the same under the winners of its names
+-- the same under the winners of its names, at which nobody looks where it is asked what keeps it from converging
 abbrev pub IsExplainingUnderWinners : Goal → Form → Option (List ℕ) → Option (List ℕ) → Option (List ℕ) → Option (List ℕ) → ℕ → Type 0
 IsExplainingUnderWinners Settled form = IsExplanationToldUnderWinners form
 IsExplainingUnderWinners goals.Firm form = IsFirmExplanationToldUnderWinners form
+IsExplainingUnderWinners goals.Converging form = IsConvergeExplanationTold form
 
 -- one of the two
 abbrev pub IsExplaining : Goal → Under → Form → Option (List ℕ) → Option (List ℕ) → Option (List ℕ) → Option (List ℕ) → ℕ → Type 0

@@ -21,6 +21,7 @@ use bep_answer::{
     end, firm_and_tell, firm_under_winners_and_tell,
 };
 use bep_converge_answer::converge_and_tell;
+use bep_converge_explain::explain_converge_and_tell;
 use bep_explain::{
     explain_and_tell, explain_firm_and_tell, explain_firm_under_winners_and_tell,
     explain_under_winners_and_tell,
@@ -213,6 +214,7 @@ fn explain_given<P: AllocGlobal + Eprint, R: Read, W: Write>(
     match goal {
         Goal::Settled => explain_and_tell(rt, form, reader, writer),
         Goal::Firm => explain_firm_and_tell(rt, form, reader, writer),
+        Goal::Converging => explain_converge_and_tell(rt, form, reader, writer),
     }
 }
 
@@ -229,6 +231,7 @@ fn explain_under_winners<P: AllocGlobal + Eprint, R: Read, W: Write>(
     match goal {
         Goal::Settled => explain_under_winners_and_tell(rt, form, reader, writer),
         Goal::Firm => explain_firm_under_winners_and_tell(rt, form, reader, writer),
+        Goal::Converging => explain_converge_and_tell(rt, form, reader, writer),
     }
 }
 

@@ -1,22 +1,17 @@
 -- JSON of an explanation that is written part by part.
-use Rattle.std.specs.Prelude.{◌≡◌, ◌++◌, ℕ, List, [], ◌∷◌, Bool, true, false, map}
+use Rattle.std.specs.Prelude.{◌≡◌, ◌++◌, List, [], ◌∷◌, Bool, true, false, map}
 use Rattle.json.specs.Written.{Written}
 use Rattle.serde_json.specs.Data.{Data}
 use Rattle.serde_json.specs.View.{items_of}
 use Rattle.bep_audit.specs.Loose.{Loosening}
 use Rattle.bep_audit.specs.Walk.{Failure}
 use Rattle.bep_json.specs.Added.{Adds, AddsItems}
-use Rattle.bep_model.specs.Reasons.{Place}
-use Rattle.bep_explain.specs.Annotated.{Annotated, IsJsonLine, explanation_tree, failure_tree, failures_in, reason_tree}
+use Rattle.bep_explain.specs.Annotated.{Annotated, explanation_tree, failure_tree, failures_in}
 use Rattle.bep_explain.specs.FirmTold.{LooseAnnotated, firm_explanation_tree, loose_tree, loosenings_in}
 
 -- some value was written
 abbrev pub AddsSome : Written → Written → Type 0
 AddsSome old new = (d : Data) × Adds d old new
-
--- a reason that fails, with something that is said of it, was written
-abbrev pub AddsReason : List ℕ → Place → Written → Written → Type 0
-AddsReason word place old new = (details : Data) × Adds (reason_tree word place details) old new
 
 -- these failures, each with something that is said of it, stand in a list before the items that come next
 abbrev pub AddsFailures : List Failure → Written → Written → Type 0
@@ -38,10 +33,6 @@ AddsExplanation found old new = (told : List Annotated) × (failures_in told ≡
 abbrev pub AddsFirmExplanation : List Failure → List Loosening → Written → Written → Type 0
 AddsFirmExplanation found loose old new =
     (told : List Annotated) × (more : List LooseAnnotated) × (failures_in told ≡ found) × (loosenings_in more ≡ loose) × Adds (firm_explanation_tree told more) old new
-
--- where nothing stood before and this value alone was written, the text is its line
-abbrev pub TellsLine : Written → List ℕ → Type 0
-TellsLine out text = (d : Data) (start : Written) → start.tokens ≡ [] → Adds d start out → IsJsonLine d text
 
 -- whether nothing fails
 abbrev pub no_failure : List Failure → Bool

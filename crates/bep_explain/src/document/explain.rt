@@ -106,7 +106,7 @@ pub(crate) fn refusal_in(
 }
 
 /// The fault for which a document is refused, in this form.
-pub(crate) fn fault_in(alloc: Global, form: Form, fault: &DocFault) -> Result<Vec<u8>, AllocError>
+pub fn fault_in(alloc: Global, form: Form, fault: &DocFault) -> Result<Vec<u8>, AllocError>
     ensures { IfOk result (λ text. IsRefusal form fault.now text.items) }
 {
     match form {

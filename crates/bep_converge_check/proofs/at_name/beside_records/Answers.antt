@@ -20,10 +20,10 @@ returns-then-not-are_in_line c =
     let key : Folder × FileName = (c.args.folder.now, c.args.name.now) in
     let line = in_line_as (Contains (map record_of c.args.sorted.now)) (IsAnywhere t key.0 key.1) c.requires.all in
     subst (λ (one : Hinder). FindsHinder t (λ k. k ≡ key) (Some one)) (sym c.at_whole.ensures)
-    (not_in_line t key c.requires.known c.args.top.now c.requires.top (λ in_line. true≢false (sym (c.are_in_line.ensures.in_line.1 (line.1 in_line)) ∙ c.if-not-are_in_line.true)))
+    (not_in_line t key c.requires.known c.args.top.now c.requires.top (λ in_line. true≢false (sym (c.are_in_line.ensures.1 (line.1 in_line)) ∙ c.if-not-are_in_line.true)))
 
 pub agree-requires : goal.agree-requires
-agree-requires c = c.are_in_line.ensures.ascend c.if-not-are_in_line.false
+agree-requires c = c.requires.sorted
 
 pub returns-then-not-agree : goal.returns-then-not-agree
 returns-then-not-agree c =
@@ -33,7 +33,7 @@ returns-then-not-agree c =
     let line = in_line_as records (IsAnywhere t key.0 key.1) c.requires.all in
     let same = agree_as records (IsAnywhere t key.0 key.1) c.requires.all in
     subst (λ (one : Hinder). FindsHinder t (λ k. k ≡ key) (Some one)) (sym c.at_whole-then-not-agree.ensures)
-    (differ t key c.requires.known c.args.top.now c.requires.top (line.0 (c.are_in_line.ensures.in_line.0 c.if-not-are_in_line.false))
+    (differ t key c.requires.known c.args.top.now c.requires.top (line.0 (c.are_in_line.ensures.0 c.if-not-are_in_line.false))
     (λ agree. true≢false (sym (c.agree.ensures.1 (same.1 agree)) ∙ c.if-not-agree.true)))
 
 pub first_unmet-requires : goal.first_unmet-requires
@@ -46,7 +46,7 @@ returns-in-None c =
     let key : Folder × FileName = (c.args.folder.now, c.args.name.now) in
     let top = c.args.top.now in
     let records = Contains (map record_of c.args.sorted.now) in
-    let in_line = (in_line_as records (IsAnywhere t key.0 key.1) c.requires.all).0 (c.are_in_line.ensures.in_line.0 c.if-not-are_in_line.false) in
+    let in_line = (in_line_as records (IsAnywhere t key.0 key.1) c.requires.all).0 (c.are_in_line.ensures.0 c.if-not-are_in_line.false) in
     let agree = (agree_as records (IsAnywhere t key.0 key.1) c.requires.all).0 (c.agree.ensures.0 c.if-not-agree.false) in
     let met = subst (λ (shares : List Share). (reason : ConvergeReason) (device : Device) → IsMetBy top key.1 shares reason device ↔ (Shares t device key.0 → AsksThere t reason key.0 key.1 device)) (sym c.shares.ensures.value)
     (met_exactly c.cut_says.ensures cut c.shares.ensures.a_cut key.0 key.1 top c.requires.top agree) in
@@ -59,7 +59,7 @@ returns-in-Some c =
     let key : Folder × FileName = (c.args.folder.now, c.args.name.now) in
     let top = c.args.top.now in
     let records = Contains (map record_of c.args.sorted.now) in
-    let in_line = (in_line_as records (IsAnywhere t key.0 key.1) c.requires.all).0 (c.are_in_line.ensures.in_line.0 c.if-not-are_in_line.false) in
+    let in_line = (in_line_as records (IsAnywhere t key.0 key.1) c.requires.all).0 (c.are_in_line.ensures.0 c.if-not-are_in_line.false) in
     let agree = (agree_as records (IsAnywhere t key.0 key.1) c.requires.all).0 (c.agree.ensures.0 c.if-not-agree.false) in
     let met = subst (λ (shares : List Share). (reason : ConvergeReason) (device : Device) → IsMetBy top key.1 shares reason device ↔ (Shares t device key.0 → AsksThere t reason key.0 key.1 device)) (sym c.shares.ensures.value)
     (met_exactly c.cut_says.ensures cut c.shares.ensures.a_cut key.0 key.1 top c.requires.top agree) in

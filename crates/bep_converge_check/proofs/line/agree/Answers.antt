@@ -8,7 +8,7 @@ loop-place-init c = none_agrees c.args.sorted.now
 pub loop-place-preserved : goal.loop-place-preserved
 loop-place-preserved c =
     agree_more c.args.sorted.now c.loop-place.place (omega arith) c.index-sorted-place.result c.index-sorted-place-in-loop-place.result (omega arith) c.index-sorted-place.is c.index-sorted-place-in-loop-place.is c.requires
-    (λ equal. c.is_like.ensures.0 c.if-not-is_like.false equal.1) c.loop-place.invariant
+    c.is_like.ensures.well_formed c.is_like.ensures.next_well_formed (λ equal. c.is_like.ensures.like.0 c.if-not-is_like.false equal.1) c.loop-place.invariant
 
 pub returns-then-not-is_like : goal.returns-then-not-is_like
 returns-then-not-is_like c = (
@@ -16,7 +16,7 @@ returns-then-not-is_like c = (
   λ agree.
       absurd
       (not_agree c.args.sorted.now c.loop-place.place (omega arith) c.index-sorted-place.result c.index-sorted-place-in-loop-place.result (omega arith) c.index-sorted-place.is c.index-sorted-place-in-loop-place.is c.requires
-      (λ like. true≢false (sym (c.is_like.ensures.1 like) ∙ c.if-not-is_like.true)) agree),
+      c.is_like.ensures.well_formed c.is_like.ensures.next_well_formed (λ like. true≢false (sym (c.is_like.ensures.like.1 like) ∙ c.if-not-is_like.true)) agree),
 )
 
 pub returns : goal.returns

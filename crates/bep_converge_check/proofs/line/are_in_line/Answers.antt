@@ -14,8 +14,8 @@ loop-place-preserved c =
     (subst (λ (v : List (ℕ × ℕ)). IsAtMost c.version-one.result.now v) c.version-next.ensures.value (c.is_at_most.ensures.0 c.if-not-is_at_most.false)))
     c.loop-place.invariant
 
-pub returns-then-not-is_at_most-clause-in_line : goal.returns-then-not-is_at_most-clause-in_line
-returns-then-not-is_at_most-clause-in_line c = (
+pub returns-then-not-is_at_most : goal.returns-then-not-is_at_most
+returns-then-not-is_at_most c = (
   λ e. absurd (true≢false (sym e)),
   λ in_line.
       absurd
@@ -28,5 +28,5 @@ returns-then-not-is_at_most-clause-in_line c = (
       in_line),
 )
 
-pub returns-clause-in_line : goal.returns-clause-in_line
-returns-clause-in_line c = (λ _. in_line_from c.args.sorted.now c.loop-place.place (omega arith) c.loop-place.invariant, λ _. refl)
+pub returns : goal.returns
+returns c = (λ _. in_line_from c.args.sorted.now c.loop-place.place (omega arith) c.loop-place.invariant, λ _. refl)

@@ -6,4 +6,5 @@ pub returns : goal.returns
 returns c =
     let with_json = flagged _ _ _ c.in_ok-with_json.with_json _ c.plain_command.ensures c.flag-json.ensures.rule c.flag-json.ensures.local c.in_ok-with_json.ensures in
     let with_firm = flagged _ _ _ c.in_ok-with_firm.with_firm _ with_json c.flag-firm.ensures.rule c.flag-firm.ensures.local c.in_ok-with_firm.ensures in
-    IfOk-weaker c.arg-3.result _ _ (λ made. flagged _ _ _ made _ with_firm c.certify_flag-certify.ensures.rule c.certify_flag-certify.ensures.local) c.arg-3.ensures
+    let with_converge = flagged _ _ _ c.in_ok-with_converge.with_converge _ with_firm c.flag-converge.ensures.rule c.flag-converge.ensures.local c.in_ok-with_converge.ensures in
+    IfOk-weaker c.arg-4.result _ _ (λ made. flagged _ _ _ made _ with_converge c.certify_flag-certify.ensures.rule c.certify_flag-certify.ensures.local) c.arg-4.ensures

@@ -1,9 +1,14 @@
 use Rattle.std.proofs.Common.{◌≡◌, inl, inr, Some, option_map, codes, sym, ap, subst, ◌∙◌, rules}
 use Rattle.bep_words.specs.Mode.{ending_of, extent_of, form_of, goal_of, under_of}
 use Rattle.bep_words.specs.Turns.{turns_of}
-use Rattle.bep_words.proofs.ModeFacts.{no_fault, name_told, rows_told, tells_mode, NamesMode, not_named}
+use Rattle.bep_words.proofs.ModeFacts.{fails_as, no_fault, name_told, rows_told, tells_mode, NamesMode, not_named}
 use Rattle.bep_words.proofs.mode.mode_of.Goals as goal
 use Rattle.bep_words.proofs.mode.mode_of.Goals.{in_default-via-in-Some+in_default, in_default-via-in_default}
+
+pub returns-in_err-matches-clause-faults : goal.returns-in_err-matches-clause-faults
+returns-in_err-matches-clause-faults g c =
+    let fails = fails_as _ _ c.in_err-matches.field-0.0 c.in_ok-command.ensures c.in_err-matches.ensures.kinds in
+    search (rules, fails)
 
 pub returns-in-Some-check-clause-faults : goal.returns-in-Some-check-clause-faults
 returns-in-Some-check-clause-faults g c = no_fault _ _ c.in_ok-command.ensures c.in_ok-matches.ensures.kinds

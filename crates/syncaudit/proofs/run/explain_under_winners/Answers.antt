@@ -9,3 +9,7 @@ returns-in-Settled g c =
 pub returns-in-Firm : goal.returns-in-Firm
 returns-in-Firm g c =
     subst (λ one. IsExplainingUnderWinners one c.args.form (g.R.Read.remaining c.args.reader.now) (g.R.Read.remaining c.explain_firm_under_winners_and_tell.new.reader) (g.W.Write.contents c.args.writer.now) (g.W.Write.contents c.explain_firm_under_winners_and_tell.new.writer) c.explain_firm_under_winners_and_tell.result) (sym c.in-Firm.is) c.explain_firm_under_winners_and_tell.ensures
+
+pub returns-in-Converging : goal.returns-in-Converging
+returns-in-Converging g c =
+    subst (λ one. IsExplainingUnderWinners one c.args.form (g.R.Read.remaining c.args.reader.now) (g.R.Read.remaining c.explain_converge_and_tell.new.reader) (g.W.Write.contents c.args.writer.now) (g.W.Write.contents c.explain_converge_and_tell.new.writer) c.explain_converge_and_tell.result) (sym c.in-Converging.is) c.explain_converge_and_tell.ensures
