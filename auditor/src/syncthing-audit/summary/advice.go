@@ -93,6 +93,8 @@ func (f *File) stepsFor(named labels) string {
 		return "the steps for " + it + " above, behind 'to do in', which save what is to stay"
 	case f.isRightByItself():
 		return ""
+	case f.isBadWithoutCopy():
+		return ""
 	case f.foretold.is(outlook.Deleted) || f.foretold.is(outlook.ByItself):
 		return f.ifItMayGo()
 	case f.foretold.is(outlook.Changed) && f.looksDamaged():
@@ -129,7 +131,13 @@ func (f *File) goesFrom() []string {
 
 // isRightByItself says whether nothing has to be done for the name but to let Syncthing run: nothing of it is lost, and all devices come to have one thing.
 func (f *File) isRightByItself() bool {
-	return f.foretold.isKnown() && f.foretold.plan == nil && (f.foretold.is(outlook.Depends) || f.foretold.is(outlook.ByItself) && !f.isToGo())
+	return f.foretold.isKnown() && f.foretold.plan == nil && !f.isBadWithoutCopy() && (f.foretold.is(outlook.Depends) || f.foretold.is(outlook.ByItself) && !f.isToGo())
+}
+
+// isBadWithoutCopy says whether no scan sees that other bytes stand on a disk than those that are due, and no audited device has these: nothing that Syncthing
+// does puts that right, and an old version or a backup may.
+func (f *File) isBadWithoutCopy() bool {
+	return len(f.Have) == 0 && slices.IndexFunc(f.Faults, func(one Fault) bool { return one.Cause == OtherBytes && f.isOfDue(&one) }) >= 0
 }
 
 // toRun says to let Syncthing run where that puts the name right, behind all that comes before a start. Where the entry tells nothing else it says that, too.
@@ -276,6 +284,7 @@ func diskAdvice(one *Fault, file *File, named labels) string {
 	switch {
 	case file.foretold.hasGoal() || file.isRightByItself() || one.Cause == Missing && (file.comesBack(one) || file.isGoneElsewhere(one)):
 		return ""
+	case file.isBadWithoutCopy() && one.Cause == OtherBytes:
 	case one.Cause != Missing && (file.foretold.is(outlook.Deleted) || file.foretold.is(outlook.ByItself)) || file.isToGoOn(one.Device): // a recorded change takes its place
 		return ""
 	case file.foretold.isKnown() && takes != "" && one.Cause != Changed:

@@ -71,6 +71,10 @@ func (f *File) bestAdvice(named labels) []string {
 
 // hasSomeBlocks says whether some blocks of what is due stand on the disk of a device.
 func (f *File) hasSomeBlocks(one *Fault) bool {
-	isOfDue := one.Due != nil && !one.Due.Deleted && f.lackOn(one.Device) == nil && !f.isTiedAt(one.Device) && !f.hasAt(one.Device, LocalChange)
-	return isOfDue && (one.Cause == OtherBytes || one.Cause == Changed && one.Damage != damage.None) && one.Blocks != nil && one.Blocks.Count < one.Blocks.Of
+	return f.isOfDue(one) && (one.Cause == OtherBytes || one.Cause == Changed && one.Damage != damage.None) && one.Blocks != nil && one.Blocks.Count < one.Blocks.Of
+}
+
+// isOfDue says whether what a device recorded is what is due.
+func (f *File) isOfDue(one *Fault) bool {
+	return one.Due != nil && !one.Due.Deleted && f.lackOn(one.Device) == nil && !f.isTiedAt(one.Device) && !f.hasAt(one.Device, LocalChange)
 }
