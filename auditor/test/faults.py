@@ -239,13 +239,14 @@ class Faults(Disturbed):
         self.each("part", check)
 
     def check_answer(self, ended, told):
-        """The rot is told, or the answer says that it was left out where that rot is, or there is no answer, with a reason."""
+        """The rot is told, or the answer says that it was left out where that rot is, or there is no answer, with a reason. A name of whose temporary file the
+        disk fails to say that it isn't there counts as being received."""
         self.assertIn(ended.returncode, (NOT_SETTLED, REFUSED, FAULT, PARTIAL, NOT_FOUND, *CRASHED), told)
         if ended.returncode == NOT_SETTLED:
             self.assertRegex(ended.stdout, r"StoreDiffers docs 00000/01.bin|\ndamaged: ", told)
         elif ended.returncode == PARTIAL:
             self.assertRegex(ended.stdout, r"^settled as far as audited\n", told)
-            self.assertRegex(ended.stdout, r"\nleft out: (folder docs, device device1: |docs 00000/01\.bin on )", told)
+            self.assertRegex(ended.stdout, r"\n(left out: (folder docs, device device1: |docs 00000/01\.bin on )|in motion: docs 00000/01\.bin on \d+: receiving\n)", told)
         elif ended.returncode != FAULT:
             self.assertEqual(ended.stdout, "", told)
         self.assertTrue(ended.returncode == NOT_SETTLED or ended.stderr, told)
