@@ -137,12 +137,13 @@ func (j *judge) endsOf(name *forecast.Name) [][]Thing {
 	return made
 }
 
-// keptOf gives why devices keep a name otherwise than others, at some end: where they end with one thing all of it is well.
+// keptOf gives why devices keep a name otherwise than others, at some end: where they end with one thing all of it is well, unless these are other bytes
+// than recorded, and no scan sees it.
 func (j *judge) keptOf(name *forecast.Name) []Kept {
 	found := map[int]forecast.Why{}
 	for place, end := range j.ends {
 		kept := j.kept[place][name.Name]
-		if isOne(end[name.Name], len(name.Disk)) && !isStuck(&j.answer.Ends[place], name.Name) {
+		if isOne(end[name.Name], len(name.Disk)) && !isStuck(&j.answer.Ends[place], name.Name) && !hasUnseen(kept) {
 			continue
 		}
 		for member, why := range kept {
@@ -161,6 +162,15 @@ func (j *judge) keptOf(name *forecast.Name) []Kept {
 		}
 	}
 	return made
+}
+
+func hasUnseen(kept map[int]forecast.Why) bool {
+	for _, why := range kept {
+		if why == forecast.NotSeen {
+			return true
+		}
+	}
+	return false
 }
 
 // isOne says whether one thing stands at a name on all devices, or nothing on each.

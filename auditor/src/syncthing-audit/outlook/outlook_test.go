@@ -271,3 +271,14 @@ func turn(folder *join.Folder, all []*join.Row) (*join.Folder, []*join.Row) {
 	}
 	return made, rows
 }
+
+// A file that is rotten on the one device that has it never comes right: no scan sees it.
+func TestRotOnOneDeviceStays(t *testing.T) {
+	own := &part.Record{ModifiedS: 100, ModifiedBy: 1, Version: [][2]uint64{{9, 1}}, Sequence: 1, Content: &part.Content{Size: 3, BlockSize: protocol.MinBlockSize, Hash: part.Hash{1}}}
+	rotten := part.Content{Size: 3, BlockSize: protocol.MinBlockSize, Hash: part.Hash{2}}
+	disk := &part.Node{ModifiedS: 100, Size: 3, Contents: []part.Content{rotten}, Permissions: 0o644}
+	told := outlookOf(folderOf("send-receive"), []*join.Row{{Name: "a", At: []*part.Name{{Name: part.Bytes("a"), Own: own, Disk: disk}}}})
+	if len(told.Listed) != 1 || told.Listed[0].Fate != Stays || told.Listed[0].Kept[0].Why != forecast.NotSeen {
+		t.Errorf("%+v", told)
+	}
+}
