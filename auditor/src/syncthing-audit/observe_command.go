@@ -121,6 +121,7 @@ func initObserver(asked options, output, log io.Writer) error {
 	}
 	outside.Print(log, "syncthing-audit: this is the observer's device id. On each device: 'Add Remote Device' with this id, and share the folders with it "+
 		"(no encryption password). Then ask: syncthing-audit observe DEVICE-ID .., with the ids of these devices\n")
+	showCode(log, observer.ID.String())
 	return outside.Printf(faulty{output}, "%s\n", observer.ID)
 }
 
