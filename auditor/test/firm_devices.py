@@ -76,7 +76,6 @@ class Firm(Exporting):
         self.assertEqual(ran.stdout.count("has it under a concurrent version"), 2)
         for told in ("Syncthing may still exchange records", "this project's own peers"):
             self.assertIn(told, " ".join(ran.stdout.split()))
-        self.assertIn("merge versions", ran.stderr)
         read = json.loads(self.answer("--json").stdout)
         folder, = read["folders"]
         self.assertEqual((read["verdict"], read["firm"], folder["names_not_firm"]), ("in-step", "not-firm", 1))
@@ -100,7 +99,6 @@ class Firm(Exporting):
                 document.with_suffix(".reply").write_bytes(b"".join(self.answered(word, certified) for word in words))
             ran = run([self.program, "sum", into, "--lines"])
             self.assertEqual((ran.returncode, without_devices(ran.stdout.splitlines())), (0, said), ran.stderr)
-            self.assertIn("merge versions", ran.stderr)
 
     def answered(self, word, document):
         """What the program that answers writes of a document."""
@@ -115,7 +113,6 @@ class Firm(Exporting):
             ran = self.answer()
             self.assertIn(f"{FOLDER}: in step; 6 names", ran.stdout)
             self.assertIn("is firm, too: this syncaudit is too old", ran.stdout)
-            self.assertIn("merge versions", ran.stderr)
             self.assertEqual(json.loads(self.answer("--json").stdout)["firm"], "not-asked")
         finally:
             del os.environ["WITHOUT_FIRM"]
