@@ -25,7 +25,7 @@ reads_document() (
     met="$met $flag"
     case "$command $1" in
       'check --certify' | 'firm --certify' | 'certify --partial' | 'run --document') ;;
-      'explain --json' | 'explain --firm' | 'explain --certify') ;;
+      'explain --json' | 'explain --firm' | 'explain --converge' | 'explain --certify') ;;
       'run --turns='*) is_turns "${1#--turns=}" || exit 1 ;;
       'run --turns')
         is_turns "${2-}" || exit 1
