@@ -30,7 +30,7 @@ func Join(wire, disks part.Stream) (*Stream, error) {
 		return nil, fmt.Errorf("the observer looked at %s, and the disks were walked for %s: make both with the same %s", records.Names.Words(), half.Names.Words(),
 			records.Unlike(half.Names))
 	}
-	made := &Stream{wire: &reading{Stream: wire}, disks: &reading{Stream: disks}, folder: -1}
+	made := &Stream{wire: part.NewPeeking(wire), disks: part.NewPeeking(disks), folder: -1}
 	var err error
 	made.head, err = joinHeads(records, half)
 	return made, err
@@ -79,7 +79,7 @@ func addConfigured(to, from *part.Folder) error {
 
 // Stream gives a device's lines as its two halves have them.
 type Stream struct {
-	wire, disks *reading
+	wire, disks *part.Peeking
 	head        *part.Head
 	folder      int // the place of the one whose names these are
 	names       int64
@@ -90,35 +90,17 @@ type Stream struct {
 	hidden      []*part.Name        // that .stignore ignores and the walk told under their names
 }
 
-// reading is a part with the line that is next.
-type reading struct {
-	part.Stream
-	line *part.Line
-}
-
-// peek gives the next line without taking it.
-func (r *reading) peek() (*part.Line, error) {
-	if r.line == nil {
-		next, err := r.Stream.Next()
-		if err != nil {
-			return nil, err
-		}
-		r.line = &next
-	}
-	return r.line, nil
-}
-
 // Head gives the head of both halves.
 func (s *Stream) Head() *part.Head { return s.head }
 
 // Next gives the next line; io.EOF behind the last.
 func (s *Stream) Next() (part.Line, error) {
 	for {
-		one, err := s.wire.peek()
+		one, err := s.wire.Peek()
 		if err != nil {
 			return part.Line{}, s.checkEnd(err)
 		}
-		other, err := s.disks.peek()
+		other, err := s.disks.Peek()
 		if err != nil {
 			return part.Line{}, fmt.Errorf("its half of the disks: %w", err)
 		}
@@ -144,7 +126,7 @@ func (s *Stream) Next() (part.Line, error) {
 
 // checkEnd says whether the half of the disks ends where that over the wire does.
 func (s *Stream) checkEnd(err error) error {
-	if _, left := s.disks.peek(); left != err {
+	if _, left := s.disks.Peek(); left != err {
 		return fmt.Errorf("its half of the disks goes on where that over the wire ends: %v, %w", left, err)
 	}
 	return err
@@ -152,7 +134,8 @@ func (s *Stream) checkEnd(err error) error {
 
 // take takes the lines of both halves.
 func (s *Stream) take(line part.Line) part.Line {
-	s.wire.line, s.disks.line = nil, nil
+	s.wire.Take()
+	s.disks.Take()
 	return line
 }
 
@@ -187,13 +170,14 @@ func (s *Stream) end(wire, disks *part.End) *part.End {
 func (s *Stream) name(one, other *part.Name) *part.Name {
 	switch {
 	case other == nil || one != nil && one.Name < other.Name:
-		s.wire.line = nil
+		s.wire.Take()
 		return s.join(one, nil)
 	case one == nil || other.Name < one.Name:
-		s.disks.line = nil
+		s.disks.Take()
 		return s.join(nil, other)
 	}
-	s.wire.line, s.disks.line = nil, nil
+	s.wire.Take()
+	s.disks.Take()
 	return s.join(one, other)
 }
 

@@ -59,15 +59,16 @@ func (s *Stream) lack(folder *part.Folder, other *part.Head, why error) {
 // next gives the next line of the folders that are joined, without taking it.
 func (r *reading) next(kept map[string]bool) (*part.Line, error) {
 	for {
-		line, err := r.peek()
+		line, err := r.Peek()
 		if err != nil || line.Begin == nil || kept[line.Begin.Folder] {
 			return line, err
 		}
 		for isOver := false; !isOver; {
-			if line, err = r.peek(); err != nil {
+			if line, err = r.Peek(); err != nil {
 				return nil, err
 			}
-			isOver, r.line = line.End != nil, nil
+			isOver = line.End != nil
+			r.Take()
 		}
 	}
 }

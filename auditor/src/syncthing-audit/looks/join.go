@@ -19,23 +19,8 @@ type Stream struct {
 	names         int64
 }
 
-// reading is a part with the line that is next.
-type reading struct {
-	part.Stream
-	line *part.Line
-}
-
-// peek gives the next line without taking it.
-func (r *reading) peek() (*part.Line, error) {
-	if r.line == nil {
-		next, err := r.Stream.Next()
-		if err != nil {
-			return nil, err
-		}
-		r.line = &next
-	}
-	return r.line, nil
-}
+// reading is the part of a look.
+type reading struct{ *part.Peeking }
 
 // Join joins the two looks at a device. It says why they aren't two looks at one, or what changed that makes them useless.
 func Join(first, second part.Stream) (*Stream, error) {
@@ -54,7 +39,7 @@ func Join(first, second part.Stream) (*Stream, error) {
 		return nil, fmt.Errorf("the first look is at %s, and the second one at %s: make both with the same %s", one.Names.Words(), other.Names.Words(),
 			one.Unlike(other.Names))
 	}
-	made := &Stream{first: &reading{Stream: first}, second: &reading{Stream: second}, folder: -1}
+	made := &Stream{first: &reading{part.NewPeeking(first)}, second: &reading{part.NewPeeking(second)}, folder: -1}
 	head := *one
 	head.Look = &part.Look{Home: one.Look.Home, ID: one.Look.ID, After: other.Look.After, At: one.Look.At, Ended: other.Look.At}
 	made.head = &head
@@ -127,7 +112,8 @@ func (s *Stream) Next() (part.Line, error) {
 
 // take takes the lines of both looks.
 func (s *Stream) take(line part.Line) part.Line {
-	s.first.line, s.second.line = nil, nil
+	s.first.Take()
+	s.second.Take()
 	return line
 }
 
@@ -135,10 +121,10 @@ func (s *Stream) take(line part.Line) part.Line {
 func (s *Stream) name(one, other *part.Name) part.Line {
 	switch {
 	case other == nil || one != nil && one.Name < other.Name:
-		s.first.line = nil
+		s.first.Take()
 		return part.Line{Name: onlyOnce(one)}
 	case one == nil || other.Name < one.Name:
-		s.second.line = nil
+		s.second.Take()
 		return part.Line{Name: onlyOnce(other)}
 	}
 	return s.take(part.Line{Name: s.both(one, other)})
