@@ -2,9 +2,7 @@ package main
 
 import (
 	"go/ast"
-	"go/parser"
 	"go/token"
-	"io/fs"
 	"path/filepath"
 	"regexp"
 	"strings"
@@ -49,34 +47,20 @@ func TestEachKindIsOneThatLeaveOutTakes(t *testing.T) {
 // as its kind: a constant's name, or a word of its own.
 func kindsOfTheSource(t *testing.T) (words map[string]string, used map[string]string) {
 	words, used = map[string]string{}, map[string]string{}
-	err := filepath.WalkDir(".", func(path string, _ fs.DirEntry, err error) error {
-		if err != nil || !strings.HasSuffix(path, ".go") || strings.HasSuffix(path, "_test.go") {
-			return err
-		}
-		tree, err := parser.ParseFile(token.NewFileSet(), path, nil, 0)
-		if err != nil {
-			return err
-		}
-		ast.Inspect(tree, func(node ast.Node) bool {
-			switch node := node.(type) {
-			case *ast.ValueSpec:
-				for place, name := range node.Names {
-					if word, is := wordOf(node, place); is && filepath.Dir(path) == "part" {
-						words[name.Name] = word
-					}
-				}
-			case *ast.CompositeLit:
-				if kind := kindIn(node); kind != "" {
-					used[kind] = path
+	inSources(t, func(path string, node ast.Node) {
+		switch node := node.(type) {
+		case *ast.ValueSpec:
+			for place, name := range node.Names {
+				if word, is := wordOf(node, place); is && filepath.Dir(path) == "part" {
+					words[name.Name] = word
 				}
 			}
-			return true
-		})
-		return nil
+		case *ast.CompositeLit:
+			if kind := kindIn(node); kind != "" {
+				used[kind] = path
+			}
+		}
 	})
-	if err != nil {
-		t.Fatal(err)
-	}
 	return words, used
 }
 

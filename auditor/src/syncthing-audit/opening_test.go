@@ -2,10 +2,6 @@ package main
 
 import (
 	"go/ast"
-	"go/parser"
-	"go/token"
-	"io/fs"
-	"path/filepath"
 	"strings"
 	"testing"
 )
@@ -25,31 +21,18 @@ var mayOpen = map[string]string{
 // package regular alone.
 func TestFilesAreOpenedInOnePlace(t *testing.T) {
 	opened := 0
-	err := filepath.WalkDir(".", func(path string, entry fs.DirEntry, err error) error {
-		isOther := strings.HasPrefix(path, "sample/") || strings.HasPrefix(path, "overwire/") || strings.HasPrefix(path, "worlds/") ||
-			strings.HasPrefix(path, "forecast/cmd/") || strings.HasSuffix(path, "_test.go")
-		if err != nil || entry.IsDir() || !strings.HasSuffix(path, ".go") || isOther {
-			return err
+	inSources(t, func(path string, node ast.Node) {
+		call, is := node.(*ast.CallExpr)
+		if !is || !isOpening(call) {
+			return
 		}
-		file, err := parser.ParseFile(token.NewFileSet(), path, nil, 0)
-		if err != nil {
-			return err
+		opened++
+		if mayOpen[path] == "" {
+			t.Errorf("%s opens a file to be read otherwise than by the package regular", path)
 		}
-		ast.Inspect(file, func(node ast.Node) bool {
-			call, is := node.(*ast.CallExpr)
-			if !is || !isOpening(call) {
-				return true
-			}
-			opened++
-			if mayOpen[path] == "" {
-				t.Errorf("%s opens a file to be read otherwise than by the package regular", path)
-			}
-			return true
-		})
-		return nil
-	})
-	if err != nil || opened < 5 {
-		t.Errorf("%d calls that open were found: %v", opened, err)
+	}, "sample/", "overwire/", "worlds/", "forecast/cmd/")
+	if opened < 5 {
+		t.Errorf("%d calls that open were found", opened)
 	}
 }
 
@@ -75,30 +58,18 @@ var mayRename = map[string]string{
 // A file that is renamed before it is on the disk may be empty once a machine has gone down. So files get their names by the package leftover alone.
 func TestFilesGetTheirNamesInOnePlace(t *testing.T) {
 	seen := map[string]bool{}
-	err := filepath.WalkDir(".", func(path string, entry fs.DirEntry, err error) error {
-		isOther := strings.HasPrefix(path, "sample/") || strings.HasPrefix(path, "worlds/") || strings.HasPrefix(path, "forecast/cmd/") || strings.HasSuffix(path, "_test.go")
-		if err != nil || entry.IsDir() || !strings.HasSuffix(path, ".go") || isOther {
-			return err
+	inSources(t, func(path string, node ast.Node) {
+		one, is := node.(*ast.SelectorExpr)
+		if !is || !strings.HasPrefix(one.Sel.Name, "Rename") {
+			return
 		}
-		file, err := parser.ParseFile(token.NewFileSet(), path, nil, 0)
-		if err != nil {
-			return err
+		if of, is := one.X.(*ast.Ident); is && (of.Name == "os" || of.Name == "unix" || of.Name == "syscall") {
+			if seen[path] = true; mayRename[path] == "" {
+				t.Errorf("%s renames something", path)
+			}
 		}
-		ast.Inspect(file, func(node ast.Node) bool {
-			one, is := node.(*ast.SelectorExpr)
-			if !is || !strings.HasPrefix(one.Sel.Name, "Rename") {
-				return true
-			}
-			if of, is := one.X.(*ast.Ident); is && (of.Name == "os" || of.Name == "unix" || of.Name == "syscall") {
-				if seen[path] = true; mayRename[path] == "" {
-					t.Errorf("%s renames something", path)
-				}
-			}
-			return true
-		})
-		return nil
-	})
-	if err != nil || len(seen) != len(mayRename) {
-		t.Errorf("%v, %v", seen, err)
+	}, "sample/", "worlds/", "forecast/cmd/")
+	if len(seen) != len(mayRename) {
+		t.Error(seen)
 	}
 }

@@ -2,10 +2,6 @@ package main
 
 import (
 	"go/ast"
-	"go/parser"
-	"go/token"
-	"io/fs"
-	"path/filepath"
 	"strings"
 	"testing"
 )
@@ -32,25 +28,13 @@ func isWrapper(path, name string) bool {
 // All that is printed goes through the package outside, by formats of the program's own: no other file prints or makes a format of a text.
 func TestPrintingIsInOnePlace(t *testing.T) {
 	printed := 0
-	err := filepath.WalkDir(".", func(path string, entry fs.DirEntry, err error) error {
-		isOther := strings.HasPrefix(path, "outside/") || strings.HasPrefix(path, "sample/") || strings.HasPrefix(path, "overwire/") || strings.HasPrefix(path, "forecast/cmd/") || strings.HasSuffix(path, "_test.go")
-		if err != nil || entry.IsDir() || !strings.HasSuffix(path, ".go") || isOther {
-			return err
+	inSources(t, func(path string, node ast.Node) {
+		if call, is := node.(*ast.CallExpr); is {
+			printed += checkPrinting(t, path, call)
 		}
-		file, err := parser.ParseFile(token.NewFileSet(), path, nil, 0)
-		if err != nil {
-			return err
-		}
-		ast.Inspect(file, func(node ast.Node) bool {
-			if call, is := node.(*ast.CallExpr); is {
-				printed += checkPrinting(t, path, call)
-			}
-			return true
-		})
-		return nil
-	})
-	if err != nil || printed < 50 {
-		t.Errorf("%d calls that print were found: %v", printed, err)
+	}, "outside/", "sample/", "overwire/", "forecast/cmd/")
+	if printed < 50 {
+		t.Errorf("%d calls that print were found", printed)
 	}
 }
 

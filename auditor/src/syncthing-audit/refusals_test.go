@@ -3,7 +3,6 @@ package main
 import (
 	"fmt"
 	"go/ast"
-	"go/parser"
 	"go/token"
 	"io"
 	"io/fs"
@@ -24,27 +23,13 @@ import (
 // refusalsOfTheSource gives all texts of the program that begin with 'refused: '.
 func refusalsOfTheSource(t *testing.T) []string {
 	found := map[string]bool{}
-	err := filepath.WalkDir(".", func(path string, _ fs.DirEntry, err error) error {
-		if err != nil || !strings.HasSuffix(path, ".go") || strings.HasSuffix(path, "_test.go") {
-			return err
-		}
-		tree, err := parser.ParseFile(token.NewFileSet(), path, nil, 0)
-		if err != nil {
-			return err
-		}
-		ast.Inspect(tree, func(node ast.Node) bool {
-			if literal, is := node.(*ast.BasicLit); is && literal.Kind == token.STRING {
-				if text, err := strconv.Unquote(literal.Value); err == nil && strings.HasPrefix(text, "refused: ") {
-					found[text] = true
-				}
+	inSources(t, func(path string, node ast.Node) {
+		if literal, is := node.(*ast.BasicLit); is && literal.Kind == token.STRING {
+			if text, err := strconv.Unquote(literal.Value); err == nil && strings.HasPrefix(text, "refused: ") {
+				found[text] = true
 			}
-			return true
-		})
-		return nil
+		}
 	})
-	if err != nil {
-		t.Fatal(err)
-	}
 	var all []string
 	for text := range found {
 		all = append(all, text)
