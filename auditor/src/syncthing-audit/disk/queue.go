@@ -123,3 +123,23 @@ func (q *Queue) Waiting() (names, weight int) {
 	defer q.mutex.Unlock()
 	return len(q.waiting), q.weight
 }
+
+// Drain gives on each name once its file is hashed, and counts it. Texts that have the path are told without it. It says whether there is none left, and
+// why then nothing more came; else why a name wasn't taken.
+func (q *Queue) Drain(path string, end *part.End, take func(part.Line) error) (isOver bool, err error) {
+	for {
+		next, err := q.Next()
+		if next == nil {
+			return true, err
+		}
+		line := next.Finish()
+		line.HidePaths(path)
+		end.Names++
+		if line.Disk != nil && line.Disk.Contents != nil && line.Disk.Lost == "" {
+			end.Bytes += line.Disk.Size - line.Disk.Unread
+		}
+		if err := take(part.Line{Name: line}); err != nil {
+			return false, err
+		}
+	}
+}

@@ -42,22 +42,11 @@ func (m *maker) names(one *folder, end *part.End, take part.Sink) error {
 	if !m.asked.Paths {
 		path = one.files.URI()
 	}
-	for {
-		next, err := found.Next()
-		if next == nil {
-			walking.tellEnd(end)
-			return err
-		}
-		line := next.Finish()
-		line.HidePaths(path)
-		end.Names++
-		if line.Disk != nil && line.Disk.Contents != nil && line.Disk.Lost == "" {
-			end.Bytes += line.Disk.Size - line.Disk.Unread
-		}
-		if err := take(part.Line{Name: line}); err != nil {
-			return err
-		}
+	isOver, err := found.Drain(path, end, take)
+	if isOver {
+		walking.tellEnd(end)
 	}
+	return err
 }
 
 // walking is the second walk of a folder.

@@ -95,20 +95,9 @@ func (d *Device) names(folder Folder, about *part.Folder, end *part.End, sink pa
 	merging := newMerge(d, folder, about, patterns, found)
 	go func() { found.End(merging.run()) }()
 	defer found.Stop()
-	for {
-		next, err := found.Next()
-		if next == nil {
-			merging.tellEnd(end)
-			return err
-		}
-		line := next.Finish()
-		line.HidePaths(path)
-		end.Names++
-		if line.Disk != nil && line.Disk.Contents != nil && line.Disk.Lost == "" {
-			end.Bytes += line.Disk.Size - line.Disk.Unread
-		}
-		if err := sink(part.Line{Name: line}); err != nil {
-			return err
-		}
+	isOver, err := found.Drain(path, end, sink)
+	if isOver {
+		merging.tellEnd(end)
 	}
+	return err
 }
