@@ -88,8 +88,38 @@ flags_of() {
   usage_of "$1" | grep -oE -- '\[--[a-z]+( [A-Z]+)?\]' | sed 's/^\[--//; s/[] ].*//' || true
 }
 
+# Each flag that some subcommand has.
+flags=$(for command in $(helped); do flags_of "$command"; done | sort -u)
+
+# takes COMMAND FLAG: the subcommand takes the flag. Standard input is no document, which it refuses then.
+takes() {
+  local value=()
+  [ "$2" != turns ] || value=(0)
+  status=0
+  "$program" "$1" "--$2" "${value[@]}" < /dev/null > /dev/null 2>&1 || status=$?
+  [ "$status" = 2 ]
+}
+
+# lacks COMMAND FLAG: the subcommand knows no such flag.
+lacks() {
+  ! takes "$@" && [ "$status" = 3 ]
+}
+
+# begins TEXT BEGIN: the text begins so.
+begins() {
+  [ "${1#"$2"}" != "$1" ]
+}
+
 for command in $(helped); do
+  expect "the usage line of '$command' is another's: '$(usage_of "$command")'" begins "$(usage_of "$command") " "syncaudit $command "
   expect "the man page's synopsis has no '$(usage_of "$command")'" begins_synopsis "$(usage_of "$command")"
+  for flag in $flags; do
+    if flags_of "$command" | grep -qx -- "$flag"; then
+      expect "'$command' doesn't take '--$flag', which its usage line has" takes "$command" "$flag"
+    else
+      expect "'$command' takes '--$flag', which its usage line doesn't have" lacks "$command" "$flag"
+    fi
+  done
   for file in docs/completions/{syncaudit.bash,_syncaudit,syncaudit.fish}; do
     expect "$file has no '$command'" has "$command" "$file"
   done
