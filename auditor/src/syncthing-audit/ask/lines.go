@@ -10,10 +10,10 @@ import (
 )
 
 // Line gives a failure as syncaudit writes it.
-func Line(folder string, one *finding.Failure) string {
-	line := one.Reason + " " + folder + " " + Printed(one.Name)
-	if one.Device != 0 {
-		line += " on " + strconv.FormatUint(one.Device, 10)
+func Line(folder string, failure *finding.Failure) string {
+	line := failure.Reason + " " + folder + " " + Printed(failure.Name)
+	if failure.Device != 0 {
+		line += " on " + strconv.FormatUint(failure.Device, 10)
 	}
 	return line
 }
@@ -22,10 +22,10 @@ func Line(folder string, one *finding.Failure) string {
 func Printed(name string) string {
 	var made strings.Builder
 	for place := 0; place < len(name); place++ {
-		if one := name[place]; one < 0x21 || one == '\\' || one == 0x7f {
-			fmt.Fprintf(&made, `\x%02x`, one)
+		if letter := name[place]; letter < 0x21 || letter == '\\' || letter == 0x7f {
+			fmt.Fprintf(&made, `\x%02x`, letter)
 		} else {
-			made.WriteByte(one)
+			made.WriteByte(letter)
 		}
 	}
 	return made.String()
@@ -42,11 +42,11 @@ func unprinted(text string) (string, bool) {
 		if place+4 > len(text) || text[place+1] != 'x' {
 			return "", false
 		}
-		one, err := hex.DecodeString(text[place+2 : place+4])
+		letter, err := hex.DecodeString(text[place+2 : place+4])
 		if err != nil {
 			return "", false
 		}
-		made.Write(one)
+		made.Write(letter)
 		place += 3
 	}
 	return made.String(), true
@@ -59,14 +59,14 @@ func readFailures(folder, report string) ([]finding.Failure, error) {
 		if strings.HasPrefix(line, " ") {
 			continue
 		}
-		one, is := readFailure(folder, line)
-		if !is || finding.Place(one.Reason) < 0 {
+		failure, is := readFailure(folder, line)
+		if !is || finding.Place(failure.Reason) < 0 {
 			return nil, &Failed{statusRefused, fmt.Sprintf("syncaudit explains %q", line)}
 		}
-		if last := len(failures) - 1; last >= 0 && !finding.IsBefore(&failures[last], &one) {
+		if last := len(failures) - 1; last >= 0 && !finding.IsBefore(&failures[last], &failure) {
 			return nil, &Failed{statusRefused, fmt.Sprintf("syncaudit explains %q out of its order", line)}
 		}
-		failures = append(failures, one)
+		failures = append(failures, failure)
 	}
 	if len(failures) == 0 {
 		return nil, &Failed{statusRefused, "syncaudit explains nothing"}

@@ -43,18 +43,18 @@ func NewPool(program Program, workers int, take func(*document.Document, *Reply)
 
 func (p *Pool) work() {
 	defer p.workers.Done()
-	for one := range p.asked {
+	for document := range p.asked {
 		if p.failed() != nil {
 			continue
 		}
-		reply, err := p.program.Ask(one.Folder, one.Written)
-		one.Written = nil
-		p.put(answered{one, reply}, err)
+		reply, err := p.program.Ask(document.Folder, document.Written)
+		document.Written = nil
+		p.put(answered{document, reply}, err)
 	}
 }
 
 // put takes a reply, and gives on those that are due.
-func (p *Pool) put(one answered, err error) {
+func (p *Pool) put(answered answered, err error) {
 	p.mutex.Lock()
 	defer p.mutex.Unlock()
 	defer p.changed.Broadcast()
@@ -64,7 +64,7 @@ func (p *Pool) put(one answered, err error) {
 		}
 		return
 	}
-	p.early[one.document.Place] = one
+	p.early[answered.document.Place] = answered
 	for {
 		due, is := p.early[p.next]
 		if !is {
@@ -84,9 +84,9 @@ func (p *Pool) failed() error {
 }
 
 // Ask has a document answered to, once a worker is free and not too many replies wait for an earlier one.
-func (p *Pool) Ask(one *document.Document) error {
+func (p *Pool) Ask(document *document.Document) error {
 	p.mutex.Lock()
-	for p.err == nil && one.Place-p.next >= p.most {
+	for p.err == nil && document.Place-p.next >= p.most {
 		p.changed.Wait()
 	}
 	err := p.err
@@ -94,7 +94,7 @@ func (p *Pool) Ask(one *document.Document) error {
 	if err != nil {
 		return err
 	}
-	p.asked <- one
+	p.asked <- document
 	return nil
 }
 

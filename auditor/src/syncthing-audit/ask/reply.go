@@ -116,14 +116,14 @@ func readFirm(folder, report string) (*Reply, string, error) {
 		return reply, settled, nil
 	}
 	why := strings.TrimPrefix(line, "not "+firm+": ")
-	one, is := readFailure(folder, why)
+	failure, is := readFailure(folder, why)
 	switch {
 	case !is:
 		return nil, "", &Failed{statusRefused, fmt.Sprintf("syncaudit's report begins with %q", line)}
-	case !finding.IsFirmReason(one.Reason):
+	case !finding.IsFirmReason(failure.Reason):
 		return reply, "not " + settled + ": " + why, nil
 	}
-	reply.Firmness.First = &one
+	reply.Firmness.First = &failure
 	return reply, settled, nil
 }
 

@@ -33,22 +33,22 @@ type Options struct {
 func Collect(plan *join.Plan, options Options, take func(*document.Document) error) (*finding.Answer, error) {
 	made := &collector{plan: plan, options: options, take: take, foretells: outlook.NewForeteller(budget, time.Now().UnixNano()), answer: &finding.Answer{IsByName: plan.IsByName, ByNames: options.ByNames, HasRest: true}}
 	made.refusePlan()
-	for _, one := range plan.Observers {
-		if slices.IndexFunc(plan.Folders, func(folder *join.Folder) bool { return folder.ID == one.Folder }) >= 0 {
-			made.answer.Observers = append(made.answer.Observers, one)
+	for _, observer := range plan.Observers {
+		if slices.IndexFunc(plan.Folders, func(folder *join.Folder) bool { return folder.ID == observer.Folder }) >= 0 {
+			made.answer.Observers = append(made.answer.Observers, observer)
 		}
 	}
-	for _, one := range plan.Devices {
-		made.answer.Devices = append(made.answer.Devices, finding.Device{ID: one.Head.Device, Number: one.Number, Name: one.Head.Name,
-			Runs: one.Head.Runs, Made: one.Head.Made, From: one.From, Index: one.Head.Index, Newer: one.Head.Newer, ToRepair: one.Head.ToRepair, IsUnsigned: one.IsUnsigned, Unasked: unaskedOf(plan, one), IsSilent: one.Head.Others == nil})
+	for _, device := range plan.Devices {
+		made.answer.Devices = append(made.answer.Devices, finding.Device{ID: device.Head.Device, Number: device.Number, Name: device.Head.Name,
+			Runs: device.Head.Runs, Made: device.Head.Made, From: device.From, Index: device.Head.Index, Newer: device.Head.Newer, ToRepair: device.Head.ToRepair, IsUnsigned: device.IsUnsigned, Unasked: unaskedOf(plan, device), IsSilent: device.Head.Others == nil})
 	}
-	for _, one := range plan.Folders {
-		if err := made.folder(one); err != nil {
+	for _, folder := range plan.Folders {
+		if err := made.folder(folder); err != nil {
 			return nil, err
 		}
 	}
-	for _, one := range plan.Devices {
-		if err := one.Whole(); err != nil {
+	for _, device := range plan.Devices {
+		if err := device.Whole(); err != nil {
 			return nil, err
 		}
 	}
@@ -64,32 +64,32 @@ func Refused(plan *join.Plan, consent Consent) *finding.Answer {
 
 // refusePlan notes what of the plan isn't audited.
 func (c *collector) refusePlan() {
-	for _, one := range c.plan.Refusals {
-		c.refuse(refusalOf(one))
+	for _, refusal := range c.plan.Refusals {
+		c.refuse(refusalOf(refusal))
 	}
-	for _, one := range c.plan.LeftOut {
-		c.answer.LeftOut = append(c.answer.LeftOut, refusalOf(one))
+	for _, refusal := range c.plan.LeftOut {
+		c.answer.LeftOut = append(c.answer.LeftOut, refusalOf(refusal))
 	}
-	for _, one := range c.plan.Earlier {
-		if c.options.Consent.Has(one.Kind) {
-			c.answer.Earlier = append(c.answer.Earlier, refusalOf(one))
+	for _, refusal := range c.plan.Earlier {
+		if c.options.Consent.Has(refusal.Kind) {
+			c.answer.Earlier = append(c.answer.Earlier, refusalOf(refusal))
 		} else {
-			c.refuse(refusalOf(one))
+			c.refuse(refusalOf(refusal))
 		}
 	}
 }
 
 // refusalOf says why something of a plan isn't audited, as it is told.
-func refusalOf(one join.Refusal) finding.Refusal {
-	return finding.Refusal{Kind: one.Kind, Folder: one.Folder, Label: one.Label, Device: label(one), Why: one.Why}
+func refusalOf(refusal join.Refusal) finding.Refusal {
+	return finding.Refusal{Kind: refusal.Kind, Folder: refusal.Folder, Label: refusal.Label, Device: label(refusal), Why: refusal.Why}
 }
 
 // label names the device of a refusal for a person.
-func label(one join.Refusal) string {
-	if one.Name == "" {
-		return one.Device
+func label(refusal join.Refusal) string {
+	if refusal.Name == "" {
+		return refusal.Device
 	}
-	return shell.Printable(one.Name)
+	return shell.Printable(refusal.Name)
 }
 
 // collector goes through the folders.
@@ -106,22 +106,22 @@ type collector struct {
 }
 
 // refuse notes what isn't audited.
-func (c *collector) refuse(one finding.Refusal) {
-	if one.Kind != "" && c.options.Consent.Has(one.Kind) {
-		c.answer.LeftOut = append(c.answer.LeftOut, one)
+func (c *collector) refuse(refusal finding.Refusal) {
+	if refusal.Kind != "" && c.options.Consent.Has(refusal.Kind) {
+		c.answer.LeftOut = append(c.answer.LeftOut, refusal)
 		return
 	}
 	if len(c.answer.Refusals) == 0 && c.options.Refused != nil {
 		c.options.Refused()
 	}
 	if len(c.answer.Refusals) < finding.MostListed {
-		c.answer.Refusals = append(c.answer.Refusals, one)
+		c.answer.Refusals = append(c.answer.Refusals, refusal)
 		return
 	}
 	if c.answer.Unlisted == nil {
 		c.answer.Unlisted = map[string]int64{}
 	}
-	c.answer.Unlisted[one.Kind]++
+	c.answer.Unlisted[refusal.Kind]++
 }
 
 // checkSomething says whether anything was audited.
@@ -130,17 +130,17 @@ func (c *collector) checkSomething() error {
 		return nil
 	}
 	moving := int64(0)
-	for _, one := range c.answer.Folders {
-		if one.Live != nil {
-			moving += one.Live.Moving
+	for _, folder := range c.answer.Folders {
+		if folder.Live != nil {
+			moving += folder.Live.Moving
 		}
 	}
 	if moving > 0 {
 		return nothingIsStill(moving, c.answer.Folders)
 	}
-	for _, one := range c.plan.Devices {
-		if !one.Head.Names.IsAll() && c.names == 0 {
-			return fmt.Errorf("refused: %s", one.Head.Names.None(""))
+	for _, device := range c.plan.Devices {
+		if !device.Head.Names.IsAll() && c.names == 0 {
+			return fmt.Errorf("refused: %s", device.Head.Names.None(""))
 		}
 	}
 	return Nothing(c.answer)

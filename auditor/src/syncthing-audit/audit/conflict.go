@@ -16,8 +16,8 @@ func (n *names) addConflict(row *join.Row) {
 	if !conflictCopy.MatchString(path.Base(row.Name)) {
 		return
 	}
-	for _, one := range row.At {
-		if one != nil && one.Disk != nil {
+	for _, name := range row.At {
+		if name != nil && name.Disk != nil {
 			if len(n.found.Conflicts) < finding.MostListed {
 				n.found.Conflicts = append(n.found.Conflicts, finding.Conflict{Name: row.Name, Bytes: row.Size()})
 			} else {

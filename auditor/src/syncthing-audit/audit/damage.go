@@ -18,15 +18,15 @@ func (n *names) addDamaged(row *join.Row) {
 // damagedOf gives of which devices the disk itself fails to give what it has, and whether that is a file.
 func damagedOf(row *join.Row) finding.Damaged {
 	made := finding.Damaged{Name: part.Bytes(row.Name)}
-	for member, one := range row.At {
-		if one == nil || one.IsIgnored() {
+	for member, name := range row.At {
+		if name == nil || name.IsIgnored() {
 			continue
 		}
-		if one.Disk != nil && one.Disk.Lost != "" {
+		if name.Disk != nil && name.Disk.Lost != "" {
 			made.IsFile = true
-			made.At = append(made.At, finding.DamagedAt{Member: member, Why: one.Disk.Lost})
+			made.At = append(made.At, finding.DamagedAt{Member: member, Why: name.Disk.Lost})
 		}
-		for _, out := range one.Out {
+		for _, out := range name.Out {
 			if out.Kind == part.Damaged {
 				made.At = append(made.At, finding.DamagedAt{Member: member, Why: out.Why})
 			}

@@ -30,8 +30,8 @@ func liveOf(folder *join.Folder) *finding.Live {
 // addMoving adds a name that changed at a device between its two looks, or after its part was made.
 func (n *names) addMoving(row *join.Row) {
 	made := finding.Moving{Name: part.Bytes(row.Name)}
-	for member, one := range row.At {
-		if one != nil && len(one.Moved) > 0 {
+	for member, name := range row.At {
+		if name != nil && len(name.Moved) > 0 {
 			made.At = append(made.At, movedOf(row, member))
 		} else if slices.Contains(row.Later, member) {
 			made.At = append(made.At, finding.Moved{Member: member, Why: []string{part.MovedLater}})

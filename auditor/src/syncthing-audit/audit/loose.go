@@ -15,14 +15,14 @@ func (n *names) addLoose(row *join.Row) {
 		return
 	}
 	made := finding.Loose{Name: row.Name}
-	for member, one := range row.At { // nothing is beyond the winner, so what the winner is at most is the same
-		if one != nil && one.Own != nil && !part.IsAtMost(winner.Version, one.Own.Version) {
+	for member, name := range row.At { // nothing is beyond the winner, so what the winner is at most is the same
+		if name != nil && name.Own != nil && !part.IsAtMost(winner.Version, name.Own.Version) {
 			made.At = append(made.At, finding.LooseAt{Member: member, Reason: finding.VersionDiffers,
-				IsOlder: part.IsAtMost(one.Own.Version, winner.Version)})
+				IsOlder: part.IsAtMost(name.Own.Version, winner.Version)})
 		}
 	}
-	for member, one := range row.At {
-		if one != nil && n.seesNotBelow(member, one, winner) {
+	for member, name := range row.At {
+		if name != nil && n.seesNotBelow(member, name, winner) {
 			made.At = append(made.At, finding.LooseAt{Member: member, Reason: finding.ViewNotBelow})
 		}
 	}
@@ -32,9 +32,9 @@ func (n *names) addLoose(row *join.Row) {
 }
 
 // seesNotBelow says whether a member knows of a record at another member whose version isn't at most the winner's.
-func (n *names) seesNotBelow(member int, one *part.Name, winner *part.Record) bool {
+func (n *names) seesNotBelow(member int, name *part.Name, winner *part.Record) bool {
 	views := n.folder.Members[member].About.Views
-	for _, seen := range one.Views {
+	for _, seen := range name.Views {
 		if n.folder.Member(views[seen.View].Device) >= 0 && !seen.Record.Invalid && !part.IsAtMost(seen.Record.Version, winner.Version) {
 			return true
 		}
@@ -44,8 +44,8 @@ func (n *names) seesNotBelow(member int, one *part.Name, winner *part.Record) bo
 
 // areAlike says whether all own records have the winner's content: without that the folder isn't settled.
 func areAlike(row *join.Row, winner *part.Record) bool {
-	for _, one := range row.At {
-		if one != nil && one.Own != nil && (one.Own.Invalid || !isAlike(one.Own, winner)) {
+	for _, name := range row.At {
+		if name != nil && name.Own != nil && (name.Own.Invalid || !isAlike(name.Own, winner)) {
 			return false
 		}
 	}
@@ -53,14 +53,14 @@ func areAlike(row *join.Row, winner *part.Record) bool {
 }
 
 // isAlike says whether two records have one content. Of one type both have one in bytes, or neither.
-func isAlike(one, other *part.Record) bool {
+func isAlike(record, other *part.Record) bool {
 	switch {
-	case one.Deleted || other.Deleted:
-		return one.Deleted == other.Deleted
-	case one.Type != other.Type:
+	case record.Deleted || other.Deleted:
+		return record.Deleted == other.Deleted
+	case record.Type != other.Type:
 		return false
-	case one.Content == nil:
-		return one.Target == other.Target
+	case record.Content == nil:
+		return record.Target == other.Target
 	}
-	return document.IsSame(one.Content, other.Content)
+	return document.IsSame(record.Content, other.Content)
 }

@@ -81,14 +81,14 @@ func (n *names) keep(row *join.Row) {
 }
 
 // give gives a document to those who answer it. Where something was refused there is no answer, so it isn't asked for.
-func (n *names) give(one *document.Document) error {
+func (n *names) give(document *document.Document) error {
 	n.found.Documents++
-	one.Place = n.documents
+	document.Place = n.documents
 	n.documents++
 	if len(n.answer.Refusals) > 0 {
 		return nil
 	}
-	return n.take(one)
+	return n.take(document)
 }
 
 // isBelow says whether a name stands below a directory that couldn't be read somewhere, and counts it.
@@ -106,15 +106,15 @@ func (n *names) isBelow(row *join.Row) bool {
 
 // leaveOut leaves a name out for all these reasons, or refuses it for those to which there is no consent.
 func (n *names) leaveOut(row *join.Row, reasons []finding.Reason) {
-	one := &finding.LeftOut{Name: row.Name, Names: 1, Bytes: row.Size(), Why: reasons}
+	left := &finding.LeftOut{Name: row.Name, Names: 1, Bytes: row.Size(), Why: reasons}
 	for _, at := range row.At {
 		for _, out := range outsOf(at) {
-			one.Below = one.Below || out.Below
+			left.Below = left.Below || out.Below
 		}
 	}
-	if one.Below {
-		one.Names = 0
-		n.below, n.isBelowUnlisted = one, false
+	if left.Below {
+		left.Names = 0
+		n.below, n.isBelowUnlisted = left, false
 	}
 	refused := false
 	for _, why := range reasons {
@@ -126,10 +126,10 @@ func (n *names) leaveOut(row *join.Row, reasons []finding.Reason) {
 	switch {
 	case refused:
 	case len(n.found.LeftOut) < finding.MostListed:
-		n.found.LeftOut = append(n.found.LeftOut, one)
+		n.found.LeftOut = append(n.found.LeftOut, left)
 	default:
-		n.found.Unlisted.LeftOut.Add(one.Names, one.Bytes)
-		n.isBelowUnlisted = n.isBelowUnlisted || one.Below
+		n.found.Unlisted.LeftOut.Add(left.Names, left.Bytes)
+		n.isBelowUnlisted = n.isBelowUnlisted || left.Below
 	}
 }
 
@@ -141,17 +141,17 @@ func (n *names) labelOf(member int) string {
 	return n.found.Members[member].Called()
 }
 
-func outsOf(one *part.Name) []part.LeftOut {
-	if one == nil {
+func outsOf(name *part.Name) []part.LeftOut {
+	if name == nil {
 		return nil
 	}
-	return one.Out
+	return name.Out
 }
 
 // hasOut says whether a member has something of the name that no document says.
 func hasOut(row *join.Row) bool {
-	for _, one := range row.At {
-		if len(outsOf(one)) > 0 {
+	for _, name := range row.At {
+		if len(outsOf(name)) > 0 {
 			return true
 		}
 	}
@@ -163,8 +163,8 @@ func hasOut(row *join.Row) bool {
 func reasonsOf(row *join.Row) []finding.Reason {
 	var reasons []finding.Reason
 	seen := map[finding.Reason]bool{}
-	for member, one := range row.At {
-		for _, out := range outsOf(one) {
+	for member, name := range row.At {
+		for _, out := range outsOf(name) {
 			if next := (finding.Reason{Member: member, Kind: out.Kind, Why: out.Why}); !seen[next] {
 				seen[next] = true
 				reasons = append(reasons, next)
@@ -177,11 +177,11 @@ func reasonsOf(row *join.Row) []finding.Reason {
 // isOutside says whether a name is ignored by each member that has it on its disk, and no index names it. Syncthing doesn't
 // take such a name for the folder's.
 func isOutside(row *join.Row) bool {
-	for _, one := range row.At {
-		if one == nil {
+	for _, name := range row.At {
+		if name == nil {
 			continue
 		}
-		if one.Own != nil || len(one.Views) > 0 || len(one.Out) != 1 || one.Out[0].Kind != part.Ignored || one.Disk == nil {
+		if name.Own != nil || len(name.Views) > 0 || len(name.Out) != 1 || name.Out[0].Kind != part.Ignored || name.Disk == nil {
 			return false
 		}
 	}

@@ -22,11 +22,11 @@ func Nothing(answer *finding.Answer) error {
 		return ErrNothing
 	}
 	told := []string{}
-	for at, one := range all {
+	for at, refusal := range all {
 		if at == mostLeft {
 			break
 		}
-		told = append(told, shell.Folder(one.Folder, one.Label)+deviceOf(one)+": "+one.Why)
+		told = append(told, shell.Folder(refusal.Folder, refusal.Label)+deviceOf(refusal)+": "+refusal.Why)
 	}
 	if more := len(all) - len(told); more > 0 {
 		told = append(told, fmt.Sprintf("and %d more", more))
@@ -35,9 +35,9 @@ func Nothing(answer *finding.Answer) error {
 }
 
 // deviceOf names the device of what was left out, if it is of one.
-func deviceOf(one finding.Refusal) string {
-	if one.Device == "" {
+func deviceOf(refusal finding.Refusal) string {
+	if refusal.Device == "" {
 		return ""
 	}
-	return " of " + one.Device
+	return " of " + refusal.Device
 }

@@ -16,8 +16,8 @@ const whyRot = "other bytes on the disk than its own index records; size and tim
 func (n *names) addOwnFaults(row *join.Row) {
 	made := damagedOf(row)
 	made.IsFile = false // no document has it
-	for member, one := range row.At {
-		if one != nil && isRotten(one, n.found.Members[member].About) {
+	for member, name := range row.At {
+		if name != nil && isRotten(name, n.found.Members[member].About) {
 			made.At = append(made.At, finding.DamagedAt{Member: member, Why: whyRot, IsRot: true})
 		}
 	}
@@ -29,11 +29,11 @@ func (n *names) addOwnFaults(row *join.Row) {
 }
 
 // isRotten says whether a file isn't what its device's own record says, while its size and time are.
-func isRotten(one *part.Name, in *part.Folder) bool {
-	own, disk := one.Own, one.Disk
-	if own == nil || own.Invalid || own.Content == nil || disk == nil || disk.Lost != "" || len(one.Out) > 0 || len(one.Moved) > 0 ||
-		!one.IsAsRecorded(in.Window()) {
+func isRotten(name *part.Name, in *part.Folder) bool {
+	own, disk := name.Own, name.Disk
+	if own == nil || own.Invalid || own.Content == nil || disk == nil || disk.Lost != "" || len(name.Out) > 0 || len(name.Moved) > 0 ||
+		!name.IsAsRecorded(in.Window()) {
 		return false
 	}
-	return one.HasOtherBytes()
+	return name.HasOtherBytes()
 }

@@ -10,14 +10,14 @@ import (
 func (n *names) addPermissions(row *join.Row) {
 	at := make([]finding.Bits, len(row.At))
 	differs := false
-	for member, one := range row.At {
-		if one == nil || n.found.Members[member].About.IgnoresPermissions {
+	for member, name := range row.At {
+		if name == nil || n.found.Members[member].About.IgnoresPermissions {
 			continue
 		}
-		at[member] = bitsOf(one)
+		at[member] = bitsOf(name)
 		differs = differs || at[member].OnDisk && at[member].Disk != at[member].Index
 		for other := range row.At[:member] {
-			differs = differs || at[member].Has && at[other].Has && one.Own.Type == row.At[other].Own.Type &&
+			differs = differs || at[member].Has && at[other].Has && name.Own.Type == row.At[other].Own.Type &&
 				at[member].Index != at[other].Index
 		}
 	}
@@ -29,14 +29,14 @@ func (n *names) addPermissions(row *join.Row) {
 
 // bitsOf gives the permissions of an entry that has some. It gives those on the disk, too, if what stands there is of the
 // entry's kind.
-func bitsOf(one *part.Name) finding.Bits {
+func bitsOf(name *part.Name) finding.Bits {
 	var made finding.Bits
-	if one.Own == nil || one.Own.Permissions == nil {
+	if name.Own == nil || name.Own.Permissions == nil {
 		return made
 	}
-	made.Has, made.Index = true, *one.Own.Permissions&0o777
-	if one.Disk != nil && one.Disk.Type == one.Own.Type {
-		made.OnDisk, made.Disk = true, one.Disk.Permissions&0o777
+	made.Has, made.Index = true, *name.Own.Permissions&0o777
+	if name.Disk != nil && name.Disk.Type == name.Own.Type {
+		made.OnDisk, made.Disk = true, name.Disk.Permissions&0o777
 	}
 	return made
 }

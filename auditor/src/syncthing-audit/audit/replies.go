@@ -29,8 +29,8 @@ type replied struct {
 func NewReplies() *Replies { return &Replies{folders: map[folderKey]*replied{}} }
 
 // Take adds a reply. They come in the order of their documents.
-func (r *Replies) Take(one *document.Document, reply *ask.Reply) {
-	key := folderKey{one.Folder, one.Own}
+func (r *Replies) Take(document *document.Document, reply *ask.Reply) {
+	key := folderKey{document.Folder, document.Own}
 	to := r.folders[key]
 	if to == nil {
 		to = &replied{firmness: finding.Firmness{Asked: true}, convergence: finding.Convergence{Asked: true}}
@@ -45,7 +45,7 @@ func (r *Replies) Take(one *document.Document, reply *ask.Reply) {
 		to.failures.Add(failure)
 		failed[failure.Name] = true
 	}
-	for _, row := range one.Rows {
+	for _, row := range document.Rows {
 		if !failed[row.Name] {
 			continue
 		}
@@ -57,20 +57,20 @@ func (r *Replies) Take(one *document.Document, reply *ask.Reply) {
 
 // AddTo adds all replies to what was found, and says why that isn't whole, if so.
 func (r *Replies) AddTo(answer *finding.Answer) error {
-	for _, one := range answer.Folders {
-		if from := r.folders[folderKey{one.ID, one.Own}]; from != nil {
-			one.Names += from.names
-			one.Deleted += from.deleted
-			one.Failures = from.failures
-			one.Firmness = from.firmness
-			one.Convergence = from.convergence
+	for _, folder := range answer.Folders {
+		if from := r.folders[folderKey{folder.ID, folder.Own}]; from != nil {
+			folder.Names += from.names
+			folder.Deleted += from.deleted
+			folder.Failures = from.failures
+			folder.Firmness = from.firmness
+			folder.Convergence = from.convergence
 			for _, row := range from.rows {
-				one.Rows[row.Name] = row
+				folder.Rows[row.Name] = row
 			}
 		}
 	}
-	for _, one := range answer.Folders {
-		if err := one.CheckLoose(); err != nil {
+	for _, folder := range answer.Folders {
+		if err := folder.CheckLoose(); err != nil {
 			return err
 		}
 	}

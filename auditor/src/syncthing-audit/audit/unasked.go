@@ -9,21 +9,21 @@ import (
 // part hasn't. What is refused or left out is told as that.
 func unaskedOf(plan *join.Plan, device *join.Device) []finding.Unasked {
 	told := map[string]bool{}
-	for _, one := range plan.Refusals {
-		told[one.Folder] = true
+	for _, refusal := range plan.Refusals {
+		told[refusal.Folder] = true
 	}
 	var made []finding.Unasked
-	for _, one := range device.Head.Others {
-		if !told[one.ID] && len(one.Devices) > 0 && !plan.IsLeftOut(one.ID, device.Head.Device) {
-			made = append(made, finding.Unasked{ID: one.ID, Label: one.Label})
+	for _, other := range device.Head.Others {
+		if !told[other.ID] && len(other.Devices) > 0 && !plan.IsLeftOut(other.ID, device.Head.Device) {
+			made = append(made, finding.Unasked{ID: other.ID, Label: other.Label})
 		}
 	}
-	for _, one := range plan.Folders {
-		told[one.ID] = true
+	for _, folder := range plan.Folders {
+		told[folder.ID] = true
 	}
-	for _, one := range device.Head.Folders {
-		if !told[one.ID] {
-			made = append(made, finding.Unasked{ID: one.ID, Label: one.Label, InPart: true})
+	for _, folder := range device.Head.Folders {
+		if !told[folder.ID] {
+			made = append(made, finding.Unasked{ID: folder.ID, Label: folder.Label, InPart: true})
 		}
 	}
 	return made

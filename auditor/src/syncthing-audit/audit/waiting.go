@@ -9,17 +9,17 @@ import (
 
 // movedOf says what changed at a member, or how its disk isn't as recorded where the name waits for a scan.
 func movedOf(row *join.Row, member int) finding.Moved {
-	one := row.At[member]
-	made := finding.Moved{Member: member, Why: one.Moved}
-	if !slices.Contains(one.Moved, part.MovedUnscanned) && one.Waits == nil {
+	name := row.At[member]
+	made := finding.Moved{Member: member, Why: name.Moved}
+	if !slices.Contains(name.Moved, part.MovedUnscanned) && name.Waits == nil {
 		return made
 	}
-	made.Waits, made.As = finding.KindOfWaiting(one.Waits), withoutContents(one.Waits)
-	if one.Waits == nil || one.Waits.Own == nil || one.Waits.Own.Deleted {
+	made.Waits, made.As = finding.KindOfWaiting(name.Waits), withoutContents(name.Waits)
+	if name.Waits == nil || name.Waits.Own == nil || name.Waits.Own.Deleted {
 		return made
 	}
 	for other, at := range row.At {
-		if other != member && hasRecorded(at, one.Waits.Own) {
+		if other != member && hasRecorded(at, name.Waits.Own) {
 			made.Have = append(made.Have, other)
 		}
 	}
@@ -27,11 +27,11 @@ func movedOf(row *join.Row, member int) finding.Moved {
 }
 
 // withoutContents gives what is told of a name that waits.
-func withoutContents(one *part.Name) *part.Name {
-	if one == nil || one.Disk == nil {
-		return one
+func withoutContents(name *part.Name) *part.Name {
+	if name == nil || name.Disk == nil {
+		return name
 	}
-	made, disk := *one, *one.Disk
+	made, disk := *name, *name.Disk
 	disk.Contents = nil
 	made.Disk = &disk
 	return &made
@@ -51,7 +51,7 @@ func hasRecorded(at *part.Name, record *part.Record) bool {
 }
 
 // isContent says whether two contents are of the same bytes, cut in the same way.
-func isContent(one, other *part.Content) bool {
-	isOneBlock := part.CountOfBlocks(one.Size, one.BlockSize) == 1 && part.CountOfBlocks(other.Size, other.BlockSize) == 1
-	return one.Size == other.Size && one.Hash == other.Hash && (isOneBlock || one.BlockSize == other.BlockSize)
+func isContent(content, other *part.Content) bool {
+	isOneBlock := part.CountOfBlocks(content.Size, content.BlockSize) == 1 && part.CountOfBlocks(other.Size, other.BlockSize) == 1
+	return content.Size == other.Size && content.Hash == other.Hash && (isOneBlock || content.BlockSize == other.BlockSize)
 }

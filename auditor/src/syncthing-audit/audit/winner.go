@@ -9,8 +9,8 @@ import (
 // hasWinner says whether others may take one of the devices' own records. One of them wins then, and syncaudit says which.
 // A name without a winner is told here, since no certificate has a row for it.
 func hasWinner(row *join.Row) bool {
-	for _, one := range row.At {
-		if one != nil && one.Own != nil && !one.Own.Invalid {
+	for _, name := range row.At {
+		if name != nil && name.Own != nil && !name.Own.Invalid {
 			return true
 		}
 	}
@@ -20,9 +20,9 @@ func hasWinner(row *join.Row) bool {
 // isDeleting says whether a deletion is what is due, and a device records the name as something that stands there still.
 func isDeleting(row *join.Row) bool {
 	isGone, stands := false, false
-	for _, one := range row.At {
-		if one != nil && one.Own != nil && !one.Own.Invalid {
-			isGone, stands = isGone || one.Own.Deleted, stands || !one.Own.Deleted
+	for _, name := range row.At {
+		if name != nil && name.Own != nil && !name.Own.Invalid {
+			isGone, stands = isGone || name.Own.Deleted, stands || !name.Own.Deleted
 		}
 	}
 	return isGone && stands && row.Winner(join.OfAll).Deleted
@@ -30,14 +30,14 @@ func isDeleting(row *join.Row) bool {
 
 // isKnown says whether anything holds a name: an own record, a node, or a record that others may take in a view.
 func isKnown(row *join.Row) bool {
-	for _, one := range row.At {
-		if one == nil {
+	for _, name := range row.At {
+		if name == nil {
 			continue
 		}
-		if one.Own != nil || one.Disk != nil {
+		if name.Own != nil || name.Disk != nil {
 			return true
 		}
-		if seesOne(one) {
+		if seesOne(name) {
 			return true
 		}
 	}
@@ -45,8 +45,8 @@ func isKnown(row *join.Row) bool {
 }
 
 // seesOne says whether a device knows of another one's record that others may take.
-func seesOne(one *part.Name) bool {
-	for _, seen := range one.Views {
+func seesOne(name *part.Name) bool {
+	for _, seen := range name.Views {
 		if !seen.Record.Invalid {
 			return true
 		}
@@ -58,17 +58,17 @@ func seesOne(one *part.Name) bool {
 func (n *names) addUnwon(row *join.Row) {
 	made := finding.Unwon{Name: row.Name}
 	isDeleted := true
-	for member, one := range row.At {
-		if one == nil {
+	for member, name := range row.At {
+		if name == nil {
 			continue
 		}
-		isDeleted = isDeleted && one.Disk == nil
+		isDeleted = isDeleted && name.Disk == nil
 		kind := finding.OnlySeen
-		if one.Own != nil {
+		if name.Own != nil {
 			kind = finding.LocalChange
-		} else if one.Disk != nil {
+		} else if name.Disk != nil {
 			kind = finding.Unscanned
-		} else if !seesOne(one) {
+		} else if !seesOne(name) {
 			continue
 		}
 		made.At = append(made.At, finding.Cause{Member: member, Kind: kind})

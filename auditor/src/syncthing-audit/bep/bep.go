@@ -37,12 +37,12 @@ func IsBlockSize(size int64) bool {
 }
 
 // IsTimeEqual says whether Syncthing takes two times of a file for one: they differ by less than the folder's window, or not at all.
-func IsTimeEqual(one, other time.Time, window time.Duration) bool {
-	difference := one.Sub(other)
+func IsTimeEqual(time, other time.Time, window time.Duration) bool {
+	difference := time.Sub(other)
 	if difference < 0 {
 		difference = -difference
 	}
-	return one.Equal(other) || difference < window
+	return time.Equal(other) || difference < window
 }
 
 // IsInternal says whether a name is one that Syncthing keeps for itself in a folder.

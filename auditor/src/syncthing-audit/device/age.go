@@ -20,8 +20,8 @@ func writtenAt(database string) (time.Time, error) {
 	if err != nil {
 		return last, err
 	}
-	for _, one := range entries {
-		info, err := one.Info()
+	for _, entry := range entries {
+		info, err := entry.Info()
 		switch {
 		case errors.Is(err, os.ErrNotExist): // a running Syncthing took it away
 		case err != nil:

@@ -19,8 +19,8 @@ func attributesIn(text []byte) (map[string]bool, error) {
 		return nil, err
 	}
 	made := map[string]bool{}
-	for _, one := range read.Folders {
-		made[one.ID] = one.SendOwnership || one.SyncOwnership || one.SendXattrs || one.SyncXattrs
+	for _, folder := range read.Folders {
+		made[folder.ID] = folder.SendOwnership || folder.SyncOwnership || folder.SendXattrs || folder.SyncXattrs
 	}
 	return made, nil
 }

@@ -218,9 +218,9 @@ func (h *Home) Sharing(folder config.FolderConfiguration) []part.Sharing {
 // pausedOf gives the devices with which a folder is shared, and which are paused here.
 func (h *Home) pausedOf(folder config.FolderConfiguration) []string {
 	var made []string
-	for _, one := range h.Config.Devices {
-		if one.Paused && one.DeviceID != h.ID && folder.SharedWith(one.DeviceID) {
-			made = append(made, one.DeviceID.String())
+	for _, device := range h.Config.Devices {
+		if device.Paused && device.DeviceID != h.ID && folder.SharedWith(device.DeviceID) {
+			made = append(made, device.DeviceID.String())
 		}
 	}
 	return made
@@ -228,9 +228,9 @@ func (h *Home) pausedOf(folder config.FolderConfiguration) []string {
 
 // nameOf gives the name that this device has for another. It may be another device's word, so one that is too long is cut.
 func (h *Home) nameOf(id protocol.DeviceID) string {
-	for _, one := range h.Config.Devices {
-		if one.DeviceID == id {
-			return limits.Cut(one.Name)
+	for _, device := range h.Config.Devices {
+		if device.DeviceID == id {
+			return limits.Cut(device.Name)
 		}
 	}
 	return ""

@@ -128,8 +128,8 @@ func (c *liveCopy) logNumbers(first int64) ([]int64, error) {
 		return nil, err
 	}
 	numbers := []int64{}
-	for _, one := range entries {
-		if number, kind := fileNumber(one.Name()); kind == ".log" && number >= first {
+	for _, entry := range entries {
+		if number, kind := fileNumber(entry.Name()); kind == ".log" && number >= first {
 			numbers = append(numbers, number)
 		}
 	}
@@ -182,13 +182,13 @@ func (c *liveCopy) clear(said *manifest) error {
 	if err != nil {
 		return err
 	}
-	for _, one := range entries {
-		number, kind := fileNumber(one.Name())
+	for _, entry := range entries {
+		number, kind := fileNumber(entry.Name())
 		if _, wanted := said.tables[number]; wanted && (kind == ".ldb" || kind == ".sst") && c.tables[number] {
 			continue
 		}
 		delete(c.tables, number)
-		if err := os.Remove(filepath.Join(c.to, one.Name())); err != nil {
+		if err := os.Remove(filepath.Join(c.to, entry.Name())); err != nil {
 			return err
 		}
 	}

@@ -80,8 +80,8 @@ func HoldsIndex(process int) bool {
 func HasOpen(process int, is func(target string) bool) bool {
 	directory := filepath.Join("/proc", strconv.Itoa(process), "fd")
 	entries, _ := os.ReadDir(directory)
-	for _, one := range entries {
-		if target, err := os.Readlink(filepath.Join(directory, one.Name())); err == nil && is(target) {
+	for _, entry := range entries {
+		if target, err := os.Readlink(filepath.Join(directory, entry.Name())); err == nil && is(target) {
 			return true
 		}
 	}

@@ -35,13 +35,13 @@ func ParseMap(word string) (Map, error) {
 func (m Map) Word() string { return m.From + "=" + m.To }
 
 // Add adds a map, unless there is another one for the same path.
-func (m *Maps) Add(one Map) error {
+func (m *Maps) Add(added Map) error {
 	for _, had := range *m {
-		if had.From == one.From {
-			return fmt.Errorf("%s is named already", shell.Quoted(one.From))
+		if had.From == added.From {
+			return fmt.Errorf("%s is named already", shell.Quoted(added.From))
 		}
 	}
-	*m = append(*m, one)
+	*m = append(*m, added)
 	return nil
 }
 
@@ -51,11 +51,11 @@ func (m Maps) Path(path string) (string, bool) {
 		return path, true
 	}
 	clean, found, length := filepath.Clean(path), "", -1
-	for _, one := range m {
-		rest := strings.TrimPrefix(clean, strings.TrimSuffix(one.From, "/"))
-		isBelow := len(rest) < len(clean) || one.From == "/" && filepath.IsAbs(clean)
-		if isBelow && (rest == "" || rest[0] == '/') && len(one.From) > length {
-			found, length = filepath.Join(one.To, rest), len(one.From)
+	for _, given := range m {
+		rest := strings.TrimPrefix(clean, strings.TrimSuffix(given.From, "/"))
+		isBelow := len(rest) < len(clean) || given.From == "/" && filepath.IsAbs(clean)
+		if isBelow && (rest == "" || rest[0] == '/') && len(given.From) > length {
+			found, length = filepath.Join(given.To, rest), len(given.From)
 		}
 	}
 	return found, length >= 0
@@ -65,15 +65,15 @@ func (m Maps) Path(path string) (string, bool) {
 // folder's.
 func (m Maps) apply(dir string, to *config.Configuration) error {
 	for at := range to.Folders {
-		one := &to.Folders[at]
-		path, is := m.Path(one.Path)
+		folder := &to.Folders[at]
+		path, is := m.Path(folder.Path)
 		if !is {
 			return fmt.Errorf("refused: %s: folder %s is at %s in config.xml, and no --map has that: say where it is on this machine, as --map %s=DIR", dir,
-				shell.Folder(one.ID, one.Label), shell.Path(one.Path), shell.Path(one.Path))
+				shell.Folder(folder.ID, folder.Label), shell.Path(folder.Path), shell.Path(folder.Path))
 		}
-		one.Path = path
-		if path, is := m.Path(one.Versioning.FSPath); is && one.Versioning.FSPath != "" {
-			one.Versioning.FSPath = path
+		folder.Path = path
+		if path, is := m.Path(folder.Versioning.FSPath); is && folder.Versioning.FSPath != "" {
+			folder.Versioning.FSPath = path
 		}
 	}
 	return nil

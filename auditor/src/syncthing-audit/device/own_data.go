@@ -10,8 +10,8 @@ import (
 
 // addOwnData says which of Syncthing's own data stand in which folder, to what else writes there.
 func (h *Home) addOwnData(all *places, words map[string][]string) {
-	for _, one := range h.ownData() {
-		path, err := filepath.Abs(one)
+	for _, place := range h.ownData() {
+		path, err := filepath.Abs(place)
 		if err != nil {
 			continue
 		}
@@ -42,12 +42,12 @@ func (h *Home) program() string {
 	}
 	lock := filepath.Join(realPath(h.database()), nameOfLock)
 	processes, _ := filepath.Glob("/proc/[0-9]*")
-	for _, one := range processes {
-		number, err := strconv.Atoi(filepath.Base(one))
+	for _, process := range processes {
+		number, err := strconv.Atoi(filepath.Base(process))
 		if err != nil || !HasOpen(number, func(target string) bool { return target == lock }) {
 			continue
 		}
-		if program, err := os.Readlink(filepath.Join(one, "exe")); err == nil {
+		if program, err := os.Readlink(filepath.Join(process, "exe")); err == nil {
 			return program
 		}
 	}

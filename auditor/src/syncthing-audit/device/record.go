@@ -122,11 +122,11 @@ func checkHead(entry protocol.FileInfo) error {
 // versionOf gives a version's counters, their devices rising.
 func versionOf(version protocol.Vector) ([][2]uint64, error) {
 	counters := make([][2]uint64, 0, len(version.Counters))
-	for _, one := range version.Counters {
-		if one.ID == 0 || one.Value == 0 || one.Value > math.MaxInt64 {
+	for _, counter := range version.Counters {
+		if counter.ID == 0 || counter.Value == 0 || counter.Value > math.MaxInt64 {
 			return nil, errors.New("its version has a counter without device, of 0 or over 9223372036854775807")
 		}
-		counters = append(counters, [2]uint64{uint64(one.ID), one.Value})
+		counters = append(counters, [2]uint64{uint64(counter.ID), counter.Value})
 	}
 	if len(counters) > limits.MostCounters {
 		return nil, fmt.Errorf("its version has over %d counters", limits.MostCounters)
@@ -187,8 +187,8 @@ const hashOfNothing = "e3b0c44298fc1c149afbf4c8996fb92427ae41e4649b934ca495991b7
 
 // isBlockSize says whether Syncthing cuts files into blocks of this size.
 func isBlockSize(size int) bool {
-	for _, one := range protocol.BlockSizes {
-		if one == size {
+	for _, blockSize := range protocol.BlockSizes {
+		if blockSize == size {
 			return true
 		}
 	}

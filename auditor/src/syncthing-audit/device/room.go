@@ -37,8 +37,8 @@ func bytesFor(database string) (int64, error) {
 		return 0, err
 	}
 	sum := int64(0)
-	for _, one := range entries {
-		info, err := one.Info()
+	for _, entry := range entries {
+		info, err := entry.Info()
 		if errors.Is(err, os.ErrNotExist) {
 			continue // a running Syncthing took it away
 		}
@@ -46,7 +46,7 @@ func bytesFor(database string) (int64, error) {
 			return 0, err
 		}
 		sum += info.Size()
-		if filepath.Ext(one.Name()) == ".log" {
+		if filepath.Ext(entry.Name()) == ".log" {
 			sum += info.Size()
 		}
 	}

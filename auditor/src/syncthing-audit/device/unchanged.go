@@ -15,12 +15,12 @@ func listingOf(database string) (listing, error) {
 		return nil, err
 	}
 	made := listing{}
-	for _, one := range entries {
-		info, err := one.Info()
+	for _, entry := range entries {
+		info, err := entry.Info()
 		if err != nil {
 			return nil, err
 		}
-		made[one.Name()] = fmt.Sprint(info.Size(), info.ModTime())
+		made[entry.Name()] = fmt.Sprint(info.Size(), info.ModTime())
 	}
 	return made, nil
 }

@@ -37,11 +37,11 @@ func (m *manifest) check(database string) error {
 		return err
 	}
 	hasLog := false
-	for _, one := range names {
-		number, kind := fileNumber(one.Name())
+	for _, entry := range names {
+		number, kind := fileNumber(entry.Name())
 		hasLog = hasLog || kind == ".log" && number == m.log
 		if kind == ".ldb" && number >= m.nextFile {
-			return fmt.Errorf("the table %s is newer than the manifest", one.Name())
+			return fmt.Errorf("the table %s is newer than the manifest", entry.Name())
 		}
 	}
 	if !hasLog {

@@ -22,14 +22,14 @@ func (h *Home) writersOf(folder string) []string {
 // allWriters says so of all folders, by their ids.
 func (h *Home) allWriters() map[string][]string {
 	made := newPlaces(h.Config.Folders)
-	for place, one := range h.Config.Folders {
+	for place, folder := range h.Config.Folders {
 		made.each(made.real[place], func(outer int) {
 			if outer != place {
 				made.note(outer, place, "folder ")
 				made.note(place, outer, "folder ")
 			}
 		})
-		if versions := h.versionsOf(one); versions != "" {
+		if versions := h.versionsOf(folder); versions != "" {
 			made.each(realPath(versions), func(outer int) { made.note(outer, place, "the old versions of ") })
 		}
 	}
@@ -49,8 +49,8 @@ type places struct {
 
 func newPlaces(folders []config.FolderConfiguration) *places {
 	made := &places{folders: folders, at: map[string][]int{}, patterns: map[int]*ignore.Matcher{}}
-	for place, one := range folders {
-		real := realPath(adapt.Filesystem(one.Filesystem, nil).URI())
+	for place, folder := range folders {
+		real := realPath(adapt.Filesystem(folder.Filesystem, nil).URI())
 		made.real, made.at[real] = append(made.real, real), append(made.at[real], place)
 		made.notes = append(made.notes, map[int]map[string]bool{})
 	}
@@ -60,9 +60,9 @@ func newPlaces(folders []config.FolderConfiguration) *places {
 // each calls of each folder that has what is at a path, or below it.
 func (p *places) each(path string, call func(folder int)) {
 	for above := path; ; above = filepath.Dir(above) {
-		for _, one := range p.at[above] {
-			if p.isTaken(one, path) {
-				call(one)
+		for _, writer := range p.at[above] {
+			if p.isTaken(writer, path) {
+				call(writer)
 			}
 		}
 		if above == filepath.Dir(above) {

@@ -148,12 +148,12 @@ func (b *Beneath) openStepwise(name string) (*os.File, error) {
 	const flags = unix.O_DIRECTORY | unix.O_NOFOLLOW | unix.O_CLOEXEC
 	steps := strings.Split(name, "/")
 	at := int(b.root.Fd())
-	for place, one := range steps {
+	for place, step := range steps {
 		kind := unix.O_PATH
 		if place == len(steps)-1 {
 			kind = unix.O_RDONLY
 		}
-		next, err := unix.Openat(at, one, flags|kind, 0)
+		next, err := unix.Openat(at, step, flags|kind, 0)
 		if at != int(b.root.Fd()) {
 			unix.Close(at)
 		}

@@ -73,12 +73,12 @@ func addRange(to *part.Differ, first, last int64) {
 func pairAt(recorded, found [][32]byte, place int) part.Pair {
 	var made part.Pair
 	if place < len(recorded) {
-		one := part.Hash(recorded[place])
-		made.Recorded = &one
+		hash := part.Hash(recorded[place])
+		made.Recorded = &hash
 	}
 	if place < len(found) {
-		one := part.Hash(found[place])
-		made.Found = &one
+		hash := part.Hash(found[place])
+		made.Found = &hash
 	}
 	return made
 }

@@ -9,8 +9,8 @@ import (
 // IsDamage says whether the disk itself, or the file system on it, fails to give what it has: a bad sector, say. That is more
 // than a want of permission, since the bytes may be lost.
 func IsDamage(err error) bool {
-	for _, one := range damages {
-		if errors.Is(err, one) {
+	for _, error := range damages {
+		if errors.Is(err, error) {
 			return true
 		}
 	}

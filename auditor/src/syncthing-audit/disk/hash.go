@@ -132,8 +132,8 @@ func (j *Job) hashesOf(place int) [][32]byte {
 		return j.hashes[place][0]
 	}
 	made := [][32]byte{}
-	for _, one := range j.hashes[place] {
-		made = append(made, one...)
+	for _, hash := range j.hashes[place] {
+		made = append(made, hash...)
 	}
 	return made
 }
@@ -153,7 +153,7 @@ func (j *Job) hasFailed() bool {
 }
 
 // hash hashes one piece of a file.
-func (p *Pool) hash(job *Job, one piece) error {
+func (p *Pool) hash(job *Job, piece piece) error {
 	if p.skips.Load() {
 		return nil
 	}
@@ -162,12 +162,12 @@ func (p *Pool) hash(job *Job, one piece) error {
 		return err
 	}
 	defer file.Close()
-	letGo(file, one.offset, one.length)
+	letGo(file, piece.offset, piece.length)
 	cuts := make([]*cutter, len(job.file.BlockSizes))
 	for place, size := range job.file.BlockSizes {
-		cuts[place] = &cutter{sum: p.sums.new(one.length), size: size, hashes: one.hashes[place]}
+		cuts[place] = &cutter{sum: p.sums.new(piece.length), size: size, hashes: piece.hashes[place]}
 	}
-	if err := p.read(file, job, one.offset, one.length, cuts); err != nil {
+	if err := p.read(file, job, piece.offset, piece.length, cuts); err != nil {
 		return err
 	}
 	if err := job.file.checkOpened(file); err != nil {
@@ -281,9 +281,9 @@ func (j *Job) Wait() ([]part.Content, *part.Differ, []byte, error) {
 func (j *Job) check() error {
 	after, err := j.file.Disk.Lstat(j.file.Name)
 	about, failed := j.file.Disk.About(j.file.Name)
-	for _, one := range []error{err, failed} {
-		if IsDamage(one) {
-			return unread(one)
+	for _, fault := range []error{err, failed} {
+		if IsDamage(fault) {
+			return unread(fault)
 		}
 	}
 	if err != nil || failed != nil || !after.IsRegular() || after.Size() != j.file.Node.Size ||

@@ -34,9 +34,9 @@ func (l links) add(about os.FileInfo) {
 // elsewhere counts the names of files that have links which weren't met.
 func (l links) elsewhere() part.Count {
 	made := part.Count{}
-	for _, one := range l {
-		if one.links > one.met {
-			made.Add(one.met, one.met*one.bytes)
+	for _, link := range l {
+		if link.links > link.met {
+			made.Add(link.met, link.met*link.bytes)
 		}
 	}
 	return made

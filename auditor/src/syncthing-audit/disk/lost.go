@@ -49,7 +49,9 @@ func bytesOfNobody(line *part.Name, size, blockSize int64) []byte {
 
 // isRecorded says whether a record of a name has a first block with this hash.
 func isRecorded(line *part.Name, hash [32]byte) bool {
-	has := func(one *part.Record) bool { return one != nil && len(one.Blocks) > 0 && one.Blocks[0] == hash }
+	has := func(record *part.Record) bool {
+		return record != nil && len(record.Blocks) > 0 && record.Blocks[0] == hash
+	}
 	for _, seen := range line.Views {
 		if has(seen.Record) {
 			return true

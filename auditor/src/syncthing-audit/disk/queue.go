@@ -74,10 +74,10 @@ func (q *Queue) Reserve(weight int) bool {
 }
 
 // Put puts a name at the end.
-func (q *Queue) Put(one *Pending) {
+func (q *Queue) Put(pending *Pending) {
 	q.mutex.Lock()
 	defer q.mutex.Unlock()
-	q.waiting = append(q.waiting, one)
+	q.waiting = append(q.waiting, pending)
 	q.changed.Broadcast()
 }
 
@@ -110,11 +110,11 @@ func (q *Queue) Next() (*Pending, error) {
 	if len(q.waiting) == 0 {
 		return nil, q.err
 	}
-	one := q.waiting[0]
+	pending := q.waiting[0]
 	q.waiting = q.waiting[1:]
-	q.weight -= one.Weight
+	q.weight -= pending.Weight
 	q.changed.Broadcast()
-	return one, nil
+	return pending, nil
 }
 
 // Waiting says how many names wait, and how much room they take.

@@ -71,8 +71,8 @@ func (c *Command) addFolder(word string) error {
 	if !is || !limits.IsFolderID(id) || directory == "" {
 		return &Usage{fmt.Sprintf("%q is no folder with its directory: ID=DIR", word)}
 	}
-	for _, one := range c.Folders {
-		if one.ID == id {
+	for _, folder := range c.Folders {
+		if folder.ID == id {
 			return &Usage{fmt.Sprintf("folder %q is given twice", id)}
 		}
 	}

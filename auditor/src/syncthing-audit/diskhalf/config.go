@@ -70,22 +70,22 @@ func readConfiguration(path string) (*configuration, error) {
 // tell has a part say what is configured of a folder. Another directory than that which is walked isn't the folder's.
 func (c *configuration) tell(of *part.Folder) error {
 	for place := range c.Folders {
-		one := &c.Folders[place]
-		if one.ID != of.ID {
+		folder := &c.Folders[place]
+		if folder.ID != of.ID {
 			continue
 		}
-		if at, err := directory.Place(withHome(one.Path)); err != nil || at != of.Directory {
-			return fmt.Errorf("%s says that the folder's directory is %s, and another one is walked", shell.Quoted(c.path), shell.Quoted(one.Path))
+		if at, err := directory.Place(withHome(folder.Path)); err != nil || at != of.Directory {
+			return fmt.Errorf("%s says that the folder's directory is %s, and another one is walked", shell.Quoted(c.path), shell.Quoted(folder.Path))
 		}
-		kind, is := kinds[one.Type]
-		if !is || one.MaxConflicts == nil {
-			return fmt.Errorf("%s says that the folder is of type %s, which this program doesn't read", shell.Quoted(c.path), shell.Quoted(one.Type))
+		kind, is := kinds[folder.Type]
+		if !is || folder.MaxConflicts == nil {
+			return fmt.Errorf("%s says that the folder is of type %s, which this program doesn't read", shell.Quoted(c.path), shell.Quoted(folder.Type))
 		}
-		of.Kind, of.IgnoresPermissions = kind, one.IgnorePerms
-		of.Options = &part.Options{MaxConflicts: *one.MaxConflicts, IgnoresDeletions: one.IgnoreDelete}
-		of.ScansAttributes = one.SyncOwnership || one.SendOwnership || one.SyncXattrs || one.SendXattrs
-		if one.TimeWindow > 0 && one.TimeWindow < 1<<31 {
-			of.TimeWindow = one.TimeWindow
+		of.Kind, of.IgnoresPermissions = kind, folder.IgnorePerms
+		of.Options = &part.Options{MaxConflicts: *folder.MaxConflicts, IgnoresDeletions: folder.IgnoreDelete}
+		of.ScansAttributes = folder.SyncOwnership || folder.SendOwnership || folder.SyncXattrs || folder.SendXattrs
+		if folder.TimeWindow > 0 && folder.TimeWindow < 1<<31 {
+			of.TimeWindow = folder.TimeWindow
 		}
 		return nil
 	}

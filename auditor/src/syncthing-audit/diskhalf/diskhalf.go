@@ -73,10 +73,10 @@ func Write(to io.Writer, asked Asked, pool *disk.Pool) (*Told, error) {
 		}
 	}
 	sort.Slice(made.asked.Folders, func(a, b int) bool { return made.asked.Folders[a].ID < made.asked.Folders[b].ID })
-	for _, one := range made.asked.Folders {
-		opened, err := made.open(one)
+	for _, folder := range made.asked.Folders {
+		opened, err := made.open(folder)
 		if err != nil {
-			return nil, fmt.Errorf("refused: folder %s: %w", shell.Quoted(one.ID), err)
+			return nil, fmt.Errorf("refused: folder %s: %w", shell.Quoted(folder.ID), err)
 		}
 		made.folders = append(made.folders, opened)
 	}
@@ -100,23 +100,23 @@ func Write(to io.Writer, asked Asked, pool *disk.Pool) (*Told, error) {
 }
 
 // open opens a folder, and reads its .stignore. Where its disk isn't mounted, say, all of its names would be missing.
-func (m *maker) open(one Folder) (*folder, error) {
-	files, err := directory.Open(one.Directory)
+func (m *maker) open(asked Folder) (*folder, error) {
+	files, err := directory.Open(asked.Directory)
 	if err != nil {
 		return nil, err
 	}
 	if _, err := files.Lstat(m.asked.Marker); errors.Is(err, fs.ErrNotExist) {
 		return nil, fmt.Errorf("%s has no %s, without which Syncthing takes no directory for a folder's: is it another directory, or a disk that isn't mounted? "+
-			"--marker says what Syncthing's own configuration calls the marker, if that is something else", shell.Quoted(one.Directory), shell.Quoted(m.asked.Marker))
+			"--marker says what Syncthing's own configuration calls the marker, if that is something else", shell.Quoted(asked.Directory), shell.Quoted(m.asked.Marker))
 	} else if err != nil {
 		return nil, err
 	}
-	made := &folder{Folder: one, files: files}
-	place, err := directory.Place(one.Directory)
+	made := &folder{Folder: asked, files: files}
+	place, err := directory.Place(asked.Directory)
 	if err != nil {
 		return nil, err
 	}
-	made.about = part.Folder{ID: one.ID, Directory: place, Sharing: []part.Sharing{}, Views: []part.View{},
+	made.about = part.Folder{ID: asked.ID, Directory: place, Sharing: []part.Sharing{}, Views: []part.View{},
 		Ignores: &part.Ignores{Lines: []string{}, FoldCase: stignore.FoldsCase(runtime.GOOS)}}
 	if m.asked.Paths {
 		made.about.Path = files.URI()
@@ -128,7 +128,7 @@ func (m *maker) open(one Folder) (*folder, error) {
 	}
 	made.readPatterns()
 	if made.patterns == nil {
-		m.told.Unknown = append(m.told.Unknown, "folder "+one.ID+": "+made.about.Ignores.Unknown)
+		m.told.Unknown = append(m.told.Unknown, "folder "+asked.ID+": "+made.about.Ignores.Unknown)
 		made.patterns = &stignore.Patterns{}
 	}
 	return made, nil
@@ -149,8 +149,8 @@ func (f *folder) readPatterns() {
 }
 
 // walker gives what walks the folder.
-func (m *maker) walker(one *folder) *disk.Walker {
-	return &disk.Walker{Disk: one.files, Folder: one.ID, Names: m.asked.Names, Stamps: true}
+func (m *maker) walker(folder *folder) *disk.Walker {
+	return &disk.Walker{Disk: folder.files, Folder: folder.ID, Names: m.asked.Names, Stamps: true}
 }
 
 // glance walks all folders for the first time. What it gives back in the second place takes away what it kept.
@@ -162,27 +162,27 @@ func (m *maker) glance() (*glance.Glance, func(), error) {
 			os.Remove(path)
 		}
 	}
-	for _, one := range m.folders {
+	for _, folder := range m.folders {
 		file, err := os.CreateTemp("", "syncthing-audit-disk-")
 		if err != nil {
 			return made, drop, err
 		}
 		made.Folders, paths = append(made.Folders, file), append(paths, file.Name())
-		if err := m.glanceAt(one, file); err != nil {
-			return made, drop, fmt.Errorf("folder %s: %w", shell.Quoted(one.ID), err)
+		if err := m.glanceAt(folder, file); err != nil {
+			return made, drop, fmt.Errorf("folder %s: %w", shell.Quoted(folder.ID), err)
 		}
 	}
 	return made, drop, nil
 }
 
 // glanceAt walks a folder for the first time.
-func (m *maker) glanceAt(one *folder, file *os.File) error {
-	to, walker := glance.NewWriter(file), m.walker(one)
+func (m *maker) glanceAt(folder *folder, file *os.File) error {
+	to, walker := glance.NewWriter(file), m.walker(folder)
 	walker.Take = func(found disk.Found) error {
-		if one.isHidden(found) {
+		if folder.isHidden(found) {
 			return nil
 		}
-		return to.Take(found, one.patterns.IsIgnored(found.Name))
+		return to.Take(found, folder.patterns.IsIgnored(found.Name))
 	}
 	if err := walker.Walk(); err != nil {
 		return err
@@ -212,11 +212,11 @@ func (m *maker) head() (*part.Head, error) {
 	}
 	made := &part.Head{Device: m.asked.Device, Made: time.Now().UTC().Truncate(time.Second), Names: m.asked.Names,
 		Half: part.NewHalf(hex.EncodeToString(id), m.asked.After, runtime.GOOS, m.asked.BlockSizes)}
-	for _, one := range m.folders {
+	for _, folder := range m.folders {
 		if m.config != nil {
-			one.about.Rest = m.config.rest(one.ID)
+			folder.about.Rest = m.config.rest(folder.ID)
 		}
-		made.Folders = append(made.Folders, one.about)
+		made.Folders = append(made.Folders, folder.about)
 	}
 	made.Version = made.DueVersion()
 	return made, nil
@@ -243,11 +243,11 @@ func (m *maker) count(sink part.Sink) part.Sink {
 }
 
 // withoutStamp gives a name as a part has it: stamps say nothing on another machine.
-func withoutStamp(one *part.Name) *part.Name {
-	if one.Disk == nil || one.Disk.Stamp == "" {
-		return one
+func withoutStamp(name *part.Name) *part.Name {
+	if name.Disk == nil || name.Disk.Stamp == "" {
+		return name
 	}
-	made, node := *one, *one.Disk
+	made, node := *name, *name.Disk
 	node.Stamp = ""
 	made.Disk = &node
 	return &made

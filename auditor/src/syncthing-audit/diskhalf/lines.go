@@ -14,12 +14,12 @@ const typeOfDirectory = bep.Directory
 
 // write gives the lines of all folders to take.
 func (m *maker) write(take part.Sink) error {
-	for place, one := range m.folders {
-		if err := take(part.Line{Begin: &part.Begin{Folder: one.ID}}); err != nil {
+	for place, folder := range m.folders {
+		if err := take(part.Line{Begin: &part.Begin{Folder: folder.ID}}); err != nil {
 			return err
 		}
-		end := &part.End{Folder: one.ID, Last: place == len(m.folders)-1}
-		if err := m.names(one, end, take); err != nil {
+		end := &part.End{Folder: folder.ID, Last: place == len(m.folders)-1}
+		if err := m.names(folder, end, take); err != nil {
 			return err
 		}
 		if err := take(part.Line{End: end}); err != nil {
@@ -33,14 +33,14 @@ func (m *maker) write(take part.Sink) error {
 var errStopped = errors.New("stopped")
 
 // names gives the names of a folder. One routine finds them and has their files hashed; this one waits for the hashes, in the order of names.
-func (m *maker) names(one *folder, end *part.End, take part.Sink) error {
-	found, walking := disk.NewQueue(), &walking{maker: m, folder: one, walker: m.walker(one)}
+func (m *maker) names(folder *folder, end *part.End, take part.Sink) error {
+	found, walking := disk.NewQueue(), &walking{maker: m, folder: folder, walker: m.walker(folder)}
 	walking.to = found
 	go func() { found.End(walking.run()) }()
 	defer found.Stop()
 	path := ""
 	if !m.asked.Paths {
-		path = one.files.URI()
+		path = folder.files.URI()
 	}
 	isOver, err := found.Drain(path, end, take)
 	if isOver {
@@ -65,8 +65,8 @@ func (w *walking) run() error {
 		return err
 	}
 	sortHidden(w.hidden)
-	for _, one := range w.hidden {
-		if !w.put(&disk.Pending{Line: one.line, Weight: disk.WeightOfName}) {
+	for _, name := range w.hidden {
+		if !w.put(&disk.Pending{Line: name.line, Weight: disk.WeightOfName}) {
 			return errStopped
 		}
 	}
@@ -74,11 +74,11 @@ func (w *walking) run() error {
 }
 
 // put puts a name into the queue, and says whether it is wanted.
-func (w *walking) put(one *disk.Pending) bool {
-	if !w.to.Reserve(one.Weight) {
+func (w *walking) put(pending *disk.Pending) bool {
+	if !w.to.Reserve(pending.Weight) {
 		return false
 	}
-	w.to.Put(one)
+	w.to.Put(pending)
 	return true
 }
 
@@ -96,22 +96,22 @@ func (w *walking) take(found disk.Found) error {
 		w.hide(line)
 		return nil
 	}
-	one := &disk.Pending{Line: line, Weight: disk.WeightOfName}
+	pending := &disk.Pending{Line: line, Weight: disk.WeightOfName}
 	isHashed := found.Node != nil && found.Node.Type == bep.File && len(line.Out) == 0
 	file := disk.File{}
 	if isHashed {
 		file = disk.File{Disk: w.walker.Disk, Name: found.Name, Stamp: found.Stamp, Node: found.Node, BlockSizes: w.blockSizes(found.Node.Size), Longest: found.Node.Size}
 		for _, size := range file.BlockSizes {
-			one.Weight += int(part.CountOfBlocks(file.Length(), size))
+			pending.Weight += int(part.CountOfBlocks(file.Length(), size))
 		}
 	}
-	if !w.to.Reserve(one.Weight) {
+	if !w.to.Reserve(pending.Weight) {
 		return errStopped
 	}
 	if isHashed {
-		one.Job = w.pool.Begin(file)
+		pending.Job = w.pool.Begin(file)
 	}
-	w.to.Put(one)
+	w.to.Put(pending)
 	return nil
 }
 

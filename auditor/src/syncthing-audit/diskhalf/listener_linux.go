@@ -22,9 +22,9 @@ func checkListener(made net.Conn, config string) error {
 		return fmt.Errorf("it isn't seen whose program listens for its page: %v", err)
 	}
 	owner := int(about.Sys().(*syscall.Stat_t).Uid)
-	for _, one := range found {
-		if one.User != owner && one.User != 0 {
-			return fmt.Errorf("a program of user %d listens for its page, and the configuration is of user %d", one.User, owner)
+	for _, socket := range found {
+		if socket.User != owner && socket.User != 0 {
+			return fmt.Errorf("a program of user %d listens for its page, and the configuration is of user %d", socket.User, owner)
 		}
 	}
 	return nil

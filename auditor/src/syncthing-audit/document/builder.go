@@ -65,10 +65,10 @@ type viewed struct {
 // NewBuilder begins to fill documents of a folder of at most so many bytes.
 func NewBuilder(folder *join.Folder, withBytes bool, most int) *Builder {
 	made := &Builder{folder: folder, writer: writer{withBytes: withBytes}, room: most - bytesOfEnds}
-	for _, one := range folder.Members {
-		next := &member{Member: one, views: make([]viewed, len(one.About.Views))}
+	for _, from := range folder.Members {
+		next := &member{Member: from, views: make([]viewed, len(from.About.Views))}
 		made.room -= bytesOfMember
-		for place, of := range one.About.Views {
+		for place, of := range from.About.Views {
 			made.room -= bytesOfView
 			if folder.Member(of.Device) >= 0 {
 				next.views[place] = viewed{about: of, number: part.Number(of.Device)}
@@ -124,24 +124,24 @@ func (b *Builder) encode(row *join.Row) ([]items, int) {
 	made := make([]items, len(row.At))
 	size, greatest := 0, 0
 	b.writer.begin(row.Name)
-	for at, one := range row.At {
-		if one == nil {
+	for at, name := range row.At {
+		if name == nil {
 			continue
 		}
-		if one.Own != nil {
-			made[at].own = b.writer.record(one.Own)
+		if name.Own != nil {
+			made[at].own = b.writer.record(name.Own)
 			length := len(made[at].own) + bytesOfDefaults
 			size += length
 			if length > greatest {
 				greatest = length
 			}
 		}
-		if one.Disk != nil {
+		if name.Disk != nil {
 			store, text := b.writer.node(row.At, at)
 			made[at].store = store
 			size += len(store) + bytesOfDefaults + 2*text
 		}
-		size += b.encodeViews(&made[at], at, one.Views)
+		size += b.encodeViews(&made[at], at, name.Views)
 	}
 	return made, size + greatest + bytesOfRow
 }
@@ -163,14 +163,14 @@ func (b *Builder) encodeViews(to *items, at int, views []part.Seen) int {
 // takeSequences takes the sequence numbers of a row, and says whether another name of the document has one of them.
 func (b *Builder) takeSequences(row *join.Row) *part.LeftOut {
 	free := true
-	for at, one := range row.At {
-		if one == nil {
+	for at, name := range row.At {
+		if name == nil {
 			continue
 		}
-		if one.Own != nil {
-			free = b.members[at].own.take(one.Own.Sequence) && free
+		if name.Own != nil {
+			free = b.members[at].own.take(name.Own.Sequence) && free
 		}
-		for _, seen := range one.Views {
+		for _, seen := range name.Views {
 			free = b.members[at].views[seen.View].take(seen.Record.Sequence) && free
 		}
 	}
@@ -186,11 +186,11 @@ func (b *Builder) Take() *Document {
 	if len(b.rows) > 0 {
 		made.First, made.Last = b.rows[0].Name, b.rows[len(b.rows)-1].Name
 	}
-	for _, one := range b.members {
-		one.own.reset()
-		one.store.reset()
-		for place := range one.views {
-			one.views[place].reset()
+	for _, member := range b.members {
+		member.own.reset()
+		member.store.reset()
+		for place := range member.views {
+			member.views[place].reset()
 		}
 	}
 	b.rows, b.used = nil, 0
@@ -201,11 +201,11 @@ func (b *Builder) Take() *Document {
 func (b *Builder) write() []byte {
 	var to bytes.Buffer
 	fmt.Fprintf(&to, `{"version":2,"cut":{"folders":[{"folder":%q,"devices":[`, b.folder.ID)
-	for place, one := range b.members {
+	for place, member := range b.members {
 		if place > 0 {
 			to.WriteByte(',')
 		}
-		one.write(&to)
+		member.write(&to)
 	}
 	to.WriteString(`]}],"links":[`)
 	b.writeLinks(&to)
@@ -222,12 +222,12 @@ func (m *member) write(to *bytes.Buffer) {
 	to.WriteString(`],"views":[`)
 	separator := ""
 	for place := range m.views {
-		one := &m.views[place]
-		if one.number == 0 {
+		viewed := &m.views[place]
+		if viewed.number == 0 {
 			continue
 		}
-		fmt.Fprintf(to, `%s{"of":%d,"index_id":%d,"max":%d,"records":[`, separator, one.number, one.about.IndexID, one.about.Max)
-		to.Write(one.written.Bytes())
+		fmt.Fprintf(to, `%s{"of":%d,"index_id":%d,"max":%d,"records":[`, separator, viewed.number, viewed.about.IndexID, viewed.about.Max)
+		to.Write(viewed.written.Bytes())
 		to.WriteString("]}")
 		separator = ","
 	}
@@ -237,20 +237,20 @@ func (m *member) write(to *bytes.Buffer) {
 // writeLinks writes a link, down and empty, for each two members that share the folder with each other.
 func (b *Builder) writeLinks(to *bytes.Buffer) {
 	separator := ""
-	for place, one := range b.members {
+	for place, member := range b.members {
 		for _, other := range b.members[place+1:] {
-			if !one.sharesWith(other) {
+			if !member.sharesWith(other) {
 				continue
 			}
-			fmt.Fprintf(to, `%s{"a":%d,"b":%d,"up":false,"epoch":0}`, separator, one.Number, other.Number)
+			fmt.Fprintf(to, `%s{"a":%d,"b":%d,"up":false,"epoch":0}`, separator, member.Number, other.Number)
 			separator = ","
 		}
 	}
 }
 
 func (m *member) sharesWith(other *member) bool {
-	for _, one := range m.About.Sharing {
-		if one.Device == other.Head.Device {
+	for _, sharing := range m.About.Sharing {
+		if sharing.Device == other.Head.Device {
 			return true
 		}
 	}

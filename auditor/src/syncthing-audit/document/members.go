@@ -68,27 +68,27 @@ func (w *writer) take() []byte {
 }
 
 // record gives an entry of an index. A file's block size is the one of the length that the document has.
-func (w *writer) record(one *part.Record) []byte {
+func (w *writer) record(record *part.Record) []byte {
 	w.text(`{"name":` + w.name)
-	w.number("type", int64(one.Type), true)
-	w.number("modified_s", one.ModifiedS, true)
-	w.number("modified_ns", int64(one.ModifiedNs), false)
+	w.number("type", int64(record.Type), true)
+	w.number("modified_s", record.ModifiedS, true)
+	w.number("modified_ns", int64(record.ModifiedNs), false)
 	w.text(`,"modified_by":`)
-	w.written = strconv.AppendUint(w.written, one.ModifiedBy, 10)
-	w.flag("deleted", one.Deleted)
-	w.flag("invalid", one.Invalid)
-	w.version(one.Version)
-	w.number("sequence", one.Sequence, true)
+	w.written = strconv.AppendUint(w.written, record.ModifiedBy, 10)
+	w.flag("deleted", record.Deleted)
+	w.flag("invalid", record.Invalid)
+	w.version(record.Version)
+	w.number("sequence", record.Sequence, true)
 	switch {
-	case one.Content == nil:
+	case record.Content == nil:
 	case w.withBytes:
-		w.file(one.Content.Size, one.Blocks)
+		w.file(record.Content.Size, record.Blocks)
 	default:
-		stands := w.standInOf(one.Content)
+		stands := w.standInOf(record.Content)
 		w.file(int64(len(stands.text)), [][32]byte{stands.block})
 	}
-	if one.Target != "" {
-		w.text(`,"target":` + quoted(one.Target))
+	if record.Target != "" {
+		w.text(`,"target":` + quoted(record.Target))
 	}
 	w.text("}")
 	return w.take()
@@ -104,14 +104,14 @@ func (w *writer) file(size int64, hashes [][32]byte) {
 // version writes a record's version.
 func (w *writer) version(counters [][2]uint64) {
 	w.text(`,"version":[`)
-	for place, one := range counters {
+	for place, counter := range counters {
 		if place > 0 {
 			w.text(",")
 		}
 		w.text("[")
-		w.written = strconv.AppendUint(w.written, one[0], 10)
+		w.written = strconv.AppendUint(w.written, counter[0], 10)
 		w.text(",")
-		w.written = strconv.AppendUint(w.written, one[1], 10)
+		w.written = strconv.AppendUint(w.written, counter[1], 10)
 		w.text("]")
 	}
 	w.text("]")
@@ -160,7 +160,7 @@ func (w *writer) node(row []*part.Name, at int) ([]byte, int) {
 // textOrHex gives bytes as text where they are UTF-8 without control characters other than tabs and ends of lines,
 // else as hexadecimal digits.
 func textOrHex(data []byte) (text, digits string) {
-	isControl := func(one rune) bool { return one < 0x20 && one != '\t' && one != '\n' || one == 0x7f }
+	isControl := func(letter rune) bool { return letter < 0x20 && letter != '\t' && letter != '\n' || letter == 0x7f }
 	if utf8.Valid(data) && strings.IndexFunc(string(data), isControl) < 0 {
 		return string(data), ""
 	}

@@ -39,8 +39,8 @@ func contentOnDisk(row []*part.Name, at int) *part.Content {
 		return &contents[0]
 	}
 	for place := range contents {
-		for _, one := range row {
-			if one != nil && one.Own != nil && !one.Own.Invalid && isContent(one.Own, &contents[place]) {
+		for _, name := range row {
+			if name != nil && name.Own != nil && !name.Own.Invalid && isContent(name.Own, &contents[place]) {
 				return &contents[place]
 			}
 		}
@@ -49,9 +49,11 @@ func contentOnDisk(row []*part.Name, at int) *part.Content {
 }
 
 // isContent says whether a record has this content.
-func isContent(one *part.Record, content *part.Content) bool {
-	return one.Content != nil && IsSame(one.Content, content)
+func isContent(record *part.Record, content *part.Content) bool {
+	return record.Content != nil && IsSame(record.Content, content)
 }
 
 // IsSame says whether two contents are one list of block hashes.
-func IsSame(one, other *part.Content) bool { return *one == *other || StandIn(one) == StandIn(other) }
+func IsSame(content, other *part.Content) bool {
+	return *content == *other || StandIn(content) == StandIn(other)
+}

@@ -16,8 +16,8 @@ type failed struct {
 }
 
 // Add adds a failure.
-func (f *Failures) Add(one Failure) {
-	f.byReason[Place(one.Reason)].Add(failed{one.Name, one.Device})
+func (f *Failures) Add(failure Failure) {
+	f.byReason[Place(failure.Reason)].Add(failed{failure.Name, failure.Device})
 }
 
 // Told is all that is told of a name.
@@ -122,8 +122,8 @@ func (n *names) least() (string, bool) {
 			least, is = name, true
 		}
 	}
-	for _, one := range n.failures {
-		if next := one.Peek(); next != nil {
+	for _, cursor := range n.failures {
+		if next := cursor.Peek(); next != nil {
 			see(next.Name)
 		}
 	}
@@ -142,10 +142,10 @@ func (n *names) least() (string, bool) {
 // take takes all that is told of a name.
 func (n *names) take(name string) *Told {
 	made := &Told{Name: name}
-	for place, one := range n.failures {
-		for next := one.Peek(); next != nil && next.Name == name; next = one.Peek() {
+	for place, cursor := range n.failures {
+		for next := cursor.Peek(); next != nil && next.Name == name; next = cursor.Peek() {
 			made.Failures = append(made.Failures, Failure{Reasons[place], next.Name, next.Device})
-			one.Take()
+			cursor.Take()
 		}
 	}
 	if next := n.unwon.Peek(); next != nil && next.Name == name {

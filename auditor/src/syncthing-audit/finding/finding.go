@@ -164,24 +164,24 @@ var Reasons = []string{"CertificateOrder", "NameMissing", "NameUnknown", "NotWin
 func Place(reason string) int { return slices.Index(Reasons, reason) }
 
 // IsBefore says whether a document tells one failure before another one.
-func IsBefore(one, other *Failure) bool { return isBefore(one, other, Reasons) }
+func IsBefore(failure, other *Failure) bool { return isBefore(failure, other, Reasons) }
 
 // isBefore says the same of failures whose reasons stand in this order.
-func isBefore(one, other *Failure, order []string) bool {
-	if one.Reason != other.Reason {
-		return slices.Index(order, one.Reason) < slices.Index(order, other.Reason)
+func isBefore(failure, other *Failure, order []string) bool {
+	if failure.Reason != other.Reason {
+		return slices.Index(order, failure.Reason) < slices.Index(order, other.Reason)
 	}
-	if one.Name != other.Name {
-		return one.Name < other.Name
+	if failure.Name != other.Name {
+		return failure.Name < other.Name
 	}
-	return one.Device < other.Device
+	return failure.Device < other.Device
 }
 
 // IsApart says whether several devices have a folder of this one's id, and each shares its own with nobody. Someone may think that they
 // share it with one another.
 func (a *Answer) IsApart(folder *Folder) bool {
-	for _, one := range a.Folders {
-		if folder.Own != "" && folder.ID != join.ByChance && one.ID == folder.ID && one.Own != folder.Own {
+	for _, other := range a.Folders {
+		if folder.Own != "" && folder.ID != join.ByChance && other.ID == folder.ID && other.Own != folder.Own {
 			return true
 		}
 	}
@@ -203,7 +203,7 @@ func (a *Answer) lacksSome(folder *Folder) bool {
 	if len(folder.LeftOut) > 0 || (len(folder.Members) < 2 && folder.Own == "") || folder.Live.isMoving() {
 		return true
 	}
-	isOf := func(one Refusal) bool { return one.Folder == folder.ID }
+	isOf := func(refusal Refusal) bool { return refusal.Folder == folder.ID }
 	return slices.IndexFunc(a.LeftOut, isOf) >= 0 || slices.IndexFunc(a.Earlier, isOf) >= 0
 }
 
@@ -220,8 +220,8 @@ func (a *Answer) IsOfSlice() bool { return len(a.Folders) > 0 && a.Folders[0].As
 
 // IsPartial says whether something wasn't audited.
 func (a *Answer) IsPartial() bool {
-	for _, one := range a.Folders {
-		if a.IsPart(one) {
+	for _, folder := range a.Folders {
+		if a.IsPart(folder) {
 			return true
 		}
 	}
@@ -231,8 +231,8 @@ func (a *Answer) IsPartial() bool {
 // lacksFolders says whether the devices have folders that weren't audited, or may have some, and nobody chose the others by
 // their ids.
 func (a *Answer) lacksFolders() bool {
-	for _, one := range a.Devices {
-		if !a.IsByName && (one.IsSilent || len(one.Unasked) > 0) {
+	for _, device := range a.Devices {
+		if !a.IsByName && (device.IsSilent || len(device.Unasked) > 0) {
 			return true
 		}
 	}

@@ -77,8 +77,8 @@ func (f *Folder) HowFirm() Firm {
 // HowFirm says how it stands with all folders: the worst of them.
 func (a *Answer) HowFirm() Firm {
 	made := IsFirm
-	for _, one := range a.Folders {
-		switch one.HowFirm() {
+	for _, folder := range a.Folders {
+		switch folder.HowFirm() {
 		case NotFirm:
 			return NotFirm
 		case NotAsked:
@@ -96,10 +96,10 @@ func (a *Answer) HowFirm() Firm {
 // have told it.
 func (f *Folder) EachLoose(take func(*Failure)) {
 	for _, reason := range FirmReasons {
-		f.Loose.Each(func(one *Loose) {
-			for _, at := range one.At {
+		f.Loose.Each(func(loose *Loose) {
+			for _, at := range loose.At {
 				if at.Reason == reason {
-					take(&Failure{reason, one.Name, f.Members[at.Member].Number})
+					take(&Failure{reason, loose.Name, f.Members[at.Member].Number})
 				}
 			}
 		})
@@ -112,9 +112,9 @@ func (f *Folder) CheckLoose() error {
 		return nil
 	}
 	var first *Failure
-	f.EachLoose(func(one *Failure) {
+	f.EachLoose(func(failure *Failure) {
 		if first == nil {
-			first = one
+			first = failure
 		}
 	})
 	if (first == nil) != (f.Firmness.First == nil) || first != nil && *first != *f.Firmness.First {
@@ -125,9 +125,9 @@ func (f *Folder) CheckLoose() error {
 }
 
 // told gives a failure for a message.
-func told(one *Failure) string {
-	if one == nil {
+func told(failure *Failure) string {
+	if failure == nil {
 		return "nothing"
 	}
-	return fmt.Sprintf("%s of %q on %d", one.Reason, one.Name, one.Device)
+	return fmt.Sprintf("%s of %q on %d", failure.Reason, failure.Name, failure.Device)
 }

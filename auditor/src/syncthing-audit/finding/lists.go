@@ -20,16 +20,16 @@ type listed struct {
 // WriteLists writes the long lists of all folders.
 func (a *Answer) WriteLists(to *json.Encoder) error {
 	var failed error
-	write := func(one listed) {
+	write := func(listed listed) {
 		if failed == nil {
-			failed = to.Encode(one)
+			failed = to.Encode(listed)
 		}
 	}
 	for place, folder := range a.Folders {
-		folder.Unwon.Each(func(one *Unwon) { write(listed{Folder: place, Unwon: one}) })
-		folder.Permissions.Each(func(one *Permissions) { write(listed{Folder: place, Permissions: one}) })
-		folder.Loose.Each(func(one *Loose) { write(listed{Folder: place, Loose: one}) })
-		folder.Damaged.Each(func(one *Damaged) { write(listed{Folder: place, Damaged: one}) })
+		folder.Unwon.Each(func(unwon *Unwon) { write(listed{Folder: place, Unwon: unwon}) })
+		folder.Permissions.Each(func(permissions *Permissions) { write(listed{Folder: place, Permissions: permissions}) })
+		folder.Loose.Each(func(loose *Loose) { write(listed{Folder: place, Loose: loose}) })
+		folder.Damaged.Each(func(damaged *Damaged) { write(listed{Folder: place, Damaged: damaged}) })
 	}
 	write(listed{IsLast: true})
 	if failed == nil {
@@ -58,17 +58,17 @@ func (a *Answer) ReadLists(from *json.Decoder) error {
 }
 
 // add adds what was read.
-func (f *Folder) add(one *listed) {
-	if one.Unwon != nil {
-		f.Unwon.Add(*one.Unwon)
+func (f *Folder) add(listed *listed) {
+	if listed.Unwon != nil {
+		f.Unwon.Add(*listed.Unwon)
 	}
-	if one.Permissions != nil {
-		f.Permissions.Add(*one.Permissions)
+	if listed.Permissions != nil {
+		f.Permissions.Add(*listed.Permissions)
 	}
-	if one.Loose != nil {
-		f.Loose.Add(*one.Loose)
+	if listed.Loose != nil {
+		f.Loose.Add(*listed.Loose)
 	}
-	if one.Damaged != nil {
-		f.Damaged.Add(*one.Damaged)
+	if listed.Damaged != nil {
+		f.Damaged.Add(*listed.Damaged)
 	}
 }

@@ -43,10 +43,10 @@ func (l *Live) isMoving() bool { return l != nil && l.Moving > 0 }
 func (l *Live) isOnItsWay() bool { return l != nil && len(l.Unheard) > 0 }
 
 // AddMoving adds a name that changed; the first MostListed are told by name.
-func (l *Live) AddMoving(one Moving) {
+func (l *Live) AddMoving(moving Moving) {
 	l.Moving++
 	isWaiting := false
-	for _, at := range one.At {
+	for _, at := range moving.At {
 		isWaiting = isWaiting || at.Waits != ""
 		l.addWaiting(at)
 	}
@@ -54,7 +54,7 @@ func (l *Live) AddMoving(one Moving) {
 		l.Waits++
 	}
 	if len(l.Names) < MostListed {
-		l.Names = append(l.Names, one)
+		l.Names = append(l.Names, moving)
 	}
 }
 

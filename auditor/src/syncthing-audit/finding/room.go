@@ -20,10 +20,10 @@ func (r *Room) Keep(row *join.Row) *join.Row {
 	}
 	r.taken += len(row.At)
 	made := &join.Row{Name: row.Name, At: make([]*part.Name, len(row.At))}
-	for place, one := range row.At {
-		if one != nil {
-			kept := *one
-			kept.Views = heardOf(one)
+	for place, name := range row.At {
+		if name != nil {
+			kept := *name
+			kept.Views = heardOf(name)
 			made.At[place] = &kept
 		}
 	}
@@ -33,9 +33,9 @@ func (r *Room) Keep(row *join.Row) *join.Row {
 // heardOf gives the versions that a device has heard of from others and hasn't itself.
 func heardOf(name *part.Name) []part.Seen {
 	var made []part.Seen
-	for _, one := range name.Views {
-		if name.Own == nil || !part.IsAtMost(one.Record.Version, name.Own.Version) {
-			made = append(made, part.Seen{View: one.View, Record: &part.Record{Version: one.Record.Version}})
+	for _, seen := range name.Views {
+		if name.Own == nil || !part.IsAtMost(seen.Record.Version, name.Own.Version) {
+			made = append(made, part.Seen{View: seen.View, Record: &part.Record{Version: seen.Record.Version}})
 		}
 	}
 	return made

@@ -47,24 +47,24 @@ func (f Firm) CallUnsure() string {
 // Unsure gives all that makes a folder unsure, by devices.
 func (f *Folder) Unsure() []Unsure {
 	made := []Unsure{}
-	for member, one := range f.Members {
-		if one.Device == nil || one.About == nil {
+	for member, at := range f.Members {
+		if at.Device == nil || at.About == nil {
 			continue
 		}
 		if waits := f.SendsAfterScan(member); waits != nil && waits.Losing() > 0 {
 			made = append(made, Unsure{Member: member, Kind: Waits, Names: waits.Losing(), Waits: waits})
 		}
-		if why := one.Head.WhyBusy(one.About); why != "" {
+		if why := at.Head.WhyBusy(at.About); why != "" {
 			made = append(made, Unsure{Member: member, Kind: Busy, Why: why})
 		}
-		if one.ToIgnore > 0 {
-			made = append(made, Unsure{Member: member, Kind: ToIgnore, Names: one.ToIgnore})
+		if at.ToIgnore > 0 {
+			made = append(made, Unsure{Member: member, Kind: ToIgnore, Names: at.ToIgnore})
 		}
-		if one.Linked != nil && one.Linked.Names > 0 {
-			made = append(made, Unsure{Member: member, Kind: Linked, Names: one.Linked.Names})
+		if at.Linked != nil && at.Linked.Names > 0 {
+			made = append(made, Unsure{Member: member, Kind: Linked, Names: at.Linked.Names})
 		}
-		if one.Head.IsOverWireAlone() {
-			made = append(made, Unsure{Member: member, Kind: OverWire, Names: one.Unseen.Standing, Unread: one.Unseen.Unread})
+		if at.Head.IsOverWireAlone() {
+			made = append(made, Unsure{Member: member, Kind: OverWire, Names: at.Unseen.Standing, Unread: at.Unseen.Unread})
 		}
 	}
 	return made

@@ -54,23 +54,23 @@ func KindOfWaiting(at *part.Name) string {
 func LosesRecorded(kind string) bool { return kind != WaitsNew && kind != WaitsBack }
 
 // addWaiting counts what waits for a scan.
-func (l *Live) addWaiting(one Moved) {
-	if one.Waits == "" {
+func (l *Live) addWaiting(moved Moved) {
+	if moved.Waits == "" {
 		return
 	}
 	if l.Waiting == nil {
 		l.Waiting = map[int]*Waiting{}
 	}
-	to := l.Waiting[one.Member]
+	to := l.Waiting[moved.Member]
 	if to == nil {
 		to = &Waiting{Names: map[string]int64{}, From: map[int]int64{}}
-		l.Waiting[one.Member] = to
+		l.Waiting[moved.Member] = to
 	}
-	to.Names[one.Waits]++
-	for _, other := range one.Have {
+	to.Names[moved.Waits]++
+	for _, other := range moved.Have {
 		to.From[other]++
 	}
-	if len(one.Have) == 0 && LosesRecorded(one.Waits) {
+	if len(moved.Have) == 0 && LosesRecorded(moved.Waits) {
 		to.Nowhere++
 	}
 }

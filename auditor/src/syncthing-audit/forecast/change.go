@@ -53,9 +53,9 @@ func (w *World) Put(device int, name string, what Node) {
 // PutBelow has stand below a directory on a device's disk what stands below it on another one's.
 func (w *World) PutBelow(device int, name string, from int) {
 	for place := range w.Names {
-		if one := &w.Names[place]; strings.HasPrefix(one.Name, name+"/") && one.Disk[from] != nil {
-			what := *one.Disk[from]
-			one.Disk[device] = &what
+		if below := &w.Names[place]; strings.HasPrefix(below.Name, name+"/") && below.Disk[from] != nil {
+			what := *below.Disk[from]
+			below.Disk[device] = &what
 		}
 	}
 }
@@ -73,8 +73,8 @@ func (w *World) HasRoom(device int, name string) bool {
 // Remove takes away what stands at a name on a device's disk, and all below it.
 func (w *World) Remove(device int, name string) {
 	for place := range w.Names {
-		if one := &w.Names[place]; one.Name == name || strings.HasPrefix(one.Name, name+"/") {
-			one.Disk[device] = nil
+		if below := &w.Names[place]; below.Name == name || strings.HasPrefix(below.Name, name+"/") {
+			below.Disk[device] = nil
 		}
 	}
 }

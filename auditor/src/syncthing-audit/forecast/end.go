@@ -85,9 +85,9 @@ func (s *state) placedAt(n int, what *node, count int) placed {
 // withoutTwins takes away copies of a name with the same bytes as the one before.
 func withoutTwins(disk []placed) []placed {
 	made := disk[:0]
-	for at, one := range disk {
-		if at == 0 || !one.isCopy || !one.isTwin(&made[len(made)-1]) {
-			made = append(made, one)
+	for at, placed := range disk {
+		if at == 0 || !placed.isCopy || !placed.isTwin(&made[len(made)-1]) {
+			made = append(made, placed)
 		}
 	}
 	return made
@@ -117,11 +117,11 @@ func (n *numbered) key() string {
 	var made []byte
 	for _, disk := range n.disks {
 		made = append(made, '|')
-		for _, one := range disk {
-			made = binary.AppendVarint(made, int64(one.root))
-			made = binary.AppendVarint(made, int64(one.what.content))
-			made = binary.AppendVarint(made, int64(one.what.target))
-			made = append(made, byte(one.what.kind), byte(truth(one.isCopy)))
+		for _, placed := range disk {
+			made = binary.AppendVarint(made, int64(placed.root))
+			made = binary.AppendVarint(made, int64(placed.what.content))
+			made = binary.AppendVarint(made, int64(placed.what.target))
+			made = append(made, byte(placed.what.kind), byte(truth(placed.isCopy)))
 		}
 	}
 	return string(made)
@@ -131,16 +131,16 @@ func (n *numbered) key() string {
 func (l *loader) end(from *numbered, names []Name) End {
 	made := End{Disks: make([][]Place, len(from.disks))}
 	for i, disk := range from.disks {
-		for _, one := range disk {
-			made.Disks[i] = append(made.Disks[i], Place{Name: names[one.root].Name, IsCopy: one.isCopy, Node: l.nodeBack(one.what)})
+		for _, placed := range disk {
+			made.Disks[i] = append(made.Disks[i], Place{Name: names[placed.root].Name, IsCopy: placed.isCopy, Node: l.nodeBack(placed.what)})
 		}
 	}
 	for at, stuck := range from.stuck {
 		stuck.Name = names[from.names[at]].Name
 		made.Stuck = append(made.Stuck, stuck)
 	}
-	for _, one := range from.apart {
-		made.Apart = append(made.Apart, Stuck{Device: one.device, Name: names[one.n].Name, Why: one.why})
+	for _, noted := range from.apart {
+		made.Apart = append(made.Apart, Stuck{Device: noted.device, Name: names[noted.n].Name, Why: noted.why})
 	}
 	return made
 }

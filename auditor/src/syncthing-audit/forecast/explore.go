@@ -99,8 +99,8 @@ func (x *search) add(s *state) {
 // explore gives all states in which nothing changes any more, or says that there are more states than it may try.
 func explore(starts []*state, most int) (ends []*state, states int, all bool) {
 	x := search{seen: map[string]bool{}, most: most}
-	for _, one := range starts {
-		x.add(one)
+	for _, state := range starts {
+		x.add(state)
 	}
 	for len(x.todo) > 0 {
 		if len(x.seen) > most {

@@ -170,10 +170,10 @@ func (f *Forecaster) find(first *state, count int, commands []Command) *result {
 	}
 	seen := map[string]bool{}
 	for _, end := range ends {
-		one := end.numberedEnd(count)
-		if key := one.key(); !seen[key] {
+		numbered := end.numberedEnd(count)
+		if key := numbered.key(); !seen[key] {
 			seen[key] = true
-			made.ends = append(made.ends, one)
+			made.ends = append(made.ends, numbered)
 		}
 	}
 	return made

@@ -95,9 +95,9 @@ func (s *state) global(i, n int) (entry *record, have uint32) {
 	if len(l) == 0 {
 		return &s.records[0], 0
 	}
-	for _, one := range l {
-		if one.valid != 0 {
-			return s.recordAt(i, one.first(), n), one.valid
+	for _, version := range l {
+		if version.valid != 0 {
+			return s.recordAt(i, version.first(), n), version.valid
 		}
 	}
 	return s.recordAt(i, l[0].first(), n), 0

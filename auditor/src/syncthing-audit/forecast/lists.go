@@ -10,8 +10,8 @@ func (s *state) withLists() (made []*state, all bool) {
 	for i := range s.devices {
 		var next []*state
 		for _, order := range s.ordersAt(i) {
-			for _, one := range made {
-				next = append(next, one.filled(i, order))
+			for _, state := range made {
+				next = append(next, state.filled(i, order))
 			}
 		}
 		if made = distinct(next); len(made) > mostStarts {
@@ -54,10 +54,10 @@ func (s *state) filled(i int, order []int) *state {
 func distinct(states []*state) []*state {
 	seen := map[string]bool{}
 	made := states[:0]
-	for _, one := range states {
-		if key := one.key(); !seen[key] {
+	for _, state := range states {
+		if key := state.key(); !seen[key] {
 			seen[key] = true
-			made = append(made, one)
+			made = append(made, state)
 		}
 	}
 	return made

@@ -164,13 +164,13 @@ func (p *pull) finish() {
 	if len(p.scans) > 0 {
 		p.scan(p.i, p.scans)
 	}
-	for _, one := range p.rescans {
-		own := *p.own(one.j, one.n)
+	for _, source := range p.rescans {
+		own := *p.own(source.j, source.n)
 		if !own.isThere() {
 			continue
 		}
 		own.flag, own.content = MustBeHashed, 0
-		p.put(one.j, one.j, one.n, own)
-		p.scan(one.j, map[int]bool{one.n: true})
+		p.put(source.j, source.j, source.n, own)
+		p.scan(source.j, map[int]bool{source.n: true})
 	}
 }

@@ -64,8 +64,8 @@ func (l *loader) shape(s *state) string {
 		put(int64(device.Kind), int64(device.Release), int64(device.Number), truth(device.IgnorePermissions), truth(device.IgnoreDelete))
 		put(int64(device.MaxConflicts), device.TimeWindow, int64(device.Apart))
 	}
-	for _, one := range l.names {
-		put(int64(one.parent), truth(one.isCopy), int64(one.root))
+	for _, name := range l.names {
+		put(int64(name.parent), truth(name.isCopy), int64(name.root))
 	}
 	put(l.sizes...)
 	for _, vector := range l.vectors {

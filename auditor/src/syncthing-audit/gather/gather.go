@@ -47,8 +47,8 @@ func (d *Device) Head() *part.Head {
 	made := &part.Head{Device: d.ID, Name: d.Name, Runs: d.Runs, Made: time.Now().UTC().Truncate(time.Second),
 		Names: d.Names, Folders: []part.Folder{}, Look: d.Look, Index: d.Index, Newer: d.Newer, ToRepair: d.ToRepair, Others: append([]part.Other{}, d.Others...)}
 	made.Version = made.DueVersion()
-	for _, one := range d.Folders {
-		folder := one.Folder()
+	for _, of := range d.Folders {
+		folder := of.Folder()
 		folder.Rest = d.Rest[folder.ID]
 		made.Folders = append(made.Folders, folder)
 	}
@@ -60,19 +60,19 @@ func (d *Device) Head() *part.Head {
 
 // Run reads all folders and gives the lines behind the head.
 func (d *Device) Run(head *part.Head, sink part.Sink) error {
-	for place, one := range d.Folders {
+	for place, folder := range d.Folders {
 		about := &head.Folders[place]
 		if err := sink(part.Line{Begin: &part.Begin{Folder: about.ID}}); err != nil {
 			return err
 		}
 		end := &part.End{Folder: about.ID, Last: place == len(d.Folders)-1}
-		if err := d.names(one, about, end, sink); err != nil {
+		if err := d.names(folder, about, end, sink); err != nil {
 			return shell.Labelled(err, about.ID, about.Label)
 		}
-		if err := one.Check(); err != nil {
+		if err := folder.Check(); err != nil {
 			return err
 		}
-		end.Max = one.Max()
+		end.Max = folder.Max()
 		if err := sink(part.Line{End: end}); err != nil {
 			return err
 		}

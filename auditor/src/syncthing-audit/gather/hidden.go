@@ -52,11 +52,11 @@ func (h hidden) line() *part.Name {
 // sendHidden puts those that were kept back into the queue, in the order of their hashes. It says whether they are wanted.
 func (m *merge) sendHidden() bool {
 	sort.Slice(m.hidden, func(a, b int) bool { return bytes.Compare(m.hidden[a].name[:], m.hidden[b].name[:]) < 0 })
-	for _, one := range m.hidden {
+	for _, hidden := range m.hidden {
 		if !m.to.Reserve(disk.WeightOfName) {
 			return false
 		}
-		m.to.Put(&disk.Pending{Line: one.line(), Weight: disk.WeightOfName})
+		m.to.Put(&disk.Pending{Line: hidden.line(), Weight: disk.WeightOfName})
 	}
 	return true
 }

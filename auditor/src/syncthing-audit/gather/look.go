@@ -23,16 +23,16 @@ func (d *Device) walker(folder Folder) *disk.Walker {
 // Glance walks all folders.
 func (d *Device) Glance() (*glance.Glance, error) {
 	made := &glance.Glance{}
-	for _, one := range d.Folders {
+	for _, folder := range d.Folders {
 		file, err := leftover.Unnamed()
 		if err != nil {
 			made.Close()
 			return nil, err
 		}
 		made.Folders = append(made.Folders, file)
-		if err := d.walkInto(file, one); err != nil {
+		if err := d.walkInto(file, folder); err != nil {
 			made.Close()
-			about := one.Folder()
+			about := folder.Folder()
 			return nil, shell.Labelled(err, about.ID, about.Label)
 		}
 	}
@@ -47,12 +47,12 @@ func (d *Device) walkInto(file *os.File, folder Folder) error {
 	}
 	to := glance.NewWriter(file)
 	walker := d.walker(folder)
-	walker.Take = func(one disk.Found) error {
-		isIgnored := patterns.Match(one.Name).IsIgnored()
-		if isIgnored && (patterns.SkipIgnoredDirs() || one.Node == nil || one.Node.Type != bep.Directory) {
+	walker.Take = func(found disk.Found) error {
+		isIgnored := patterns.Match(found.Name).IsIgnored()
+		if isIgnored && (patterns.SkipIgnoredDirs() || found.Node == nil || found.Node.Type != bep.Directory) {
 			return nil
 		}
-		return to.Take(one, isIgnored)
+		return to.Take(found, isIgnored)
 	}
 	if err = walker.Walk(); err == nil {
 		err = to.Flush()

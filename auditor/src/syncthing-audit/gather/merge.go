@@ -41,8 +41,8 @@ func newMerge(of *Device, folder Folder, about *part.Folder, patterns *ignore.Ma
 		made.views = append(made.views, pull(func(take func(device.Entry) bool) error { return folder.View(view, of.Names, take) }))
 	}
 	made.nodes = pull(func(take func(disk.Found) bool) error {
-		made.walker.Take = func(one disk.Found) error {
-			if !take(one) {
+		made.walker.Take = func(found disk.Found) error {
+			if !take(found) {
 				return errStopped
 			}
 			return nil
@@ -56,8 +56,8 @@ func newMerge(of *Device, folder Folder, about *part.Folder, patterns *ignore.Ma
 func (m *merge) run() error {
 	defer func() {
 		m.nodes.close()
-		for _, one := range m.entries() {
-			one.close()
+		for _, entry := range m.entries() {
+			entry.close()
 		}
 	}()
 	for {
@@ -110,8 +110,8 @@ func (m *merge) least() (string, bool) {
 			name, is = next, true
 		}
 	}
-	for _, one := range m.entries() {
-		if next := one.peek(); next != nil {
+	for _, entry := range m.entries() {
+		if next := entry.peek(); next != nil {
 			take(next.Name)
 		}
 	}
@@ -233,36 +233,36 @@ func (m *merge) send(line *part.Name, recorded [][32]byte, stamp string) bool {
 	if node != nil && m.device.Bytes && node.Size > limits.MostFileBytes && len(line.Out) == 0 {
 		line.Out = append(line.Out, tooLarge(node.Size))
 	}
-	one := &disk.Pending{Line: line, Weight: disk.WeightOfName}
+	pending := &disk.Pending{Line: line, Weight: disk.WeightOfName}
 	isHashed := node != nil && node.Type == int(protocol.FileInfoTypeFile) && len(line.Out) == 0 && !m.device.isSecondLook()
 	file := disk.File{}
 	if isHashed {
 		file = disk.File{Disk: m.walker.Disk, Name: string(line.Name), Stamp: stamp, Node: node, BlockSizes: blockSizes(line),
 			Longest: longest(line), Recorded: recorded, Keep: m.device.Bytes}
-		one.Weight += len(recorded)
+		pending.Weight += len(recorded)
 		for _, size := range file.BlockSizes {
-			one.Weight += int(part.CountOfBlocks(file.Length(), size))
+			pending.Weight += int(part.CountOfBlocks(file.Length(), size))
 		}
 		if file.Keep {
-			one.Weight += int(node.Size / 32)
+			pending.Weight += int(node.Size / 32)
 		}
 	}
-	if !m.to.Reserve(one.Weight) {
+	if !m.to.Reserve(pending.Weight) {
 		return false
 	}
 	if isHashed {
-		one.Job = m.device.Pool.Begin(file)
+		pending.Job = m.device.Pool.Begin(file)
 	}
-	m.to.Put(one)
+	m.to.Put(pending)
 	return true
 }
 
 // longest gives the size of the longest record of a name; 0 where none has a size.
 func longest(line *part.Name) int64 {
 	most := int64(0)
-	take := func(one *part.Record) {
-		if one != nil && one.Content != nil && one.Content.Size > most {
-			most = one.Content.Size
+	take := func(record *part.Record) {
+		if record != nil && record.Content != nil && record.Content.Size > most {
+			most = record.Content.Size
 		}
 	}
 	take(line.Own)

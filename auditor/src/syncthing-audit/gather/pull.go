@@ -30,8 +30,8 @@ func pull[T any](read func(take func(T) bool) error) *puller[T] {
 				return false
 			}
 		}
-		made.err = read(func(one T) bool {
-			batch = append(batch, one)
+		made.err = read(func(item T) bool {
+			batch = append(batch, item)
 			return len(batch) < batchLength || send()
 		})
 		if made.err == nil && len(batch) > 0 {

@@ -33,8 +33,8 @@ const beforeIgnored = "ignored "
 
 // Close takes the files away.
 func (g *Glance) Close() {
-	for _, one := range g.Folders {
-		one.Close()
+	for _, file := range g.Folders {
+		file.Close()
 	}
 }
 
@@ -45,12 +45,12 @@ type Writer struct{ to *bufio.Writer }
 func NewWriter(file *os.File) *Writer { return &Writer{bufio.NewWriter(file)} }
 
 // Take writes what was found. Of what .stignore ignores, only directories are to be written.
-func (w *Writer) Take(one disk.Found, isIgnored bool) error {
-	mark := one.Node.Mark()
-	if one.Node == nil {
+func (w *Writer) Take(found disk.Found, isIgnored bool) error {
+	mark := found.Node.Mark()
+	if found.Node == nil {
 		mark = markOfUnread
 	}
-	if out := one.Out; out != nil && out.Kind == part.Damaged {
+	if out := found.Out; out != nil && out.Kind == part.Damaged {
 		mark = beforeDamaged + out.Why
 		if out.Below {
 			mark = beforeDamaged + beforeBelow + out.Why
@@ -59,7 +59,7 @@ func (w *Writer) Take(one disk.Found, isIgnored bool) error {
 	if isIgnored {
 		mark = beforeIgnored + mark
 	}
-	_, err := w.to.WriteString(strconv.Quote(one.Name) + "\n" + strconv.Quote(mark) + "\n")
+	_, err := w.to.WriteString(strconv.Quote(found.Name) + "\n" + strconv.Quote(mark) + "\n")
 	return err
 }
 
@@ -155,36 +155,36 @@ func (c *comparing) name(line part.Line) error {
 			return err
 		}
 	}
-	lost, one := lostOf(mark), line.Name
-	isUnread := mark == markOfUnread && one.Disk == nil && len(one.Out) > 0
+	lost, name := lostOf(mark), line.Name
+	isUnread := mark == markOfUnread && name.Disk == nil && len(name.Out) > 0
 	switch {
-	case one.IsIgnored() || one.IsDamaged() || len(one.Moved) > 0 || isUnread:
+	case name.IsIgnored() || name.IsDamaged() || len(name.Moved) > 0 || isUnread:
 	case lost != nil:
-		made := *one
-		made.Out = append(append([]part.LeftOut(nil), one.Out...), *lost)
+		made := *name
+		made.Out = append(append([]part.LeftOut(nil), name.Out...), *lost)
 		line.Name = &made
-	case one.Disk.Mark() != mark:
-		line.Name = &part.Name{Name: one.Name, Moved: []string{part.MovedDisk}}
+	case name.Disk.Mark() != mark:
+		line.Name = &part.Name{Name: name.Name, Moved: []string{part.MovedDisk}}
 	}
 	return c.sink(line)
 }
 
 // WithoutChanging gives a name that was changing while it was read, or that waits for a scan, as one that moved.
-func WithoutChanging(one *part.Name) *part.Name {
-	if one.IsIgnored() {
-		return one
+func WithoutChanging(name *part.Name) *part.Name {
+	if name.IsIgnored() {
+		return name
 	}
-	for _, out := range one.Out {
+	for _, out := range name.Out {
 		switch {
 		case out.Kind == part.Changing && out.Why == disk.ErrChanged.Error():
-			return &part.Name{Name: one.Name, Moved: []string{part.MovedDisk}}
+			return &part.Name{Name: name.Name, Moved: []string{part.MovedDisk}}
 		case out.Kind == part.Changing:
-			return &part.Name{Name: one.Name, Moved: []string{part.MovedViews}}
+			return &part.Name{Name: name.Name, Moved: []string{part.MovedViews}}
 		case out.Kind == part.Rescan:
-			return &part.Name{Name: one.Name, Moved: []string{part.MovedUnscanned}}
+			return &part.Name{Name: name.Name, Moved: []string{part.MovedUnscanned}}
 		}
 	}
-	return one
+	return name
 }
 
 // lostOf gives what the disk failed to give at the glance, by its mark; nothing where it gave all. Nobody's change does that, so such a name isn't in motion.
@@ -198,9 +198,9 @@ func lostOf(mark string) *part.LeftOut {
 }
 
 // goneOf gives a name that was gone when its turn came.
-func goneOf(one glanced) *part.Name {
-	if lost := lostOf(one.mark); lost != nil {
-		return &part.Name{Name: part.Bytes(one.name), Out: []part.LeftOut{*lost}}
+func goneOf(glanced glanced) *part.Name {
+	if lost := lostOf(glanced.mark); lost != nil {
+		return &part.Name{Name: part.Bytes(glanced.name), Out: []part.LeftOut{*lost}}
 	}
-	return &part.Name{Name: part.Bytes(one.name), Moved: []string{part.MovedDisk}}
+	return &part.Name{Name: part.Bytes(glanced.name), Moved: []string{part.MovedDisk}}
 }

@@ -9,16 +9,16 @@ import (
 
 // hide keeps back a directory that .stignore ignores, and that no index has, until all names are told: a part has a hash in its place. The walk, which
 // knows no index, told it by its name.
-func (s *Stream) hide(one *part.Name) {
-	s.hidden = append(s.hidden, &part.Name{Name: s.hashOf(string(one.Name)), Disk: &part.Node{}, Out: []part.LeftOut{{Kind: part.Ignored, Why: part.WhyIgnored}}})
+func (s *Stream) hide(name *part.Name) {
+	s.hidden = append(s.hidden, &part.Name{Name: s.hashOf(string(name.Name)), Disk: &part.Node{}, Out: []part.LeftOut{{Kind: part.Ignored, Why: part.WhyIgnored}}})
 }
 
 // hasHidden says whether such names are still to be told.
 func (s *Stream) hasHidden() bool {
 	kept := s.hidden[:0:0]
-	for _, one := range s.hidden {
-		if !s.told[one.Name] {
-			kept = append(kept, one)
+	for _, name := range s.hidden {
+		if !s.told[name.Name] {
+			kept = append(kept, name)
 		}
 	}
 	sort.Slice(kept, func(a, b int) bool { return kept[a].Name < kept[b].Name })
@@ -31,8 +31,8 @@ func (s *Stream) nextHidden(names ...*part.Name) *part.Name {
 	if len(s.hidden) == 0 {
 		return nil
 	}
-	for _, one := range names {
-		if one != nil && !shell.IsBehindNames(string(one.Name)) {
+	for _, name := range names {
+		if name != nil && !shell.IsBehindNames(string(name.Name)) {
 			return nil
 		}
 	}
@@ -40,8 +40,8 @@ func (s *Stream) nextHidden(names ...*part.Name) *part.Name {
 		return nil
 	}
 	first := s.hidden[0]
-	for _, one := range names {
-		if one != nil && one.Name < first.Name {
+	for _, name := range names {
+		if name != nil && name.Name < first.Name {
 			return nil
 		}
 	}

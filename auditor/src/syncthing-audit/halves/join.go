@@ -44,9 +44,9 @@ func joinHeads(records, half *part.Head) (*part.Head, error) {
 	wire.Unseen = half.StillUnseen()
 	made.Wire = &wire
 	made.Folders = append([]part.Folder{}, records.Folders...)
-	for _, one := range half.Folders {
-		if records.Folder(one.ID) == nil {
-			return nil, fmt.Errorf("the disks have folder %s, at which the observer didn't look: walk only the folder of the observer's command", shell.Quoted(one.ID))
+	for _, folder := range half.Folders {
+		if records.Folder(folder.ID) == nil {
+			return nil, fmt.Errorf("the disks have folder %s, at which the observer didn't look: walk only the folder of the observer's command", shell.Quoted(folder.ID))
 		}
 	}
 	for place := range made.Folders {
@@ -96,7 +96,7 @@ func (s *Stream) Head() *part.Head { return s.head }
 // Next gives the next line; io.EOF behind the last.
 func (s *Stream) Next() (part.Line, error) {
 	for {
-		one, err := s.wire.Peek()
+		next, err := s.wire.Peek()
 		if err != nil {
 			return part.Line{}, s.checkEnd(err)
 		}
@@ -105,19 +105,19 @@ func (s *Stream) Next() (part.Line, error) {
 			return part.Line{}, fmt.Errorf("its half of the disks: %w", err)
 		}
 		switch {
-		case one.Begin != nil && other.Begin != nil:
+		case next.Begin != nil && other.Begin != nil:
 			s.begin()
-			return s.take(*one), nil
-		case one.End != nil && other.End != nil && !s.hasHidden():
-			return s.take(part.Line{End: s.end(one.End, other.End)}), nil
-		case one.Begin != nil || other.Begin != nil:
+			return s.take(*next), nil
+		case next.End != nil && other.End != nil && !s.hasHidden():
+			return s.take(part.Line{End: s.end(next.End, other.End)}), nil
+		case next.Begin != nil || other.Begin != nil:
 			return part.Line{}, fmt.Errorf("the folders of its two halves don't begin together")
 		}
-		if line := s.nextHidden(one.Name, other.Name); line != nil {
+		if line := s.nextHidden(next.Name, other.Name); line != nil {
 			s.names++
 			return part.Line{Name: line}, nil
 		}
-		if line := s.name(one.Name, other.Name); line != nil {
+		if line := s.name(next.Name, other.Name); line != nil {
 			s.names++
 			return part.Line{Name: line}, nil
 		}
@@ -167,18 +167,18 @@ func (s *Stream) end(wire, disks *part.End) *part.End {
 
 // name takes the lesser of two names, or both where they are one, and gives what is told of it; nothing of what was told already. One of them may be
 // at its end.
-func (s *Stream) name(one, other *part.Name) *part.Name {
+func (s *Stream) name(name, other *part.Name) *part.Name {
 	switch {
-	case other == nil || one != nil && one.Name < other.Name:
+	case other == nil || name != nil && name.Name < other.Name:
 		s.wire.Take()
-		return s.join(one, nil)
-	case one == nil || other.Name < one.Name:
+		return s.join(name, nil)
+	case name == nil || other.Name < name.Name:
 		s.disks.Take()
 		return s.join(nil, other)
 	}
 	s.wire.Take()
 	s.disks.Take()
-	return s.join(one, other)
+	return s.join(name, other)
 }
 
 // join joins what the halves have of a name; one of them may have nothing.

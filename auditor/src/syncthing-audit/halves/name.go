@@ -10,22 +10,22 @@ import (
 
 // byPatterns says of a name that .stignore ignores that it does, or of a new one that nobody knows whether it does. What the observer couldn't know of
 // an invalid record is known then.
-func (s *Stream) byPatterns(one *part.Name, isIndexed bool) *part.Name {
-	name, own := string(one.Name), one.Own
+func (s *Stream) byPatterns(from *part.Name, isIndexed bool) *part.Name {
+	name, own := string(from.Name), from.Own
 	switch {
-	case s.patterns == nil && !isIndexed && len(one.Moved) == 0:
-		one.Out = append(one.Out, part.LeftOut{Kind: part.Unknown, Why: "no scan has taken it, and it isn't known whether .stignore ignores it: " + s.unknown,
-			Bytes: sizeOf(one)})
+	case s.patterns == nil && !isIndexed && len(from.Moved) == 0:
+		from.Out = append(from.Out, part.LeftOut{Kind: part.Unknown, Why: "no scan has taken it, and it isn't known whether .stignore ignores it: " + s.unknown,
+			Bytes: sizeOf(from)})
 	case s.patterns == nil:
-	case s.isIgnored(name, own), s.patterns.IsIgnored(name) && one.Disk == nil && len(one.Moved) == 0: // of the latter the walk doesn't tell what stands there
+	case s.isIgnored(name, own), s.patterns.IsIgnored(name) && from.Disk == nil && len(from.Moved) == 0: // of the latter the walk doesn't tell what stands there
 		s.told[s.hashOf(name)] = isIndexed
-		return &part.Name{Name: one.Name, Own: own, Disk: one.Disk, Out: ignored(one)}
+		return &part.Name{Name: from.Name, Own: own, Disk: from.Disk, Out: ignored(from)}
 	case s.patterns.IsIgnored(name):
 		s.toIgnore.TakeDirectory(name)
-	case own != nil && !own.Deleted && one.Disk != nil:
+	case own != nil && !own.Deleted && from.Disk != nil:
 		s.toIgnore.TakeOther(name)
 	}
-	return one
+	return from
 }
 
 // isIgnored says whether .stignore keeps a name out of the folder, as it does at a device whose own index is read (gather).
@@ -50,32 +50,32 @@ func (s *Stream) hashOf(name string) part.Bytes {
 }
 
 // ignored gives why a name that is ignored is left out: for that alone, and for what else is wrong with its record.
-func ignored(one *part.Name) []part.LeftOut {
+func ignored(name *part.Name) []part.LeftOut {
 	made := []part.LeftOut{}
-	for _, out := range one.Out {
+	for _, out := range name.Out {
 		if out.Kind != part.Unknown && out.Kind != part.Ignored {
 			made = append(made, out)
 		}
 	}
-	return append(made, part.LeftOut{Kind: part.Ignored, Why: part.WhyIgnored, Bytes: sizeOf(one)})
+	return append(made, part.LeftOut{Kind: part.Ignored, Why: part.WhyIgnored, Bytes: sizeOf(name)})
 }
 
 // sizeOf gives the bytes of a name's file on the disk, or as it is recorded.
-func sizeOf(one *part.Name) int64 {
+func sizeOf(name *part.Name) int64 {
 	switch {
-	case one.Disk != nil:
-		return one.Disk.Size
-	case one.Own != nil && one.Own.Content != nil:
-		return one.Own.Content.Size
+	case name.Disk != nil:
+		return name.Disk.Size
+	case name.Own != nil && name.Own.Content != nil:
+		return name.Own.Content.Size
 	}
 	return 0
 }
 
 // fit has what stands on the disk say what it says to Syncthing there: a time that the disk can't keep to the nanosecond, and modes that the system
 // hasn't. The file's content by the blocks of its record comes first.
-func (s *Stream) fit(one *part.Name) {
-	node, own, half := *one.Disk, one.Own, s.head.Half
-	one.Disk = &node
+func (s *Stream) fit(name *part.Name) {
+	node, own, half := *name.Disk, name.Own, s.head.Half
+	name.Disk = &node
 	if half.NoModes && own != nil && own.Permissions != nil {
 		node.Permissions = *own.Permissions
 	}
@@ -83,7 +83,7 @@ func (s *Stream) fit(one *part.Name) {
 		return
 	}
 	if node.Size == own.Content.Size && isCutTo(own, &node, half.Resolution) {
-		one.TakeTime()
+		name.TakeTime()
 	}
 	node.Contents = append([]part.Content{}, node.Contents...)
 	for place, content := range node.Contents {
@@ -94,7 +94,7 @@ func (s *Stream) fit(one *part.Name) {
 	}
 	blocks := part.CountOfBlocks(own.Content.Size, own.Content.BlockSize)
 	if node.Size == own.Content.Size && (blocks > 1 || node.Size > node.Contents[0].BlockSize) {
-		one.Out = append(one.Out, part.LeftOut{Kind: part.Unknown, Bytes: node.Size, Why: fmt.Sprintf("its record has blocks of %d bytes, and the walk of the disks "+
+		name.Out = append(name.Out, part.LeftOut{Kind: part.Unknown, Bytes: node.Size, Why: fmt.Sprintf("its record has blocks of %d bytes, and the walk of the disks "+
 			"cut it into others: have that made anew with --block-size %d", own.Content.BlockSize, own.Content.BlockSize)})
 	}
 }

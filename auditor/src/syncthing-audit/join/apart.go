@@ -7,11 +7,11 @@ import "syncthing-audit/part"
 // device's index and disk say is compared.
 func (f *Folder) split() []*Folder {
 	made := []*Folder{}
-	for _, one := range f.Members {
-		if len(one.About.Sharing) > 0 {
+	for _, member := range f.Members {
+		if len(member.About.Sharing) > 0 {
 			return []*Folder{f}
 		}
-		made = append(made, &Folder{ID: f.ID, Label: one.About.Label, Members: []Member{one}, Own: one.Head.Device})
+		made = append(made, &Folder{ID: f.ID, Label: member.About.Label, Members: []Member{member}, Own: member.Head.Device})
 	}
 	return made
 }
@@ -23,10 +23,10 @@ const ByChance = "default"
 // checkOwn leaves out the devices whose parts are without a folder that others share with nobody, where they may have it: they may share it
 // with those.
 func (p *Plan) checkOwn(folder *Folder) {
-	for _, one := range p.Devices {
-		if folder.Own != "" && one.Head.Folder(folder.ID) == nil && one.mayShare(folder.ID) && !p.IsLeftOut(folder.ID, one.Head.Device) {
-			p.leaveOut(Refusal{part.Unshared, folder.ID, folder.Label, one.Head.Device, one.Head.Name,
-				one.whyWithout(folder.ID) + "; " + folder.Members[0].Label() + " shares it with nobody"})
+	for _, device := range p.Devices {
+		if folder.Own != "" && device.Head.Folder(folder.ID) == nil && device.mayShare(folder.ID) && !p.IsLeftOut(folder.ID, device.Head.Device) {
+			p.leaveOut(Refusal{part.Unshared, folder.ID, folder.Label, device.Head.Device, device.Head.Name,
+				device.whyWithout(folder.ID) + "; " + folder.Members[0].Label() + " shares it with nobody"})
 		}
 	}
 }
@@ -40,15 +40,15 @@ func (p *Plan) IsLeftOut(folder, device string) bool {
 type placeOfFolder struct{ folder, device string }
 
 // leaveOut leaves a folder out at a device, without being asked for.
-func (p *Plan) leaveOut(one Refusal) {
-	p.LeftOut = append(p.LeftOut, one)
-	p.isOut[placeOfFolder{one.Folder, one.Device}] = true
+func (p *Plan) leaveOut(refusal Refusal) {
+	p.LeftOut = append(p.LeftOut, refusal)
+	p.isOut[placeOfFolder{refusal.Folder, refusal.Device}] = true
 }
 
 // mayShare says whether a device may share a folder that its part is without, as far as the part says that.
 func (d *Device) mayShare(folder string) bool {
-	if one := d.Head.Other(folder); one != nil {
-		return len(one.Devices) > 0 || folder != ByChance
+	if other := d.Head.Other(folder); other != nil {
+		return len(other.Devices) > 0 || folder != ByChance
 	}
 	return d.Head.Others == nil
 }
@@ -59,19 +59,19 @@ func (d *Device) mayShare(folder string) bool {
 func (p *Plan) checkApart(folder *Folder) {
 	together := folder.together()
 	kept := []Member{}
-	for _, one := range folder.Members {
-		if together[one.Head.Device] {
-			kept = append(kept, one)
+	for _, member := range folder.Members {
+		if together[member.Head.Device] {
+			kept = append(kept, member)
 		}
 	}
-	for _, one := range folder.Members {
+	for _, member := range folder.Members {
 		switch {
-		case together[one.Head.Device]:
-		case len(one.About.Sharing) == 0:
-			p.leaveOut(Refusal{part.Unshared, folder.ID, folder.Label, one.Head.Device, one.Head.Name,
+		case together[member.Head.Device]:
+		case len(member.About.Sharing) == 0:
+			p.leaveOut(Refusal{part.Unshared, folder.ID, folder.Label, member.Head.Device, member.Head.Name,
 				"it shares its folder of this id with nobody: it is another folder than that of " + kept[0].Label()})
 		default:
-			p.refuse(part.Unshared, folder, one.Head.Device, one.Head.Name, "it doesn't share the folder with "+kept[0].Label()+
+			p.refuse(part.Unshared, folder, member.Head.Device, member.Head.Name, "it doesn't share the folder with "+kept[0].Label()+
 				", not even by way of others: its own is another folder of the same id")
 		}
 	}
@@ -83,12 +83,12 @@ func (p *Plan) checkApart(folder *Folder) {
 func (f *Folder) together() map[string]bool {
 	var best map[string]bool
 	most, seen := 0, map[string]bool{}
-	for _, one := range f.Members {
-		if seen[one.Head.Device] {
+	for _, member := range f.Members {
+		if seen[member.Head.Device] {
 			continue
 		}
 		reached, members := map[string]bool{}, 0
-		f.reach(one.Head.Device, reached)
+		f.reach(member.Head.Device, reached)
 		for _, other := range f.Members {
 			if reached[other.Head.Device] {
 				seen[other.Head.Device] = true
@@ -108,13 +108,13 @@ func (f *Folder) reach(device string, reached map[string]bool) {
 		return
 	}
 	reached[device] = true
-	for _, one := range f.Members {
-		if one.Head.Device == device {
-			for _, other := range one.About.Sharing {
+	for _, member := range f.Members {
+		if member.Head.Device == device {
+			for _, other := range member.About.Sharing {
 				f.reach(other.Device, reached)
 			}
-		} else if sharesWith(one.About, device) {
-			f.reach(one.Head.Device, reached)
+		} else if sharesWith(member.About, device) {
+			f.reach(member.Head.Device, reached)
 		}
 	}
 }

@@ -10,35 +10,35 @@ import (
 // audit refuses that: Syncthing exchanges nothing of it. If other folders are wanted, nobody asked for these.
 func (p *Plan) leaveOutAway(wanted []string) {
 	for _, device := range p.Devices {
-		for _, one := range device.Head.Others {
-			isOut := one.Away != "" || one.Apart != ""
-			if isOut && (len(wanted) == 0 || slices.Contains(wanted, one.ID)) {
-				p.isOut[placeOfFolder{one.ID, device.Head.Device}] = true
+		for _, other := range device.Head.Others {
+			isOut := other.Away != "" || other.Apart != ""
+			if isOut && (len(wanted) == 0 || slices.Contains(wanted, other.ID)) {
+				p.isOut[placeOfFolder{other.ID, device.Head.Device}] = true
 				to := &p.LeftOut
-				if one.IsStopped || one.Apart != "" {
+				if other.IsStopped || other.Apart != "" {
 					to = &p.Refusals
 				}
-				*to = append(*to, Refusal{kindOfAway(one), one.ID, one.Label, device.Head.Device, device.Head.Name, WhyAway(one)})
+				*to = append(*to, Refusal{kindOfAway(other), other.ID, other.Label, device.Head.Device, device.Head.Name, WhyAway(other)})
 			}
 		}
 	}
 }
 
 // kindOfAway gives the kind of what is left out.
-func kindOfAway(one part.Other) string {
-	if one.Apart != "" {
+func kindOfAway(other part.Other) string {
+	if other.Apart != "" {
 		return part.Moment
 	}
 	return part.Absent
 }
 
 // WhyAway says why a device's part hasn't a folder that is away.
-func WhyAway(one part.Other) string {
-	if one.Apart != "" {
-		return one.Apart
+func WhyAway(other part.Other) string {
+	if other.Apart != "" {
+		return other.Apart
 	}
-	if one.IsStopped {
-		return shell.Printable(one.Away) + ": mount its disk, and audit again. Syncthing has stopped the folder there"
+	if other.IsStopped {
+		return shell.Printable(other.Away) + ": mount its disk, and audit again. Syncthing has stopped the folder there"
 	}
-	return "it is paused there, and " + shell.Printable(one.Away) + ": mount its disk, and audit again"
+	return "it is paused there, and " + shell.Printable(other.Away) + ": mount its disk, and audit again"
 }

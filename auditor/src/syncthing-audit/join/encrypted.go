@@ -20,8 +20,8 @@ func (p *Plan) unopened(folder, device string) string {
 func (p *Plan) takeOutEncrypted(folder *Folder) map[string]bool {
 	encrypted := map[string]bool{}
 	opened := map[string]bool{}
-	for _, one := range folder.Members {
-		opened[one.Head.Device] = one.About.IsOpened
+	for _, member := range folder.Members {
+		opened[member.Head.Device] = member.About.IsOpened
 	}
 	takeOut := func(device, name, why string) {
 		if !encrypted[device] && !opened[device] {
@@ -29,18 +29,18 @@ func (p *Plan) takeOutEncrypted(folder *Folder) map[string]bool {
 			p.refuse(part.Encrypted, folder, device, name, why+p.unopened(folder.ID, device))
 		}
 	}
-	for _, one := range folder.Members {
-		if one.About.Kind == part.KindEncrypted {
-			takeOut(one.Head.Device, one.Head.Name, "the folder is encrypted there")
+	for _, member := range folder.Members {
+		if member.About.Kind == part.KindEncrypted {
+			takeOut(member.Head.Device, member.Head.Name, "the folder is encrypted there")
 		}
 	}
-	for _, one := range folder.Members {
-		for _, other := range one.About.Sharing {
+	for _, member := range folder.Members {
+		for _, other := range member.About.Sharing {
 			if other.Encrypted {
-				takeOut(other.Device, other.Name, "the folder is shared encrypted with it by "+one.Label())
+				takeOut(other.Device, other.Name, "the folder is shared encrypted with it by "+member.Label())
 			}
 		}
 	}
-	folder.takeOut(func(one Member) bool { return encrypted[one.Head.Device] })
+	folder.takeOut(func(member Member) bool { return encrypted[member.Head.Device] })
 	return encrypted
 }

@@ -54,8 +54,8 @@ func (f *Folder) Called() string { return shell.Folder(f.ID, f.Label) }
 
 // Member gives the place of a device among a folder's members, or -1.
 func (f *Folder) Member(device string) int {
-	for place, one := range f.Members {
-		if one.Head.Device == device {
+	for place, member := range f.Members {
+		if member.Head.Device == device {
 			return place
 		}
 	}
@@ -77,17 +77,17 @@ func (r *Row) Size() int64 {
 			most = size
 		}
 	}
-	for _, one := range r.At {
-		if one == nil {
+	for _, name := range r.At {
+		if name == nil {
 			continue
 		}
-		if one.Disk != nil {
-			take(one.Disk.Size)
+		if name.Disk != nil {
+			take(name.Disk.Size)
 		}
-		if one.Own != nil && one.Own.Content != nil {
-			take(one.Own.Content.Size)
+		if name.Own != nil && name.Own.Content != nil {
+			take(name.Own.Content.Size)
 		}
-		for _, out := range one.Out {
+		for _, out := range name.Out {
 			take(out.Bytes)
 		}
 	}
@@ -188,8 +188,8 @@ func (d *Device) Called() string {
 // Rows gives the rows of a folder, rising by name, and then how many bytes were hashed. Folders are asked for in the
 // order of their ids.
 func (f *Folder) Rows(take func(*Row) error) (int64, error) {
-	for _, one := range f.Members {
-		if err := one.begin(f.ID); err != nil {
+	for _, member := range f.Members {
+		if err := member.begin(f.ID); err != nil {
 			return 0, err
 		}
 	}
@@ -211,8 +211,8 @@ func (f *Folder) Rows(take func(*Row) error) (int64, error) {
 func (f *Folder) next() (*Row, error) {
 	heads := make([]*part.Name, len(f.Members))
 	var least *part.Bytes
-	for place, one := range f.Members {
-		next, err := one.nextName()
+	for place, member := range f.Members {
+		next, err := member.nextName()
 		if err != nil {
 			return nil, err
 		}
@@ -239,9 +239,9 @@ func (f *Folder) next() (*Row, error) {
 }
 
 // takeTime gives a file the recorded time where the device's Syncthing takes that for the same: no scan there finds it changed.
-func (m *Member) takeTime(one *part.Name) {
-	if m.About.TimeWindow > 0 && len(one.Out) == 0 && len(one.Moved) == 0 && one.HasNearTime(m.About.Window()) {
-		one.TakeTime()
+func (m *Member) takeTime(name *part.Name) {
+	if m.About.TimeWindow > 0 && len(name.Out) == 0 && len(name.Moved) == 0 && name.HasNearTime(m.About.Window()) {
+		name.TakeTime()
 		m.Near++
 	}
 }
@@ -250,12 +250,12 @@ func (m *Member) takeTime(one *part.Name) {
 func (f *Folder) finish() (int64, error) {
 	total := int64(0)
 	for place := range f.Members {
-		one := &f.Members[place]
-		end, err := one.end(one.About)
+		member := &f.Members[place]
+		end, err := member.end(member.About)
 		if err != nil {
 			return 0, err
 		}
-		one.Temporary, one.Linked, one.ToIgnore = end.Temporary, end.Linked, end.ToIgnore
+		member.Temporary, member.Linked, member.ToIgnore = end.Temporary, end.Linked, end.ToIgnore
 		total = part.Sum(total, end.Bytes)
 	}
 	return total, nil

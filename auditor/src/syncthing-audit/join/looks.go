@@ -12,9 +12,9 @@ import (
 // checkLooks says which device was looked at once, where others were twice. An observer looks twice by itself: its parts go with those of devices that
 // are stopped.
 func checkLooks(devices []*Device) error {
-	for place, one := range devices {
+	for place, device := range devices {
 		for _, other := range devices[:place] {
-			if err := checkTwoLooks(one, other); err != nil {
+			if err := checkTwoLooks(device, other); err != nil {
 				return err
 			}
 		}
@@ -23,22 +23,22 @@ func checkLooks(devices []*Device) error {
 }
 
 // checkTwoLooks says why the parts of two devices don't go together by their looks.
-func checkTwoLooks(one, other *Device) error {
-	isOverWire := one.Head.IsOverWire() || other.Head.IsOverWire()
+func checkTwoLooks(device, other *Device) error {
+	isOverWire := device.Head.IsOverWire() || other.Head.IsOverWire()
 	switch {
-	case one.Head.IsOverWire() && other.Head.IsOverWire():
-		if one.Head.Look.ID != other.Head.Look.ID {
-			return fmt.Errorf("refused: %s and %s are of two runs of 'observe', which may be of two moments: observe all in one run", one.From, other.From)
+	case device.Head.IsOverWire() && other.Head.IsOverWire():
+		if device.Head.Look.ID != other.Head.Look.ID {
+			return fmt.Errorf("refused: %s and %s are of two runs of 'observe', which may be of two moments: observe all in one run", device.From, other.From)
 		}
-	case isOverWire && one.Head.Look != nil && other.Head.Look != nil:
+	case isOverWire && device.Head.Look != nil && other.Head.Look != nil:
 		return fmt.Errorf("refused: one of %s and %s is made by two looks at the device itself, and the other one over the wire: observe both, or stop the "+
-			"first device and make its part by 'part'", one.From, other.From)
-	case !isOverWire && (one.Head.Look == nil) != (other.Head.Look == nil):
-		if one.Head.Look == nil {
-			one, other = other, one
+			"first device and make its part by 'part'", device.From, other.From)
+	case !isOverWire && (device.Head.Look == nil) != (other.Head.Look == nil):
+		if device.Head.Look == nil {
+			device, other = other, device
 		}
 		return fmt.Errorf("refused: %s is of two looks, as at a running device, and %s of one: make all parts in the same way",
-			one.From, other.From)
+			device.From, other.From)
 	}
 	return nil
 }
@@ -46,15 +46,15 @@ func checkTwoLooks(one, other *Device) error {
 // outOfOrder gives the members of which one's second look may have begun before another one's first look was over. It can't name that look then.
 func outOfOrder(folder *Folder) []odds {
 	made := []odds{}
-	for _, one := range folder.Members {
+	for _, member := range folder.Members {
 		for _, other := range folder.Members {
-			if one.Head.Look == nil || other.Head.Look == nil || one.Head.Look.After[other.Head.Device] == other.Head.Look.ID {
+			if member.Head.Look == nil || other.Head.Look == nil || member.Head.Look.After[other.Head.Device] == other.Head.Look.ID {
 				continue
 			}
-			made = append(made, odds{one.Head.Device, other.Head.Device,
+			made = append(made, odds{member.Head.Device, other.Head.Device,
 				"its second look has no token of the first look of " + other.Label() +
 					", so it may have begun before that was over: make the second look of this one anew, with the tokens of all",
-				"the second look of " + one.Label() + " has no token of its first look, so that one may have begun before this one was over: make the second look " +
+				"the second look of " + member.Label() + " has no token of its first look, so that one may have begun before this one was over: make the second look " +
 					"of that one anew, with the tokens of all"})
 		}
 	}
@@ -66,14 +66,14 @@ var ErrClocks = errors.New("by the devices' clocks the second looks began before
 
 // IsLive says whether the folder was audited by two looks at each device that ran.
 func (f *Folder) IsLive() bool {
-	return slices.IndexFunc(f.Members, func(one Member) bool { return one.Head.Look != nil }) >= 0
+	return slices.IndexFunc(f.Members, func(member Member) bool { return member.Head.Look != nil }) >= 0
 }
 
 // Still gives how long it was between the last first look and the first second one, by the devices' clocks.
 func (f *Folder) Still() (time.Duration, error) {
 	var last, first time.Time
-	for _, one := range f.Members {
-		look := one.Head.Look
+	for _, member := range f.Members {
+		look := member.Head.Look
 		if look == nil {
 			continue
 		}
@@ -95,8 +95,8 @@ func (r *Row) IsMoving() bool {
 	if len(r.Later) > 0 {
 		return true
 	}
-	for _, one := range r.At {
-		if one != nil && len(one.Moved) > 0 {
+	for _, name := range r.At {
+		if name != nil && len(name.Moved) > 0 {
 			return true
 		}
 	}
@@ -130,9 +130,9 @@ func (r *Row) seen(member, view int) *part.Record {
 	if r.At[member] == nil {
 		return nil
 	}
-	for _, one := range r.At[member].Views {
-		if one.View == view {
-			return one.Record
+	for _, seen := range r.At[member].Views {
+		if seen.View == view {
+			return seen.Record
 		}
 	}
 	return nil

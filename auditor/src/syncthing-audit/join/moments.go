@@ -14,7 +14,7 @@ func (p *Plan) checkMoments(folder *Folder) {
 	for knower := range folder.Members {
 		p.checkMomentsOf(folder, &folder.Members[knower])
 	}
-	folder.takeOut(func(one Member) bool { return folder.isEarlierThanWire[one.Head.Device] })
+	folder.takeOut(func(member Member) bool { return folder.isEarlierThanWire[member.Head.Device] })
 }
 
 // checkMomentsOf finds of which devices a member knows later changes than their parts have.

@@ -75,8 +75,8 @@ func NewPlanWithout(unreached map[string]string, devices []*Device, wanted []str
 func (p *Plan) places() map[placeOfFolder]bool {
 	made := map[placeOfFolder]bool{}
 	for _, folder := range p.Folders {
-		for _, one := range folder.Members {
-			made[placeOfFolder{folder.ID, one.Head.Device}] = true
+		for _, member := range folder.Members {
+			made[placeOfFolder{folder.ID, member.Head.Device}] = true
 		}
 	}
 	return made
@@ -85,16 +85,16 @@ func (p *Plan) places() map[placeOfFolder]bool {
 // checkDevices says whether two parts are one device's, or were made with other names.
 func checkDevices(devices []*Device) error {
 	for place := 1; place < len(devices); place++ {
-		one, other := devices[place-1], devices[place]
-		if one.Head.Device == other.Head.Device {
-			return fmt.Errorf("refused: %s and %s are both of %s: give one of them", one.From, other.From, one.Label())
+		device, other := devices[place-1], devices[place]
+		if device.Head.Device == other.Head.Device {
+			return fmt.Errorf("refused: %s and %s are both of %s: give one of them", device.From, other.From, device.Label())
 		}
-		if one.Number == other.Number {
-			return fmt.Errorf("refused: %s and %s are of one device number, %d", one.From, other.From, one.Number)
+		if device.Number == other.Number {
+			return fmt.Errorf("refused: %s and %s are of one device number, %d", device.From, other.From, device.Number)
 		}
-		if one.Head.Names != other.Head.Names {
+		if device.Head.Names != other.Head.Names {
 			return fmt.Errorf("refused: %s has %s, and %s has %s: make all parts with the same %s",
-				one.From, one.Head.Names.Words(), other.From, other.Head.Names.Words(), one.Head.Unlike(other.Head.Names))
+				device.From, device.Head.Names.Words(), other.From, other.Head.Names.Words(), device.Head.Unlike(other.Head.Names))
 		}
 	}
 	return nil
@@ -104,9 +104,9 @@ func checkDevices(devices []*Device) error {
 func chosen(devices []*Device, wanted []string) ([]string, error) {
 	there := map[string]string{}
 	for _, device := range devices {
-		for _, one := range device.Head.Folders {
-			if there[one.ID] == "" {
-				there[one.ID] = one.Label
+		for _, folder := range device.Head.Folders {
+			if there[folder.ID] == "" {
+				there[folder.ID] = folder.Label
 			}
 		}
 	}
@@ -172,9 +172,9 @@ func (p *Plan) checkWhole(folder *Folder) {
 
 // device gives the device with this id, if a part of it is here.
 func (p *Plan) device(id string) *Device {
-	for _, one := range p.Devices {
-		if one.Head.Device == id {
-			return one
+	for _, device := range p.Devices {
+		if device.Head.Device == id {
+			return device
 		}
 	}
 	return nil
@@ -196,8 +196,8 @@ func (d *Device) whyWithout(folder string) string {
 
 // sharesWith says whether a folder is shared with this device.
 func sharesWith(about *part.Folder, device string) bool {
-	for _, one := range about.Sharing {
-		if one.Device == device {
+	for _, sharing := range about.Sharing {
+		if sharing.Device == device {
 			return true
 		}
 	}
@@ -225,13 +225,13 @@ func checkDirectories(folders []*Folder) error {
 	}
 	seen := map[string]owner{}
 	for _, folder := range folders {
-		for _, one := range folder.Members {
-			other, taken := seen[one.About.Directory]
-			if taken && other.Head.Device != one.Head.Device {
+		for _, member := range folder.Members {
+			other, taken := seen[member.About.Directory]
+			if taken && other.Head.Device != member.Head.Device {
 				return fmt.Errorf("refused: folder %s, %s: its directory%s is that of %s for folder %s, too. A copied home's "+
-					"config.xml is to name the directory of the copied folder", folder.Called(), one.Label(), behind(one.About.Path), other.Label(), other.folder)
+					"config.xml is to name the directory of the copied folder", folder.Called(), member.Label(), behind(member.About.Path), other.Label(), other.folder)
 			}
-			seen[one.About.Directory] = owner{one, folder.Called()}
+			seen[member.About.Directory] = owner{member, folder.Called()}
 		}
 	}
 	return nil

@@ -6,11 +6,11 @@ import (
 )
 
 // takeOut takes members out of a folder.
-func (f *Folder) takeOut(is func(one Member) bool) {
+func (f *Folder) takeOut(is func(member Member) bool) {
 	kept := []Member{}
-	for _, one := range f.Members {
-		if !is(one) {
-			kept = append(kept, one)
+	for _, member := range f.Members {
+		if !is(member) {
+			kept = append(kept, member)
 		}
 	}
 	f.Members = kept
@@ -27,9 +27,9 @@ type odds struct {
 func (p *Plan) partBy(kind string, folder *Folder, oddsOf func(*Folder) []odds) {
 	for all := oddsOf(folder); len(all) > 0; all = oddsOf(folder) {
 		count := map[string]int{}
-		for _, one := range all {
-			count[one.one]++
-			count[one.other]++
+		for _, odds := range all {
+			count[odds.one]++
+			count[odds.other]++
 		}
 		out := all[0].one
 		for _, pair := range all {
@@ -45,7 +45,7 @@ func (p *Plan) partBy(kind string, folder *Folder, oddsOf func(*Folder) []odds) 
 			why = all[at].whyOne
 		}
 		p.refuse(kind, folder, out, p.device(out).Head.Name, why)
-		folder.takeOut(func(one Member) bool { return one.Head.Device == out })
+		folder.takeOut(func(member Member) bool { return member.Head.Device == out })
 	}
 }
 
@@ -63,11 +63,11 @@ func (f *Folder) links(device string) int {
 // oneWay gives the members of which one shares the folder with another that doesn't share it back.
 func oneWay(folder *Folder) []odds {
 	made := []odds{}
-	for _, one := range folder.Members {
+	for _, member := range folder.Members {
 		for _, other := range folder.Members {
-			if sharesWith(one.About, other.Head.Device) && !sharesWith(other.About, one.Head.Device) && one.Device != other.Device {
-				made = append(made, odds{other.Head.Device, one.Head.Device,
-					"it doesn't share the folder with " + one.Label() + ", which shares it with this one",
+			if sharesWith(member.About, other.Head.Device) && !sharesWith(other.About, member.Head.Device) && member.Device != other.Device {
+				made = append(made, odds{other.Head.Device, member.Head.Device,
+					"it doesn't share the folder with " + member.Label() + ", which shares it with this one",
 					"it shares the folder with " + other.Label() + ", which doesn't share it with this one"})
 			}
 		}
@@ -86,14 +86,14 @@ func (p *Plan) whyAbsent(device string) string {
 // checkSharing leaves out the devices without a part, those whose parts are without the folder, and those that one device shares it with and that don't
 // share it back. Of those on which it is encrypted, and of those that are left out already, it says nothing.
 func (p *Plan) checkSharing(folder *Folder, told map[string]bool) {
-	for _, one := range folder.Members {
-		for _, other := range one.About.Sharing {
+	for _, member := range folder.Members {
+		for _, other := range member.About.Sharing {
 			if folder.Member(other.Device) >= 0 || told[other.Device] || p.IsLeftOut(folder.ID, other.Device) {
 				continue
 			}
 			told[other.Device] = true
 			if here := p.device(other.Device); here != nil {
-				p.refuse(here.kindWithout(folder.ID), folder, other.Device, other.Name, here.whyWithout(folder.ID)+"; "+one.Label()+" shares it with this one")
+				p.refuse(here.kindWithout(folder.ID), folder, other.Device, other.Name, here.whyWithout(folder.ID)+"; "+member.Label()+" shares it with this one")
 			} else {
 				p.refuse(part.Absent, folder, other.Device, other.Name, p.whyAbsent(other.Device))
 			}

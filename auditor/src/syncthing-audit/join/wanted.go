@@ -26,8 +26,8 @@ func CheckWanted(labels map[string]string, wanted []string) error {
 // idsWith gives the ids of the folders with this label, rising.
 func idsWith(labels map[string]string, label string) []string {
 	made := []string{}
-	for id, one := range labels {
-		if one == label {
+	for id, called := range labels {
+		if called == label {
 			made = append(made, shell.Quoted(id))
 		}
 	}

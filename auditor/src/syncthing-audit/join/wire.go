@@ -69,22 +69,22 @@ func (m *Member) namedByOthers(name string) *part.Name {
 
 // fillDisk gives a name of what isn't seen of its disk what is recorded there. What is seen and isn't as recorded waits for a scan, as at each device
 // that is looked at while it runs.
-func (m *Member) fillDisk(one *part.Name) {
-	own := one.Own
-	if len(one.Out)+len(one.Moved) > 0 {
+func (m *Member) fillDisk(name *part.Name) {
+	own := name.Own
+	if len(name.Out)+len(name.Moved) > 0 {
 		return
 	}
-	if own != nil && !own.Deleted && one.Disk == nil && (own.Content == nil || m.Head.IsOfRecords() || one.NotRead) {
-		one.Disk = m.asRecorded(own)
-	} else if own != nil && own.Content != nil && one.Disk != nil {
-		disk := *one.Disk
+	if own != nil && !own.Deleted && name.Disk == nil && (own.Content == nil || m.Head.IsOfRecords() || name.NotRead) {
+		name.Disk = m.asRecorded(own)
+	} else if own != nil && own.Content != nil && name.Disk != nil {
+		disk := *name.Disk
 		disk.ModifiedS, disk.ModifiedNs, disk.Permissions = own.ModifiedS, own.ModifiedNs, permissionsOf(own)
-		one.Disk = &disk
+		name.Disk = &disk
 	}
-	if !one.IsAsRecorded(0) {
-		waits := *one
+	if !name.IsAsRecorded(0) {
+		waits := *name
 		waits.Views = nil
-		*one = part.Name{Name: one.Name, Moved: []string{part.MovedUnscanned}, Waits: &waits}
+		*name = part.Name{Name: name.Name, Moved: []string{part.MovedUnscanned}, Waits: &waits}
 	}
 }
 
@@ -142,12 +142,12 @@ func (d *Device) whyUnseen(folder string) string {
 // observers gives the devices that made parts over the wire. They share the folders, and keep none of their files.
 func observers(devices []*Device, known []string) map[string]bool {
 	made := map[string]bool{}
-	for _, one := range known {
-		made[one] = true
+	for _, id := range known {
+		made[id] = true
 	}
-	for _, one := range devices {
-		if one.Head.Wire != nil {
-			made[one.Head.Wire.Observer] = true
+	for _, device := range devices {
+		if device.Head.Wire != nil {
+			made[device.Head.Wire.Observer] = true
 		}
 	}
 	return made
@@ -191,9 +191,9 @@ func without(devices []string, out map[string]bool) []string {
 		return devices
 	}
 	made := []string{}
-	for _, one := range devices {
-		if !out[one] {
-			made = append(made, one)
+	for _, device := range devices {
+		if !out[device] {
+			made = append(made, device)
 		}
 	}
 	return made

@@ -103,15 +103,15 @@ func removeWhole(path string) error {
 // into another one is told by an error.
 func WatchSignals() {
 	told := make(chan os.Signal, 1)
-	for _, one := range []os.Signal{syscall.SIGINT, syscall.SIGTERM, syscall.SIGHUP, syscall.SIGPIPE} {
-		if !signal.Ignored(one) {
-			signal.Notify(told, one)
+	for _, kind := range []os.Signal{syscall.SIGINT, syscall.SIGTERM, syscall.SIGHUP, syscall.SIGPIPE} {
+		if !signal.Ignored(kind) {
+			signal.Notify(told, kind)
 		}
 	}
 	go func() {
-		for one := range told {
-			if one != syscall.SIGPIPE || isUnread(syscall.Stderr) {
-				End(one.(syscall.Signal))
+		for signal := range told {
+			if signal != syscall.SIGPIPE || isUnread(syscall.Stderr) {
+				End(signal.(syscall.Signal))
 			}
 		}
 	}()
@@ -133,8 +133,8 @@ func End(number syscall.Signal) {
 // removeAll takes all away, and ends what runs. It keeps the lock, so that nothing is made any more.
 func removeAll() {
 	mutex.Lock()
-	for one := range processes {
-		one.Kill()
+	for process := range processes {
+		process.Kill()
 	}
 	removeUntilGone(paths)
 	removeMade()

@@ -78,9 +78,9 @@ func isAt(file *os.File, path string) bool {
 // sweep takes away what killed runs of this user left in a directory: what has such a name, and a lock that is free.
 func sweep(directory, prefix string) {
 	entries, _ := os.ReadDir(directory) // where it can't be read, nothing is taken away
-	for _, one := range entries {
-		if strings.HasPrefix(one.Name(), prefix) {
-			sweepOne(filepath.Join(directory, one.Name()))
+	for _, entry := range entries {
+		if strings.HasPrefix(entry.Name(), prefix) {
+			sweepOne(filepath.Join(directory, entry.Name()))
 		}
 	}
 }

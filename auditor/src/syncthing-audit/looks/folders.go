@@ -13,13 +13,13 @@ var errOtherFolders = errors.New("its two looks are at other folders: make both 
 // joinFolders joins what the heads of two looks say of each folder. One that one look is without, or whose looks don't go together, is told as one that
 // the device hasn't here, with why.
 func (s *Stream) joinFolders() {
-	one, other := s.first.Head(), s.second.Head()
+	head, other := s.first.Head(), s.second.Head()
 	s.head.Folders, s.kept = []part.Folder{}, map[string]bool{}
 	if s.head.Others != nil { // an older program's part doesn't tell which others there are
 		s.head.Others = append([]part.Other{}, s.head.Others...)
 	}
-	for place := range one.Folders {
-		folder := &one.Folders[place]
+	for place := range head.Folders {
+		folder := &head.Folders[place]
 		second := other.Folder(folder.ID)
 		if second == nil {
 			s.lack(folder, other, errOtherFolders)
@@ -31,8 +31,8 @@ func (s *Stream) joinFolders() {
 		}
 	}
 	for place := range other.Folders {
-		if folder := &other.Folders[place]; one.Folder(folder.ID) == nil {
-			s.lack(folder, one, errOtherFolders)
+		if folder := &other.Folders[place]; head.Folder(folder.ID) == nil {
+			s.lack(folder, head, errOtherFolders)
 		}
 	}
 	sort.SliceStable(s.head.Others, func(a, b int) bool { return s.head.Others[a].ID < s.head.Others[b].ID })
@@ -44,8 +44,8 @@ func (s *Stream) lack(folder *part.Folder, other *part.Head, why error) {
 	if away := other.Other(folder.ID); away != nil && away.Away != "" {
 		made = *away
 	}
-	for _, one := range folder.Sharing {
-		made.Devices = append(made.Devices, one.Device)
+	for _, sharing := range folder.Sharing {
+		made.Devices = append(made.Devices, sharing.Device)
 	}
 	for place := range s.head.Others {
 		if s.head.Others[place].ID == folder.ID {

@@ -49,20 +49,20 @@ func Join(first, second part.Stream) (*Stream, error) {
 
 // joinFolder joins what the heads of two looks say of a folder. Its own greatest sequence is that of the second look. The
 // greatest sequences of its views are of both.
-func joinFolder(one, other *part.Folder) (*part.Folder, error) {
+func joinFolder(folder, other *part.Folder) (*part.Folder, error) {
 	switch {
-	case one.IndexID != other.IndexID:
+	case folder.IndexID != other.IndexID:
 		return nil, errors.New("its index was made anew between the two looks: begin again")
-	case one.Max > other.Max:
-		return nil, fmt.Errorf("its index went back from change %d to %d between the two looks: begin again", one.Max, other.Max)
-	case one.Directory != other.Directory || one.Kind != other.Kind || one.IgnoresPermissions != other.IgnoresPermissions ||
-		one.ScansAttributes != other.ScansAttributes || one.TimeWindow != other.TimeWindow ||
-		!reflect.DeepEqual(one.Sharing, other.Sharing):
+	case folder.Max > other.Max:
+		return nil, fmt.Errorf("its index went back from change %d to %d between the two looks: begin again", folder.Max, other.Max)
+	case folder.Directory != other.Directory || folder.Kind != other.Kind || folder.IgnoresPermissions != other.IgnoresPermissions ||
+		folder.ScansAttributes != other.ScansAttributes || folder.TimeWindow != other.TimeWindow ||
+		!reflect.DeepEqual(folder.Sharing, other.Sharing):
 		return nil, errors.New("its configuration changed between the two looks: begin again")
 	}
-	made := *one
+	made := *folder
 	made.Max, made.Paused, made.PausedDevices, made.Rest = other.Max, other.Paused, other.PausedDevices, other.Rest
-	made.Views = append([]part.View{}, one.Views...)
+	made.Views = append([]part.View{}, folder.Views...)
 	for _, view := range other.Views {
 		at := slices.IndexFunc(made.Views, func(had part.View) bool { return had.Device == view.Device })
 		if at < 0 {
@@ -81,7 +81,7 @@ func (s *Stream) Head() *part.Head { return s.head }
 
 // Next gives the next line; io.EOF behind the last.
 func (s *Stream) Next() (part.Line, error) {
-	one, err := s.first.next(s.kept)
+	line, err := s.first.next(s.kept)
 	if err == io.EOF {
 		if _, left := s.second.next(s.kept); left != io.EOF {
 			return part.Line{}, fmt.Errorf("its second look goes on where the first one ends: %v", left)
@@ -95,19 +95,19 @@ func (s *Stream) Next() (part.Line, error) {
 		return part.Line{}, fmt.Errorf("its second look: %w", err)
 	}
 	switch {
-	case one.Begin != nil && other.Begin != nil:
+	case line.Begin != nil && other.Begin != nil:
 		s.folder++
 		s.names = 0
-		return s.take(*one), nil
-	case one.End != nil && other.End != nil:
-		end := *one.End
+		return s.take(*line), nil
+	case line.End != nil && other.End != nil:
+		end := *line.End
 		end.Names, end.Max, end.Temporary, end.Linked, end.ToIgnore = s.names, other.End.Max, other.End.Temporary, other.End.Linked, other.End.ToIgnore
 		return s.take(part.Line{End: &end}), nil
-	case one.Begin != nil || other.Begin != nil:
+	case line.Begin != nil || other.Begin != nil:
 		return part.Line{}, fmt.Errorf("the folders of its two looks don't begin together")
 	}
 	s.names++
-	return s.name(one.Name, other.Name), nil
+	return s.name(line.Name, other.Name), nil
 }
 
 // take takes the lines of both looks.
@@ -118,36 +118,36 @@ func (s *Stream) take(line part.Line) part.Line {
 }
 
 // name gives the lesser of two names, or joins what both looks say of one name. One of them may be at its end.
-func (s *Stream) name(one, other *part.Name) part.Line {
+func (s *Stream) name(name, other *part.Name) part.Line {
 	switch {
-	case other == nil || one != nil && one.Name < other.Name:
+	case other == nil || name != nil && name.Name < other.Name:
 		s.first.Take()
-		return part.Line{Name: onlyOnce(one)}
-	case one == nil || other.Name < one.Name:
+		return part.Line{Name: onlyOnce(name)}
+	case name == nil || other.Name < name.Name:
 		s.second.Take()
 		return part.Line{Name: onlyOnce(other)}
 	}
-	return s.take(part.Line{Name: s.both(one, other)})
+	return s.take(part.Line{Name: s.both(name, other)})
 }
 
 // onlyOnce gives a name that one look has alone. A name that .stignore keeps out is none of the folder's.
-func onlyOnce(one *part.Name) *part.Name {
-	if one.IsIgnored() {
-		return &part.Name{Name: one.Name, Disk: one.Disk, Out: one.Out}
+func onlyOnce(name *part.Name) *part.Name {
+	if name.IsIgnored() {
+		return &part.Name{Name: name.Name, Disk: name.Disk, Out: name.Out}
 	}
-	if lost := lostBy(one); len(lost) > 0 {
-		return &part.Name{Name: one.Name, Out: lost}
+	if lost := lostBy(name); len(lost) > 0 {
+		return &part.Name{Name: name.Name, Out: lost}
 	}
-	made := &part.Name{Name: one.Name, Moved: one.Moved}
+	made := &part.Name{Name: name.Name, Moved: name.Moved}
 	add := func(is bool, why string) {
 		if is && !slices.Contains(made.Moved, why) {
 			made.Moved = append(made.Moved, why)
 		}
 	}
-	add(one.Own != nil, part.MovedRecord)
-	add(len(one.Views) > 0, part.MovedViews)
-	add(one.Receiving != "", part.MovedReceiving)
-	add(one.Disk != nil || len(made.Moved) == 0, part.MovedDisk)
+	add(name.Own != nil, part.MovedRecord)
+	add(len(name.Views) > 0, part.MovedViews)
+	add(name.Receiving != "", part.MovedReceiving)
+	add(name.Disk != nil || len(made.Moved) == 0, part.MovedDisk)
 	return made
 }
 
@@ -163,18 +163,18 @@ func lostBy(name *part.Name) []part.LeftOut {
 }
 
 // both gives a name that both looks have: as it is where it is still, or what changed.
-func (s *Stream) both(one, other *part.Name) *part.Name {
-	if one.IsIgnored() && other.IsIgnored() {
-		return s.still(one)
+func (s *Stream) both(name, other *part.Name) *part.Name {
+	if name.IsIgnored() && other.IsIgnored() {
+		return s.still(name)
 	}
-	if first, second := lostBy(one), lostBy(other); len(first)+len(second) > 0 {
-		made := s.still(one)
-		if made.Moved = nil; !one.IsDamaged() {
-			made.Out = append(append([]part.LeftOut(nil), one.Out...), second...)
+	if first, second := lostBy(name), lostBy(other); len(first)+len(second) > 0 {
+		made := s.still(name)
+		if made.Moved = nil; !name.IsDamaged() {
+			made.Out = append(append([]part.LeftOut(nil), name.Out...), second...)
 		}
 		return made
 	}
-	moved := append([]string(nil), one.Moved...)
+	moved := append([]string(nil), name.Moved...)
 	add := func(is bool, why string) {
 		if is && !slices.Contains(moved, why) {
 			moved = append(moved, why)
@@ -184,23 +184,23 @@ func (s *Stream) both(one, other *part.Name) *part.Name {
 		add(true, why)
 	}
 	if len(moved) == 0 {
-		sameDisk := one.Disk.Mark() == other.Disk.Mark()
-		add(!reflect.DeepEqual(one.Own, other.Own), part.MovedRecord)
-		add(!reflect.DeepEqual(s.first.viewsOf(one, s.head.Folders[s.folder].ID), s.second.viewsOf(other, s.head.Folders[s.folder].ID)), part.MovedViews)
-		add(one.Receiving != other.Receiving, part.MovedReceiving)
-		add(!sameDisk || !isOutAlike(one, other), part.MovedDisk)
-		add(len(one.Out) == 0 && sameDisk && !one.IsAsRecorded(s.head.Folders[s.folder].Window()), part.MovedUnscanned)
+		sameDisk := name.Disk.Mark() == other.Disk.Mark()
+		add(!reflect.DeepEqual(name.Own, other.Own), part.MovedRecord)
+		add(!reflect.DeepEqual(s.first.viewsOf(name, s.head.Folders[s.folder].ID), s.second.viewsOf(other, s.head.Folders[s.folder].ID)), part.MovedViews)
+		add(name.Receiving != other.Receiving, part.MovedReceiving)
+		add(!sameDisk || !isOutAlike(name, other), part.MovedDisk)
+		add(len(name.Out) == 0 && sameDisk && !name.IsAsRecorded(s.head.Folders[s.folder].Window()), part.MovedUnscanned)
 	}
 	if len(moved) > 0 {
-		return &part.Name{Name: one.Name, Moved: moved, Waits: s.waiting(one, other)}
+		return &part.Name{Name: name.Name, Moved: moved, Waits: s.waiting(name, other)}
 	}
-	return s.still(one)
+	return s.still(name)
 }
 
 // waiting gives the record and the disk of a name whose disk is the same at both looks, and isn't as the last record says. It gives nothing of others.
-func (s *Stream) waiting(one, other *part.Name) *part.Name {
-	made := s.still(&part.Name{Name: one.Name, Own: other.Own, Disk: one.Disk})
-	isKnown := len(one.Moved)+len(other.Moved)+len(one.Out)+len(other.Out) == 0 && one.Disk.Mark() == other.Disk.Mark()
+func (s *Stream) waiting(name, other *part.Name) *part.Name {
+	made := s.still(&part.Name{Name: name.Name, Own: other.Own, Disk: name.Disk})
+	isKnown := len(name.Moved)+len(other.Moved)+len(name.Out)+len(other.Out) == 0 && name.Disk.Mark() == other.Disk.Mark()
 	if !isKnown || made.IsAsRecorded(s.head.Folders[s.folder].Window()) {
 		return nil
 	}
@@ -208,8 +208,8 @@ func (s *Stream) waiting(one, other *part.Name) *part.Name {
 }
 
 // still gives a name of the first look as both looks have it.
-func (s *Stream) still(one *part.Name) *part.Name {
-	made := *one
+func (s *Stream) still(name *part.Name) *part.Name {
+	made := *name
 	made.Receiving = ""
 	if made.Disk != nil {
 		node := *made.Disk
@@ -226,9 +226,9 @@ type seen struct {
 }
 
 // viewsOf gives the records of a name's views, by device.
-func (r *reading) viewsOf(one *part.Name, folder string) map[string]seen {
+func (r *reading) viewsOf(name *part.Name, folder string) map[string]seen {
 	made := map[string]seen{}
-	for _, view := range one.Views {
+	for _, view := range name.Views {
 		of := r.Head().Folder(folder).Views[view.View]
 		made[of.Device] = seen{of.IndexID, *view.Record}
 	}
@@ -237,7 +237,7 @@ func (r *reading) viewsOf(one *part.Name, folder string) map[string]seen {
 
 // isOutAlike says whether both looks leave a name out for the same reasons. Only the first one reads files, so what can't
 // be read is told by it alone.
-func isOutAlike(one, other *part.Name) bool {
+func isOutAlike(name, other *part.Name) bool {
 	reasons := func(of *part.Name) [][2]string {
 		made := [][2]string{}
 		for _, out := range of.Out {
@@ -247,5 +247,5 @@ func isOutAlike(one, other *part.Name) bool {
 		}
 		return made
 	}
-	return reflect.DeepEqual(reasons(one), reasons(other))
+	return reflect.DeepEqual(reasons(name), reasons(other))
 }

@@ -13,8 +13,8 @@ const fewHands = 4
 func (p *planner) planAlike(group *forecast.World, hands []hand, lost map[forecast.Content]bool) map[int]*Plan {
 	for _, way := range []func(*forecast.World, advice.Goal) []advice.Step{touches, copies} {
 		world, steps := group.Copied(), make([][]advice.Step, len(hands))
-		for at, one := range hands {
-			steps[at] = way(&world, one.goal)
+		for at, hand := range hands {
+			steps[at] = way(&world, hand.goal)
 			for _, step := range steps[at] {
 				step.On(&world, p.search.Present)
 			}
@@ -33,8 +33,8 @@ func (p *planner) checked(group *forecast.World, hands []hand, steps [][]advice.
 		all = append(all, some...)
 	}
 	var goals []advice.Goal
-	for _, one := range hands {
-		goals = append(goals, one.goal)
+	for _, hand := range hands {
+		goals = append(goals, hand.goal)
 	}
 	found, _ := p.search.Together(group.Copied(), goals, all)
 	if found == nil {
@@ -45,10 +45,10 @@ func (p *planner) checked(group *forecast.World, hands []hand, steps [][]advice.
 		return nil
 	}
 	made := map[int]*Plan{}
-	for at, one := range hands {
+	for at, hand := range hands {
 		mine := *found
 		mine.Steps = steps[at]
-		made[one.place] = planOf(group, one, &mine, p.damage)
+		made[hand.place] = planOf(group, hand, &mine, p.damage)
 	}
 	saveRotten(made, rotten)
 	return made

@@ -108,12 +108,12 @@ func (j *judge) wayOf(name *forecast.Name, thing *Thing) way {
 	}
 	for _, own := range name.Own {
 		isKept := own != nil && own.Flag == forecast.Valid && !isOf(own, thing) && (own.Deleted || !isEmptied(own, thing) && j.survives(name.Name, thingOfRecord(own)))
-		if isKept && areAll(of, func(one *forecast.Record) bool { return one.IsBelow(own) }) {
+		if isKept && areAll(of, func(record *forecast.Record) bool { return record.IsBelow(own) }) {
 			return byRecord
 		}
 	}
 	for i, own := range name.Own {
-		if own != nil && own.Flag == forecast.Valid && showsChange(own, name.Disk[i]) && !j.looksDamaged(name.Name, i) && areAll(of, func(one *forecast.Record) bool { return one.IsAtMost(own) }) {
+		if own != nil && own.Flag == forecast.Valid && showsChange(own, name.Disk[i]) && !j.looksDamaged(name.Name, i) && areAll(of, func(record *forecast.Record) bool { return record.IsAtMost(own) }) {
 			return byUnscanned
 		}
 	}
@@ -127,8 +127,8 @@ func (j *judge) looksDamaged(name string, member int) bool {
 }
 
 func areAll(records []*forecast.Record, is func(*forecast.Record) bool) bool {
-	for _, one := range records {
-		if !is(one) {
+	for _, record := range records {
+		if !is(record) {
 			return false
 		}
 	}

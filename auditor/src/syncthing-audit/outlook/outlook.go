@@ -130,11 +130,11 @@ type toldGroup struct {
 // plan finds plans, first for few names that hang together: one search of many may take all that a budget has.
 func (t *teller) plan() {
 	sort.SliceStable(t.groups, func(a, b int) bool { return len(t.groups[a].names) < len(t.groups[b].names) })
-	for _, one := range t.groups {
-		t.planner.plan(&one.group, one.names, t.rows.Damage)
-		for place := range one.names {
-			if name := &one.group.Names[place]; !t.rows.Calm[name.Name] || !one.judge.staysAsItIs(name, &one.names[place]) {
-				t.add(one.names[place])
+	for _, group := range t.groups {
+		t.planner.plan(&group.group, group.names, t.rows.Damage)
+		for place := range group.names {
+			if name := &group.group.Names[place]; !t.rows.Calm[name.Name] || !group.judge.staysAsItIs(name, &group.names[place]) {
+				t.add(group.names[place])
 			}
 		}
 	}

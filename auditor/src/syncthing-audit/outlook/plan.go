@@ -107,18 +107,18 @@ func (p *planner) planAll(group *forecast.World, world forecast.World, goals []a
 		}
 	}
 	plans, saved := map[int]*Plan{}, []rottenAt{}
-	for _, one := range hands {
-		found := p.find(&world, one.goal)
+	for _, next := range hands {
+		found := p.find(&world, next.goal)
 		if found == nil {
 			continue
 		}
-		rotten, isLoss := losesOthers(group, []hand{one}, found.Lost, lost)
+		rotten, isLoss := losesOthers(group, []hand{next}, found.Lost, lost)
 		if isLoss {
 			continue
 		}
-		plans[one.place] = planOf(group, one, found, p.damage)
+		plans[next.place] = planOf(group, next, found, p.damage)
 		saved = append(saved, rotten...)
-		goals = append(goals, one.goal)
+		goals = append(goals, next.goal)
 		for _, step := range found.Steps {
 			step.On(&world, p.search.Present)
 		}
@@ -128,9 +128,9 @@ func (p *planner) planAll(group *forecast.World, world forecast.World, goals []a
 			return nil
 		}
 	}
-	for _, one := range hands {
-		if plan := plans[one.place]; plan != nil && len(plan.Steps) == 0 {
-			plan.by = plannedAbove(one.goal.Name, plans, group)
+	for _, hand := range hands {
+		if plan := plans[hand.place]; plan != nil && len(plan.Steps) == 0 {
+			plan.by = plannedAbove(hand.goal.Name, plans, group)
 		}
 	}
 	saveRotten(plans, saved)
@@ -258,10 +258,10 @@ func filesOf(things []Thing) []Thing {
 var acts = map[advice.Act]Act{advice.Touch: Touch, advice.Copy: Copy, advice.Delete: Delete}
 
 // planOf gives a plan of a name in which what is lost on the way is saved first.
-func planOf(group *forecast.World, one hand, found *advice.Plan, damaged map[string][]damage.Kind) *Plan {
-	name, made, judge := &group.Names[one.place], &Plan{IsAll: found.Answer.IsAll}, newJudge(group, &found.Answer, damaged)
+func planOf(group *forecast.World, hand hand, found *advice.Plan, damaged map[string][]damage.Kind) *Plan {
+	name, made, judge := &group.Names[hand.place], &Plan{IsAll: found.Answer.IsAll}, newJudge(group, &found.Answer, damaged)
 	for _, thing := range thingsNow(name) {
-		if thing.isSame(thingOf(one.goal.Node)) {
+		if thing.isSame(thingOf(hand.goal.Node)) {
 			thing := thing
 			made.Goal = &thing
 		}

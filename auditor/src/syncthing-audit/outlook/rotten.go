@@ -6,8 +6,8 @@ import "syncthing-audit/forecast"
 // other bytes than recorded stand, that no scan sees, of which that is so. These may go once they are saved.
 func losesOthers(group *forecast.World, hands []hand, taken []forecast.Content, lost map[forecast.Content]bool) (rotten []rottenAt, is bool) {
 	own := map[forecast.Content]bool{}
-	for _, one := range hands {
-		for _, what := range group.Names[one.place].Disk {
+	for _, hand := range hands {
+		for _, what := range group.Names[hand.place].Disk {
 			if what != nil {
 				own[what.Content] = true
 			}

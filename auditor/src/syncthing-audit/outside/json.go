@@ -23,10 +23,10 @@ func PrintJSON(to io.Writer, value interface{}) error {
 
 // units writes a character as JSON does, in UTF-16. JSON that was encoded has no other bytes than those of characters.
 func units(to *strings.Builder, text string) {
-	one, _ := utf8.DecodeRuneInString(text)
-	if high, low := utf16.EncodeRune(one); high != utf8.RuneError {
+	letter, _ := utf8.DecodeRuneInString(text)
+	if high, low := utf16.EncodeRune(letter); high != utf8.RuneError {
 		fmt.Fprintf(to, `\u%04x\u%04x`, high, low)
 		return
 	}
-	fmt.Fprintf(to, `\u%04x`, one)
+	fmt.Fprintf(to, `\u%04x`, letter)
 }

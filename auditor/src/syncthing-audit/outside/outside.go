@@ -37,8 +37,8 @@ func Escaped(text string) string { return escaped(text, false, octets) }
 // wordsOf gives words as they are printed. Numbers have nothing to escape.
 func wordsOf(words []interface{}) []interface{} {
 	made := make([]interface{}, len(words))
-	for place, one := range words {
-		switch value := one.(type) {
+	for place, given := range words {
+		switch value := given.(type) {
 		case bool, int, int64, uint64, float64:
 			made[place] = value
 		default:
@@ -80,8 +80,8 @@ func escaped(text string, isOwn bool, otherwise func(*strings.Builder, string)) 
 	}
 	var made strings.Builder
 	for text != "" {
-		one, length := utf8.DecodeRuneInString(text)
-		if mayPrint(one, length, isOwn) {
+		letter, length := utf8.DecodeRuneInString(text)
+		if mayPrint(letter, length, isOwn) {
 			made.WriteString(text[:length])
 		} else {
 			otherwise(&made, text[:length])
@@ -92,8 +92,8 @@ func escaped(text string, isOwn bool, otherwise func(*strings.Builder, string)) 
 }
 
 func isPrintable(text string, isOwn bool) bool {
-	for place, one := range text {
-		if one == utf8.RuneError && !strings.HasPrefix(text[place:], string(utf8.RuneError)) || !mayPrint(one, utf8.UTFMax, isOwn) {
+	for place, letter := range text {
+		if letter == utf8.RuneError && !strings.HasPrefix(text[place:], string(utf8.RuneError)) || !mayPrint(letter, utf8.UTFMax, isOwn) {
 			return false
 		}
 	}
@@ -102,8 +102,8 @@ func isPrintable(text string, isOwn bool) bool {
 
 // mayPrint says whether a character of so many bytes only takes its place on a terminal, and turns no text around. A byte that is no
 // character has one.
-func mayPrint(one rune, length int, isOwn bool) bool {
-	return unicode.IsPrint(one) && (one != utf8.RuneError || length > 1) || isOwn && one == '\n'
+func mayPrint(letter rune, length int, isOwn bool) bool {
+	return unicode.IsPrint(letter) && (letter != utf8.RuneError || length > 1) || isOwn && letter == '\n'
 }
 
 // octets writes bytes as syncaudit does in names.

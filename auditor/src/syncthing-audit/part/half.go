@@ -51,8 +51,8 @@ func NewHalf(id, after, system string, blockSizes []int64) *Half {
 // with the disks, and whether it is idle.
 func (h *Head) StillUnseen() []string {
 	isConfigured := true
-	for _, one := range h.Folders {
-		isConfigured = isConfigured && one.Rest != nil
+	for _, folder := range h.Folders {
+		isConfigured = isConfigured && folder.Rest != nil
 	}
 	made := []string{}
 	if !isConfigured {
@@ -110,21 +110,21 @@ func checkHalfHead(head *Head) error {
 }
 
 // checkHalfFolder says why a folder of such a part is none. What is configured of it is told as a whole, or not at all.
-func checkHalfFolder(one *Folder) error {
-	isBare := one.Label == "" && one.IndexID == 0 && one.Max == 0 && len(one.Sharing) == 0 && len(one.Views) == 0 && one.Indexed == 0 &&
-		!one.Paused && one.PausedDevices == nil && one.Writers == nil
-	isConfigured := one.Kind != "" || one.IgnoresPermissions || one.TimeWindow != 0 || one.ScansAttributes || one.Rest != nil || one.Options != nil
+func checkHalfFolder(folder *Folder) error {
+	isBare := folder.Label == "" && folder.IndexID == 0 && folder.Max == 0 && len(folder.Sharing) == 0 && len(folder.Views) == 0 && folder.Indexed == 0 &&
+		!folder.Paused && folder.PausedDevices == nil && folder.Writers == nil
+	isConfigured := folder.Kind != "" || folder.IgnoresPermissions || folder.TimeWindow != 0 || folder.ScansAttributes || folder.Rest != nil || folder.Options != nil
 	switch {
-	case !isBare || one.Directory == "":
+	case !isBare || folder.Directory == "":
 		return errors.New("more is told of it than its directory and its configuration say, or less")
-	case one.Ignores == nil || len(one.Ignores.Lines) > mostIgnoreLines:
+	case folder.Ignores == nil || len(folder.Ignores.Lines) > mostIgnoreLines:
 		return fmt.Errorf("its .stignore isn't told, or has over %d lines", mostIgnoreLines)
 	case !isConfigured:
 		return nil
-	case one.Rest == nil || one.Options == nil || one.TimeWindow < 0 || one.TimeWindow > math.MaxInt32:
+	case folder.Rest == nil || folder.Options == nil || folder.TimeWindow < 0 || folder.TimeWindow > math.MaxInt32:
 		return errors.New("what is configured of it is told in part, or has a window for times that is none")
-	case !slices.Contains([]string{"send-receive", "send-only", "receive-only"}, one.Kind):
-		return fmt.Errorf("its kind is %q", one.Kind)
+	case !slices.Contains([]string{"send-receive", "send-only", "receive-only"}, folder.Kind):
+		return fmt.Errorf("its kind is %q", folder.Kind)
 	}
 	return nil
 }
@@ -133,19 +133,19 @@ func checkHalfFolder(one *Folder) error {
 const mostIgnoreLines = 10000
 
 // checkHalfName says what no disk tells of a name.
-func checkHalfName(one *Name, half *Half) error {
+func checkHalfName(name *Name, half *Half) error {
 	switch {
-	case one.Own != nil || len(one.Views) > 0 || one.Receiving != "" || one.Waits != nil || one.Differ != nil || one.NotRead:
+	case name.Own != nil || len(name.Views) > 0 || name.Receiving != "" || name.Waits != nil || name.Differ != nil || name.NotRead:
 		return errors.New("more is told of it than a disk says")
-	case len(one.Moved) > 0 && !slices.Equal(one.Moved, []string{MovedDisk}):
+	case len(name.Moved) > 0 && !slices.Equal(name.Moved, []string{MovedDisk}):
 		return errors.New("something else than its disk moved")
-	case one.Disk == nil:
+	case name.Disk == nil:
 		return nil
-	case one.Disk.Stamp != "" || one.Disk.Differ != nil || half.NoModes && one.Disk.Permissions != 0:
+	case name.Disk.Stamp != "" || name.Disk.Differ != nil || half.NoModes && name.Disk.Permissions != 0:
 		return errors.New("more is told of its disk than that says")
 	}
-	for _, content := range one.Disk.Contents {
-		isDue := content.BlockSize == bep.BlockSize(one.Disk.Size) || slices.Contains(half.BlockSizes, content.BlockSize)
+	for _, content := range name.Disk.Contents {
+		isDue := content.BlockSize == bep.BlockSize(name.Disk.Size) || slices.Contains(half.BlockSizes, content.BlockSize)
 		if !isDue {
 			return fmt.Errorf("its file is cut into blocks of %d bytes, and the part isn't", content.BlockSize)
 		}

@@ -17,16 +17,16 @@ func checkMany(head *Head) error {
 	if len(head.Folders) > mostFolders || len(head.Others) > mostFolders {
 		return fmt.Errorf("it is of %d folders, and has %d others: of each at most %d go into a part", len(head.Folders), len(head.Others), mostFolders)
 	}
-	for _, one := range head.Folders {
-		for _, count := range []int{len(one.Sharing), len(one.Views), len(one.PausedDevices), len(one.Writers)} {
+	for _, folder := range head.Folders {
+		for _, count := range []int{len(folder.Sharing), len(folder.Views), len(folder.PausedDevices), len(folder.Writers)} {
 			if count > mostPeers {
-				return fmt.Errorf("folder %q has %d devices or what writes into it, and at most %d go into a part", one.ID, count, mostPeers)
+				return fmt.Errorf("folder %q has %d devices or what writes into it, and at most %d go into a part", folder.ID, count, mostPeers)
 			}
 		}
 	}
-	for _, one := range head.Others {
-		if len(one.Devices) > mostPeers {
-			return fmt.Errorf("folder %q has %d devices, and at most %d go into a part", one.ID, len(one.Devices), mostPeers)
+	for _, other := range head.Others {
+		if len(other.Devices) > mostPeers {
+			return fmt.Errorf("folder %q has %d devices, and at most %d go into a part", other.ID, len(other.Devices), mostPeers)
 		}
 	}
 	return nil

@@ -36,16 +36,16 @@ func checkHead(head *Head) error {
 		return fmt.Errorf("the part's device %q is no device id", head.Device)
 	}
 	for place := range head.Folders {
-		one := &head.Folders[place]
-		if place > 0 && head.Folders[place-1].ID >= one.ID {
-			return fmt.Errorf("the part's folder %q isn't in its place", one.ID)
+		folder := &head.Folders[place]
+		if place > 0 && head.Folders[place-1].ID >= folder.ID {
+			return fmt.Errorf("the part's folder %q isn't in its place", folder.ID)
 		}
-		check := func() error { return checkFolder(one, head.IsOverWire()) }
+		check := func() error { return checkFolder(folder, head.IsOverWire()) }
 		if head.Half != nil {
-			check = func() error { return checkHalfFolder(one) }
+			check = func() error { return checkHalfFolder(folder) }
 		}
 		if err := check(); err != nil {
-			return fmt.Errorf("the part's folder %q: %w", one.ID, err)
+			return fmt.Errorf("the part's folder %q: %w", folder.ID, err)
 		}
 	}
 	return checkOthers(head)
@@ -53,13 +53,13 @@ func checkHead(head *Head) error {
 
 // checkOthers says why the folders that a part hasn't are none.
 func checkOthers(head *Head) error {
-	for place, one := range head.Others {
-		if head.Folder(one.ID) != nil || place > 0 && head.Others[place-1].ID >= one.ID {
-			return fmt.Errorf("the part says that it hasn't the folder %q, which isn't in its place", one.ID)
+	for place, other := range head.Others {
+		if head.Folder(other.ID) != nil || place > 0 && head.Others[place-1].ID >= other.ID {
+			return fmt.Errorf("the part says that it hasn't the folder %q, which isn't in its place", other.ID)
 		}
-		for _, device := range one.Devices {
+		for _, device := range other.Devices {
 			if Number(device) == 0 {
-				return fmt.Errorf("the part says that folder %q is shared with %q, which is no device id", one.ID, device)
+				return fmt.Errorf("the part says that folder %q is shared with %q, which is no device id", other.ID, device)
 			}
 		}
 	}
@@ -67,26 +67,26 @@ func checkOthers(head *Head) error {
 }
 
 // checkFolder says why a folder of a head is none.
-func checkFolder(one *Folder, isOverWire bool) error {
-	switch one.Kind {
+func checkFolder(folder *Folder, isOverWire bool) error {
+	switch folder.Kind {
 	case "send-receive", "send-only", "receive-only", KindEncrypted:
 	default:
-		return fmt.Errorf("its kind is %q", one.Kind)
+		return fmt.Errorf("its kind is %q", folder.Kind)
 	}
-	if one.IndexID == 0 || one.Max < 0 || one.Indexed < 0 {
+	if folder.IndexID == 0 || folder.Max < 0 || folder.Indexed < 0 {
 		return errors.New("its index has no id, or a greatest sequence or a count below 0")
 	}
-	if one.TimeWindow < 0 || one.TimeWindow > math.MaxInt32 {
+	if folder.TimeWindow < 0 || folder.TimeWindow > math.MaxInt32 {
 		return errors.New("its window for times is none")
 	}
 	seen := map[string]bool{}
-	for _, of := range one.Views {
+	for _, of := range folder.Views {
 		if Number(of.Device) == 0 || seen[of.Device] || of.Max < 0 || of.Heard < 0 || of.Heard != 0 && !isOverWire {
 			return fmt.Errorf("its view of %q is none", of.Device)
 		}
 		seen[of.Device] = true
 	}
-	for _, other := range one.Sharing {
+	for _, other := range folder.Sharing {
 		if Number(other.Device) == 0 {
 			return fmt.Errorf("it is shared with %q, which is no device id", other.Device)
 		}
@@ -183,70 +183,70 @@ func (r *rules) end() error {
 }
 
 // checkName says why a name's line is none.
-func checkName(one *Name, in *Folder, hasBytes bool) error {
-	if len(one.Out) == 0 && len(one.Moved) == 0 {
-		if err := limits.CheckName(string(one.Name)); err != nil {
-			return fmt.Errorf("%s: %w", shell.Path(string(one.Name)), err)
+func checkName(name *Name, in *Folder, hasBytes bool) error {
+	if len(name.Out) == 0 && len(name.Moved) == 0 {
+		if err := limits.CheckName(string(name.Name)); err != nil {
+			return fmt.Errorf("%s: %w", shell.Path(string(name.Name)), err)
 		}
 	}
-	if one.Own != nil {
-		if err := checkRecord(one.Own, in.Max); err != nil {
-			return fmt.Errorf("the own record of %s: %w", shell.Path(string(one.Name)), err)
+	if name.Own != nil {
+		if err := checkRecord(name.Own, in.Max); err != nil {
+			return fmt.Errorf("the own record of %s: %w", shell.Path(string(name.Name)), err)
 		}
 	}
 	last := -1
-	for place := range one.Views {
-		seen := &one.Views[place]
+	for place := range name.Views {
+		seen := &name.Views[place]
 		if seen.View <= last || seen.View >= len(in.Views) {
-			return fmt.Errorf("the views of %s aren't in their places", shell.Path(string(one.Name)))
+			return fmt.Errorf("the views of %s aren't in their places", shell.Path(string(name.Name)))
 		}
 		last = seen.View
 		if err := checkRecord(seen.Record, in.Views[seen.View].Max); err != nil {
-			return fmt.Errorf("a view of %s: %w", shell.Path(string(one.Name)), err)
+			return fmt.Errorf("a view of %s: %w", shell.Path(string(name.Name)), err)
 		}
 	}
-	for _, out := range one.Out {
+	for _, out := range name.Out {
 		if !IsKind(out.Kind) && out.Kind != Damaged || out.Why == "" || out.Bytes < 0 {
-			return fmt.Errorf("%s is left out as %q", shell.Path(string(one.Name)), out.Kind)
+			return fmt.Errorf("%s is left out as %q", shell.Path(string(name.Name)), out.Kind)
 		}
 	}
-	if one.Disk == nil {
+	if name.Disk == nil {
 		return nil
 	}
-	err := checkNode(one.Disk, len(one.Out) > 0, hasBytes)
-	if err == nil && one.Disk.Differ != nil {
-		err = checkDiffer(one)
+	err := checkNode(name.Disk, len(name.Out) > 0, hasBytes)
+	if err == nil && name.Disk.Differ != nil {
+		err = checkDiffer(name)
 	}
 	if err != nil {
-		return fmt.Errorf("what stands on the disk at %s: %w", shell.Path(string(one.Name)), err)
+		return fmt.Errorf("what stands on the disk at %s: %w", shell.Path(string(name.Name)), err)
 	}
 	return nil
 }
 
 // checkRecord says why a record is none.
-func checkRecord(one *Record, greatest int64) error {
+func checkRecord(record *Record, greatest int64) error {
 	switch {
-	case one.Sequence < 1 || one.Sequence > greatest:
-		return fmt.Errorf("its sequence %d isn't 1 to %d", one.Sequence, greatest)
-	case !IsType(one.Type):
-		return fmt.Errorf("its type is %d", one.Type)
-	case (one.Content != nil) != (isFile(one.Type) && !one.Deleted):
+	case record.Sequence < 1 || record.Sequence > greatest:
+		return fmt.Errorf("its sequence %d isn't 1 to %d", record.Sequence, greatest)
+	case !IsType(record.Type):
+		return fmt.Errorf("its type is %d", record.Type)
+	case (record.Content != nil) != (isFile(record.Type) && !record.Deleted):
 		return errors.New("it has a content and is no file, or the other way round")
-	case one.Type == symlink && !one.Deleted && limits.CheckTarget(one.Target) != nil:
-		return limits.CheckTarget(one.Target)
-	case one.Target != "" && (one.Type != symlink || one.Deleted):
+	case record.Type == symlink && !record.Deleted && limits.CheckTarget(record.Target) != nil:
+		return limits.CheckTarget(record.Target)
+	case record.Target != "" && (record.Type != symlink || record.Deleted):
 		return errors.New("it has a target and is no symlink")
-	case one.ModifiedNs < 0 || one.ModifiedNs > 999999999:
+	case record.ModifiedNs < 0 || record.ModifiedNs > 999999999:
 		return errors.New("its nanoseconds are over 999999999")
-	case one.ModifiedBy == 0:
+	case record.ModifiedBy == 0:
 		return errors.New("it doesn't say which device changed it")
-	case one.Content != nil && !one.Content.isOne():
+	case record.Content != nil && !record.Content.isOne():
 		return errors.New("its content is none")
 	}
-	if err := checkVersion(one.Local); err != nil {
+	if err := checkVersion(record.Local); err != nil {
 		return err
 	}
-	return checkVersion(one.Version)
+	return checkVersion(record.Version)
 }
 
 // checkVersion says why a version is none.
@@ -254,8 +254,8 @@ func checkVersion(counters [][2]uint64) error {
 	if len(counters) > limits.MostCounters {
 		return fmt.Errorf("its version has over %d counters", limits.MostCounters)
 	}
-	for place, one := range counters {
-		if one[0] == 0 || one[1] == 0 || one[1] > math.MaxInt64 || place > 0 && counters[place-1][0] >= one[0] {
+	for place, counter := range counters {
+		if counter[0] == 0 || counter[1] == 0 || counter[1] > math.MaxInt64 || place > 0 && counters[place-1][0] >= counter[0] {
 			return errors.New("its version is none")
 		}
 	}
@@ -263,21 +263,21 @@ func checkVersion(counters [][2]uint64) error {
 }
 
 // checkNode says why a node is none; one that is left out may have no content.
-func checkNode(one *Node, isOut, hasBytes bool) error {
+func checkNode(node *Node, isOut, hasBytes bool) error {
 	switch {
-	case !IsType(one.Type):
-		return fmt.Errorf("its type is %d", one.Type)
-	case one.ModifiedNs < 0 || one.ModifiedNs > 999999999 || one.Size < 0 || one.Unread < 0 || one.Unread > one.Size:
+	case !IsType(node.Type):
+		return fmt.Errorf("its type is %d", node.Type)
+	case node.ModifiedNs < 0 || node.ModifiedNs > 999999999 || node.Size < 0 || node.Unread < 0 || node.Unread > node.Size:
 		return errors.New("its time or size is none")
-	case one.Type == symlink && !isOut && limits.CheckTarget(one.Target) != nil:
-		return limits.CheckTarget(one.Target)
-	case one.Target != "" && one.Type != symlink:
+	case node.Type == symlink && !isOut && limits.CheckTarget(node.Target) != nil:
+		return limits.CheckTarget(node.Target)
+	case node.Target != "" && node.Type != symlink:
 		return errors.New("it has a target and is no symlink")
-	case (len(one.Contents) > 0) != (isFile(one.Type) && hasBytes) && !isOut:
+	case (len(node.Contents) > 0) != (isFile(node.Type) && hasBytes) && !isOut:
 		return errors.New("it has a content and is no file, or the other way round")
 	}
-	for _, content := range one.Contents {
-		if !content.isOne() || content.Size != one.Size {
+	for _, content := range node.Contents {
+		if !content.isOne() || content.Size != node.Size {
 			return errors.New("its content is none")
 		}
 	}
@@ -286,15 +286,15 @@ func checkNode(one *Node, isOut, hasBytes bool) error {
 
 // checkDiffer says what is wrong with the blocks of a name that differ. They are blocks of its file or of its own record.
 // The list has all of them, or is as long as a list may be.
-func checkDiffer(one *Name) error {
-	if one.Own == nil || one.Own.Content == nil || len(one.Disk.Contents) == 0 {
+func checkDiffer(name *Name) error {
+	if name.Own == nil || name.Own.Content == nil || len(name.Disk.Contents) == 0 {
 		return errors.New("its blocks differ, and there is no file with a record")
 	}
-	most := CountOfBlocks(one.Own.Content.Size, one.Own.Content.BlockSize)
-	if found := CountOfBlocks(one.Disk.Size, one.Own.Content.BlockSize); found > most {
+	most := CountOfBlocks(name.Own.Content.Size, name.Own.Content.BlockSize)
+	if found := CountOfBlocks(name.Disk.Size, name.Own.Content.BlockSize); found > most {
 		most = found
 	}
-	return checkRanges(one.Disk.Differ, most)
+	return checkRanges(name.Disk.Differ, most)
 }
 
 // checkRanges says what is wrong with a list of blocks that differ, of so many.

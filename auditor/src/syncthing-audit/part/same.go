@@ -6,15 +6,15 @@ import (
 )
 
 // shortened gives a name for writing. A view says only the sequence there, if the rest is the own record's.
-func shortened(one *Name) *Name {
-	if one.Own == nil || len(one.Views) == 0 {
-		return one
+func shortened(name *Name) *Name {
+	if name.Own == nil || len(name.Views) == 0 {
+		return name
 	}
-	made := *one
-	made.Views = make([]Seen, len(one.Views))
-	for place, seen := range one.Views {
+	made := *name
+	made.Views = make([]Seen, len(name.Views))
+	for place, seen := range name.Views {
 		made.Views[place] = seen
-		if isSame(one.Own, seen.Record) {
+		if isSame(name.Own, seen.Record) {
 			made.Views[place] = Seen{View: seen.View, Same: seen.Record.Sequence}
 		}
 	}
@@ -29,18 +29,18 @@ func isSame(own, other *Record) bool {
 }
 
 // lengthen gives each view of a name its record.
-func lengthen(one *Name) error {
-	for place := range one.Views {
-		seen := &one.Views[place]
+func lengthen(name *Name) error {
+	for place := range name.Views {
+		seen := &name.Views[place]
 		switch {
 		case (seen.Record != nil) == (seen.Same != 0):
 			return errors.New("a view has a record and a sequence, or neither")
 		case seen.Record != nil:
 			continue
-		case one.Own == nil:
+		case name.Own == nil:
 			return errors.New("a view has the own record, and there is none")
 		}
-		copied := *one.Own
+		copied := *name.Own
 		copied.Sequence = seen.Same
 		seen.Record, seen.Same = &copied, 0
 	}

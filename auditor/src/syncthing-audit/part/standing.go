@@ -13,31 +13,31 @@ import (
 var kindsOfMoved = []string{MovedRecord, MovedViews, MovedDisk, MovedReceiving, MovedUnscanned}
 
 // checkStanding says which field of a name stands where it may not: a part of one look at a stopped device has nothing of two looks.
-func checkStanding(one *Name, head *Head) error {
+func checkStanding(name *Name, head *Head) error {
 	wrong := ""
 	switch isOfLook := head.Look != nil || head.Half != nil; {
-	case !isOfLook && len(one.Moved) > 0:
+	case !isOfLook && len(name.Moved) > 0:
 		wrong = "it moved"
-	case !isOfLook && one.Receiving != "":
+	case !isOfLook && name.Receiving != "":
 		wrong = "it is being received"
-	case !isOfLook && one.Disk != nil && one.Disk.Stamp != "":
+	case !isOfLook && name.Disk != nil && name.Disk.Stamp != "":
 		wrong = "it has a stamp"
 	}
 	if wrong != "" {
-		return fmt.Errorf("%s: %s, and the part is of no look at a running device", shell.Path(string(one.Name)), wrong)
+		return fmt.Errorf("%s: %s, and the part is of no look at a running device", shell.Path(string(name.Name)), wrong)
 	}
-	return checkMoved(one)
+	return checkMoved(name)
 }
 
 // checkMoved says why what moved of a name is none. Nothing else is told of such a name.
-func checkMoved(one *Name) error {
-	for _, why := range one.Moved {
+func checkMoved(name *Name) error {
+	for _, why := range name.Moved {
 		if !slices.Contains(kindsOfMoved, why) {
-			return fmt.Errorf("%s moved as %q", shell.Path(string(one.Name)), why)
+			return fmt.Errorf("%s moved as %q", shell.Path(string(name.Name)), why)
 		}
 	}
-	if len(one.Moved) > 0 && (one.Own != nil || len(one.Views) > 0 || one.Disk != nil || len(one.Out) > 0 || one.Receiving != "") {
-		return fmt.Errorf("%s moved, and more is told of it", shell.Path(string(one.Name)))
+	if len(name.Moved) > 0 && (name.Own != nil || len(name.Views) > 0 || name.Disk != nil || len(name.Out) > 0 || name.Receiving != "") {
+		return fmt.Errorf("%s moved, and more is told of it", shell.Path(string(name.Name)))
 	}
 	return nil
 }

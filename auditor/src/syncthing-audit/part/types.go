@@ -281,8 +281,8 @@ type Differ struct {
 // Unlisted gives how many blocks that differ stand in no range.
 func (d *Differ) Unlisted() int64 {
 	left := d.Count
-	for _, one := range d.Ranges {
-		left -= one[1] - one[0] + 1
+	for _, span := range d.Ranges {
+		left -= span[1] - span[0] + 1
 	}
 	return left
 }

@@ -4,8 +4,8 @@ import "math"
 
 // IsAtMost says whether a version is at most another one everywhere.
 func IsAtMost(version, other [][2]uint64) bool {
-	for _, one := range version {
-		if one[1] > valueAt(other, one[0]) {
+	for _, counter := range version {
+		if counter[1] > valueAt(other, counter[0]) {
 			return false
 		}
 	}
@@ -17,9 +17,9 @@ func Counts(version [][2]uint64, device uint64) bool { return valueAt(version, d
 
 // valueAt gives a version's value for an id; 0 where it isn't listed.
 func valueAt(version [][2]uint64, id uint64) uint64 {
-	for _, one := range version {
-		if one[0] == id {
-			return one[1]
+	for _, counter := range version {
+		if counter[0] == id {
+			return counter[1]
 		}
 	}
 	return 0
@@ -30,10 +30,10 @@ func valueAt(version [][2]uint64, id uint64) uint64 {
 func GoesFirst(version, other [][2]uint64) bool {
 	goes, least := false, uint64(math.MaxUint64)
 	for _, list := range [][][2]uint64{version, other} {
-		for _, one := range list {
-			here, there := valueAt(version, one[0]), valueAt(other, one[0])
-			if here != there && one[0] <= least {
-				goes, least = here > there, one[0]
+		for _, counter := range list {
+			here, there := valueAt(version, counter[0]), valueAt(other, counter[0])
+			if here != there && counter[0] <= least {
+				goes, least = here > there, counter[0]
 			}
 		}
 	}

@@ -83,7 +83,7 @@ func checkWire(head *Head) error {
 	if head.Wire == nil {
 		return nil
 	}
-	if head.Wire.WentBackFrom < 0 || slices.IndexFunc(head.Folders, func(one Folder) bool { return one.WentBackFrom < 0 }) >= 0 {
+	if head.Wire.WentBackFrom < 0 || slices.IndexFunc(head.Folders, func(folder Folder) bool { return folder.WentBackFrom < 0 }) >= 0 {
 		return errors.New("the part's index went back from a sequence below 0")
 	}
 	if head.Wire.IsPartial && (head.IsOfRecords() || head.Wire.Half != "") {
@@ -114,25 +114,25 @@ func checkWireLook(head *Head) error {
 }
 
 // checkWireName says what an observer can't have seen of a name.
-func checkWireName(one *Name, wire *Wire, isOfRecords bool) error {
+func checkWireName(name *Name, wire *Wire, isOfRecords bool) error {
 	switch {
-	case one.NotRead && (wire == nil || !wire.IsPartial):
+	case name.NotRead && (wire == nil || !wire.IsPartial):
 		return errors.New("its bytes weren't read, and the part has the bytes of all files")
-	case one.Differ != nil && (wire == nil || wire.Half == ""):
+	case name.Differ != nil && (wire == nil || wire.Half == ""):
 		return errors.New("it says which blocks differ of a file in another part, and there is none")
-	case one.Differ != nil && (one.Own == nil || one.Own.Content == nil):
+	case name.Differ != nil && (name.Own == nil || name.Own.Content == nil):
 		return errors.New("its blocks differ, and there is no file with a record")
-	case one.Differ != nil && checkRanges(one.Differ, CountOfBlocks(one.Own.Content.Size, one.Own.Content.BlockSize)) != nil:
-		return checkRanges(one.Differ, CountOfBlocks(one.Own.Content.Size, one.Own.Content.BlockSize))
+	case name.Differ != nil && checkRanges(name.Differ, CountOfBlocks(name.Own.Content.Size, name.Own.Content.BlockSize)) != nil:
+		return checkRanges(name.Differ, CountOfBlocks(name.Own.Content.Size, name.Own.Content.BlockSize))
 	case wire == nil:
 		return nil
-	case (isOfRecords || one.NotRead) && one.Disk != nil:
+	case (isOfRecords || name.NotRead) && name.Disk != nil:
 		return errors.New("more is told of its disk than its record, and no bytes were asked for")
-	case len(one.Views) > 0:
+	case len(name.Views) > 0:
 		return errors.New("it has records in views, which an observer isn't told")
-	case one.Disk == nil:
+	case name.Disk == nil:
 		return nil
-	case !isFile(one.Disk.Type) || one.Disk.ModifiedS != 0 || one.Disk.ModifiedNs != 0 || one.Disk.Permissions != 0 || one.Disk.Stamp != "" || one.Disk.Lost != "":
+	case !isFile(name.Disk.Type) || name.Disk.ModifiedS != 0 || name.Disk.ModifiedNs != 0 || name.Disk.Permissions != 0 || name.Disk.Stamp != "" || name.Disk.Lost != "":
 		return errors.New("more is told of its disk than an observer sees")
 	}
 	return nil

@@ -56,9 +56,9 @@ func (w *Writer) Take(line Line) error {
 }
 
 // withoutRecords gives a name in place of one whose line has so many bytes.
-func withoutRecords(one *Name, length int) *Name {
+func withoutRecords(name *Name, length int) *Name {
 	why := fmt.Sprintf("what this device has of it takes %d bytes in a part, which has at most %d of a name", length, mostLineBytes)
-	return &Name{Name: one.Name, Out: []LeftOut{{Kind: OddRecord, Why: why}}}
+	return &Name{Name: name.Name, Out: []LeftOut{{Kind: OddRecord, Why: why}}}
 }
 
 // encode gives a value the room of a line, and gives its length.

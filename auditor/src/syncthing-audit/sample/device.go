@@ -26,8 +26,8 @@ type device struct {
 // newDevice makes a home with a certificate and an empty index, and a folder's directory.
 func newDevice(room string) (*device, error) {
 	made := &device{home: filepath.Join(room, "home"), files: filepath.Join(room, "files")}
-	for _, one := range []string{made.home, filepath.Join(made.files, ".stfolder")} {
-		if err := os.MkdirAll(one, 0o755); err != nil {
+	for _, path := range []string{made.home, filepath.Join(made.files, ".stfolder")} {
+		if err := os.MkdirAll(path, 0o755); err != nil {
 			return nil, err
 		}
 	}
@@ -54,9 +54,9 @@ func newDevice(room string) (*device, error) {
 func (d *device) configure(devices []*device) error {
 	made := config.New(d.id)
 	folder := config.FolderConfiguration{ID: folderID, Path: d.files, MarkerName: ".stfolder", FilesystemType: 0}
-	for _, one := range devices {
-		made.SetDevice(config.DeviceConfiguration{DeviceID: one.id, Name: filepath.Base(filepath.Dir(one.home))})
-		folder.Devices = append(folder.Devices, config.FolderDeviceConfiguration{DeviceID: one.id})
+	for _, device := range devices {
+		made.SetDevice(config.DeviceConfiguration{DeviceID: device.id, Name: filepath.Base(filepath.Dir(device.home))})
+		folder.Devices = append(folder.Devices, config.FolderDeviceConfiguration{DeviceID: device.id})
 	}
 	made.SetFolder(folder)
 	file, err := os.Create(filepath.Join(d.home, "config.xml"))

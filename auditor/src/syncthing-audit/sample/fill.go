@@ -42,15 +42,15 @@ func (p *plan) fill(devices []*device) error {
 		}
 	}
 	record(devices, batch)
-	for _, one := range devices {
+	for _, device := range devices {
 		for _, other := range devices {
-			if other != one {
-				one.set.SetIndexID(other.id, other.set.IndexID(protocol.LocalDeviceID))
+			if other != device {
+				device.set.SetIndexID(other.id, other.set.IndexID(protocol.LocalDeviceID))
 			}
 		}
 	}
-	for _, one := range devices {
-		if err := one.backend.Close(); err != nil {
+	for _, device := range devices {
+		if err := device.backend.Close(); err != nil {
 			return err
 		}
 	}
@@ -61,8 +61,8 @@ var modified = time.Unix(1700000000, 123456789)
 
 // putDirectory puts a directory on all devices.
 func putDirectory(devices []*device, name string) (protocol.FileInfo, error) {
-	for _, one := range devices {
-		if err := os.MkdirAll(filepath.Join(one.files, name), 0o755); err != nil {
+	for _, device := range devices {
+		if err := os.MkdirAll(filepath.Join(device.files, name), 0o755); err != nil {
 			return protocol.FileInfo{}, err
 		}
 	}
@@ -74,8 +74,8 @@ func putDirectory(devices []*device, name string) (protocol.FileInfo, error) {
 func put(devices []*device, name string, size int64, random *rand.Rand) (protocol.FileInfo, error) {
 	data := make([]byte, size)
 	random.Read(data)
-	for _, one := range devices {
-		path := filepath.Join(one.files, name)
+	for _, device := range devices {
+		path := filepath.Join(device.files, name)
 		if err := os.WriteFile(path, data, 0o644); err != nil {
 			return protocol.FileInfo{}, err
 		}
@@ -94,16 +94,16 @@ func put(devices []*device, name string, size int64, random *rand.Rand) (protoco
 
 // record puts entries into each device's own index and into what each knows of the others.
 func record(devices []*device, batch []protocol.FileInfo) {
-	for _, one := range devices {
-		before := one.set.Sequence(protocol.LocalDeviceID)
-		one.set.Update(protocol.LocalDeviceID, batch)
+	for _, device := range devices {
+		before := device.set.Sequence(protocol.LocalDeviceID)
+		device.set.Update(protocol.LocalDeviceID, batch)
 		seen := append([]protocol.FileInfo(nil), batch...)
 		for place := range seen {
 			seen[place].Sequence = before + int64(place) + 1
 		}
 		for _, other := range devices {
-			if other != one {
-				other.set.Update(one.id, seen)
+			if other != device {
+				other.set.Update(device.id, seen)
 			}
 		}
 	}

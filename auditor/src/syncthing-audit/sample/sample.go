@@ -52,8 +52,8 @@ func (p *plan) make() error {
 		}
 		devices[place] = next
 	}
-	for _, one := range devices {
-		if err := one.configure(devices); err != nil {
+	for _, device := range devices {
+		if err := device.configure(devices); err != nil {
 			return err
 		}
 	}

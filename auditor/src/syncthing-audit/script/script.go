@@ -119,13 +119,13 @@ func (w *writing) take(folder *summary.Folder, next *step) {
 }
 
 // placeOf gives where something stands in a list, from 1, and puts it there if it isn't.
-func placeOf[T comparable](list *[]T, one T) int {
+func placeOf[T comparable](list *[]T, item T) int {
 	for place, had := range *list {
-		if had == one {
+		if had == item {
 			return place + 1
 		}
 	}
-	*list = append(*list, one)
+	*list = append(*list, item)
 	return len(*list)
 }
 

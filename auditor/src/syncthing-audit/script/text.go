@@ -11,7 +11,7 @@ import (
 
 // text gives a script as a whole.
 func (w *writing) text(at of) string {
-	one := w.scripts[at]
+	script := w.scripts[at]
 	var made strings.Builder
 	line := func(format string, values ...any) { fmt.Fprintf(&made, format+"\n", values...) }
 	line("#!/bin/sh")
@@ -25,10 +25,10 @@ func (w *writing) text(at of) string {
 	line("")
 	line("stopped=no # yes, once Syncthing is stopped on all devices")
 	line("aside=     # a directory outside of all folders of Syncthing, best on the same disk")
-	for place, folder := range one.folders {
+	for place, folder := range script.folders {
 		line("folder_%d=  # where %s is on this device", place+1, folderOf(folder))
 	}
-	for place, source := range one.sources {
+	for place, source := range script.sources {
 		line("source_%d=  # where %s is: a path here, or HOST:/PATH, which rsync reaches by ssh", place+1, w.sourceOf(source))
 	}
 	line("audit=%s", w.audit)
@@ -36,14 +36,14 @@ func (w *writing) text(at of) string {
 	made.WriteString(prelude)
 	line("")
 	line("check_all")
-	for place, folder := range one.folders {
+	for place, folder := range script.folders {
 		line("check_folder \"$folder_%d\" %s", place+1, shell.Exact(folderOf(folder)))
 	}
-	for place, source := range one.sources {
+	for place, source := range script.sources {
 		line("check_source \"$source_%d\" %s", place+1, shell.Exact(w.sourceOf(source)))
 	}
 	line("prepare")
-	made.WriteString(one.steps.String())
+	made.WriteString(script.steps.String())
 	line("")
 	line("printf '%%s\\n' %s", shell.Exact(w.next(at)))
 	return made.String()
@@ -51,8 +51,8 @@ func (w *writing) text(at of) string {
 
 func folderOf(folder *summary.Folder) string { return shell.Folder(folder.ID, folder.Label) }
 
-func (w *writing) sourceOf(one source) string {
-	return folderOf(one.folder) + " of " + w.called(one.device)
+func (w *writing) sourceOf(source source) string {
+	return folderOf(source.folder) + " of " + w.called(source.device)
 }
 
 // notes say in what order scripts are run, and what none of them does.

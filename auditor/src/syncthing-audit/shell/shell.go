@@ -98,8 +98,8 @@ func Word(text string) string {
 // Words gives a command.
 func Words(words []string) string {
 	made := []string{}
-	for _, one := range words {
-		made = append(made, Word(one))
+	for _, word := range words {
+		made = append(made, Word(word))
 	}
 	return strings.Join(made, " ")
 }
@@ -136,10 +136,10 @@ func CanBeTyped(text string) bool {
 
 // Printable gives a device's name, or a folder's label, without what moves a terminal's cursor.
 func Printable(name string) string {
-	return strings.Map(func(one rune) rune {
-		if !unicode.IsPrint(one) {
+	return strings.Map(func(letter rune) rune {
+		if !unicode.IsPrint(letter) {
 			return '?'
 		}
-		return one
+		return letter
 	}, name)
 }

@@ -31,17 +31,17 @@ func (l *List[T]) Len() int64 { return l.count }
 func (l *List[T]) Err() error { return l.err }
 
 // Add adds a thing at the end.
-func (l *List[T]) Add(one T) {
+func (l *List[T]) Add(item T) {
 	l.count++
 	if len(l.first) < MostInMemory {
-		l.first = append(l.first, one)
+		l.first = append(l.first, item)
 		return
 	}
 	if l.file == nil && l.err == nil {
 		l.begin()
 	}
 	if l.err == nil {
-		l.fail(l.encoder.Encode(one))
+		l.fail(l.encoder.Encode(item))
 	}
 }
 

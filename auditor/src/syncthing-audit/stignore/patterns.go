@@ -41,8 +41,8 @@ func checkWild(lines []string) error {
 	all := 0
 	for _, line := range lines {
 		wild := 0
-		for _, one := range "*?[{," {
-			wild += strings.Count(line, string(one))
+		for _, sign := range "*?[{," {
+			wild += strings.Count(line, string(sign))
 		}
 		if all += wild; wild > mostWild || all > mostWildOfAll || len(line) > mostPattern {
 			return fmt.Errorf("it has over %d bytes or %d of the characters '*?[{,' on a line, or over %d of these: %w", mostPattern, mostWild, mostWildOfAll, errTooWild)
@@ -97,16 +97,16 @@ func (p *Patterns) add(line string, foldCase bool) error {
 		texts = []string{text, text[len("**/"):]}
 	}
 	for _, next := range texts {
-		one := made
+		pattern := made
 		var err error
-		one.text = next
+		pattern.text = next
 		text := strings.TrimPrefix(next, "/")
-		if one.match, err = glob.Compile(text, '/'); err != nil {
+		if pattern.match, err = glob.Compile(text, '/'); err != nil {
 			return err
 		}
-		one.linear = &linear{pattern: text}
-		one.stars = strings.Count(strings.ReplaceAll(text, "**", "*"), "*") + strings.Count(text, "{")
-		p.patterns = append(p.patterns, one)
+		pattern.linear = &linear{pattern: text}
+		pattern.stars = strings.Count(strings.ReplaceAll(text, "**", "*"), "*") + strings.Count(text, "{")
+		p.patterns = append(p.patterns, pattern)
 	}
 	return nil
 }
@@ -116,9 +116,9 @@ func (p *pattern) takePrefixes(line string) string {
 	seen := map[string]bool{}
 	for {
 		prefix := ""
-		for _, one := range []string{"!", "(?i)", "(?d)"} {
-			if strings.HasPrefix(line, one) && !seen[one] {
-				prefix = one
+		for _, word := range []string{"!", "(?i)", "(?d)"} {
+			if strings.HasPrefix(line, word) && !seen[word] {
+				prefix = word
 			}
 		}
 		switch seen[prefix] = true; prefix {
@@ -137,16 +137,16 @@ func (p *pattern) takePrefixes(line string) string {
 func (p *Patterns) IsIgnored(name string) bool {
 	lower := ""
 	for place := range p.patterns {
-		one := &p.patterns[place]
+		pattern := &p.patterns[place]
 		text := name
-		if one.foldsCase {
+		if pattern.foldsCase {
 			if lower == "" {
 				lower = strings.ToLower(name)
 			}
 			text = lower
 		}
-		if one.fits(text) {
-			return one.isIgnored
+		if pattern.fits(text) {
+			return pattern.isIgnored
 		}
 	}
 	return false
@@ -186,14 +186,14 @@ func (p *Patterns) TakesIgnored() bool { return p.takes }
 func (p *Patterns) takesIgnored() bool {
 	before := ""
 	for place := range p.patterns {
-		one := &p.patterns[place]
-		if strings.HasSuffix(one.text, "/**") && len(one.text) > len("/**") && strings.TrimSuffix(one.text, "/**") == before {
+		pattern := &p.patterns[place]
+		if strings.HasSuffix(pattern.text, "/**") && len(pattern.text) > len("/**") && strings.TrimSuffix(pattern.text, "/**") == before {
 			continue
 		}
-		if !one.allowsSkipping() {
+		if !pattern.allowsSkipping() {
 			return true
 		}
-		before = one.text
+		before = pattern.text
 	}
 	return false
 }

@@ -23,28 +23,28 @@ type actions struct {
 // note notes what the entry of a name tells to do.
 func (a *actions) note(file *File) {
 	a.entries++
-	for _, one := range file.toMakeSafe() {
-		a.safe[one] = append(a.safe[one], a.entries)
+	for _, device := range file.toMakeSafe() {
+		a.safe[device] = append(a.safe[device], a.entries)
 	}
 	for place := range file.Faults {
-		switch one := &file.Faults[place]; {
-		case !one.isDamagedChange():
-		case one.Damage.MayBeOfRecord():
-			a.grown[one.Device]++
+		switch fault := &file.Faults[place]; {
+		case !fault.isDamagedChange():
+		case fault.Damage.MayBeOfRecord():
+			a.grown[fault.Device]++
 		default:
-			a.damaged[one.Device]++
+			a.damaged[fault.Device]++
 		}
 	}
 	a.noteReverts(file)
-	for _, one := range file.actsOn() {
-		a.started[one] = append(a.started[one], a.entries)
+	for _, device := range file.actsOn() {
+		a.started[device] = append(a.started[device], a.entries)
 	}
 }
 
 // isFirst says whether something on a device is to be made safe before that is done there which another entry tells.
 func (a *actions) isFirst(device string) bool {
-	for _, one := range a.safe[device] {
-		if slices.IndexFunc(a.started[device], func(other int) bool { return other != one }) >= 0 {
+	for _, entry := range a.safe[device] {
+		if slices.IndexFunc(a.started[device], func(other int) bool { return other != entry }) >= 0 {
 			return true
 		}
 	}
@@ -84,21 +84,21 @@ func (f *File) toMakeSafe() []string {
 
 // mayLose says whether bytes of the name may be lost by a scan, or by what others fetch.
 func (f *File) mayLose() bool {
-	return f.foretold.is(outlook.Lost) || slices.IndexFunc(f.Faults, func(one Fault) bool { return f.losesAt(&one) }) >= 0
+	return f.foretold.is(outlook.Lost) || slices.IndexFunc(f.Faults, func(fault Fault) bool { return f.losesAt(&fault) }) >= 0
 }
 
 // losesAt says whether Syncthing may send to all what is wrong on a device, or lose it, once it scans there. Where it is known what becomes of the name,
 // its fate says that, but of what looks like damage.
-func (f *File) losesAt(one *Fault) bool {
+func (f *File) losesAt(fault *Fault) bool {
 	switch {
-	case one.Kind == receiveOnly:
+	case fault.Kind == receiveOnly:
 		return false
-	case one.Cause == Damaged || one.isDamagedChange() || one.isReplacedDirectory():
+	case fault.Cause == Damaged || fault.isDamagedChange() || fault.isReplacedDirectory():
 		return true
 	case f.foretold.isKnown():
 		return false
 	}
-	return one.mayBeMissing() || one.Cause == Missing && !f.isGoneElsewhere(one) || one.Cause == OtherBytes || one.Cause == Back
+	return fault.mayBeMissing() || fault.Cause == Missing && !f.isGoneElsewhere(fault) || fault.Cause == OtherBytes || fault.Cause == Back
 }
 
 // mayBeMissing says whether the disk isn't as recorded in a way of which no details were kept: the name may be missing there, or have other bytes.
@@ -110,9 +110,9 @@ func (f *Fault) mayBeMissing() bool {
 func (f *File) toStart() []string {
 	made := []string{}
 	for place := range f.Faults {
-		one := &f.Faults[place]
-		made = addOnce(made, one.Device)
-		if one.isToStart() {
+		fault := &f.Faults[place]
+		made = addOnce(made, fault.Device)
+		if fault.isToStart() {
 			for _, device := range f.Have {
 				made = addOnce(made, device)
 			}

@@ -29,8 +29,8 @@ func (l labels) rising(ids []string) []string {
 // all gives several names, rising.
 func (l labels) all(ids []string) string {
 	names := []string{}
-	for _, one := range ids {
-		names = append(names, l.of(one))
+	for _, id := range ids {
+		names = append(names, l.of(id))
 	}
 	sort.Strings(names)
 	return strings.Join(names, ", ")
@@ -67,8 +67,8 @@ func adviceOf(file *File, named labels) []string {
 	}
 	for _, isOfDisk := range []bool{true, false} {
 		for place := range file.Faults {
-			if one := &file.Faults[place]; one.isOfDisk() == isOfDisk {
-				if told := adviceOfFault(one, file, named); told != "" {
+			if fault := &file.Faults[place]; fault.isOfDisk() == isOfDisk {
+				if told := adviceOfFault(fault, file, named); told != "" {
 					made = addOnce(made, told)
 				}
 			}
@@ -137,7 +137,7 @@ func (f *File) isRightByItself() bool {
 // isBadWithoutCopy says whether no scan sees that other bytes stand on a disk than those that are due, and no audited device has these: nothing that Syncthing
 // does puts that right, and an old version or a backup may.
 func (f *File) isBadWithoutCopy() bool {
-	return len(f.Have) == 0 && slices.IndexFunc(f.Faults, func(one Fault) bool { return one.Cause == OtherBytes && f.isOfDue(&one) }) >= 0
+	return len(f.Have) == 0 && slices.IndexFunc(f.Faults, func(fault Fault) bool { return fault.Cause == OtherBytes && f.isOfDue(&fault) }) >= 0
 }
 
 // toRun says to let Syncthing run where that puts the name right, behind all that comes before a start. Where the entry tells nothing else it says that, too.
@@ -157,24 +157,24 @@ func (f *File) toRun(isAlone bool) string {
 
 // areAllBehind says whether each fault tells by itself between which devices Syncthing is to run.
 func (f *File) areAllBehind() bool {
-	return slices.IndexFunc(f.Faults, func(one Fault) bool { return !f.isToTake(&one) }) < 0
+	return slices.IndexFunc(f.Faults, func(fault Fault) bool { return !f.isToTake(&fault) }) < 0
 }
 
 // isToTake says whether a device takes what is due once it runs together with one that has it.
-func (f *File) isToTake(one *Fault) bool {
-	return one.Cause == Behind && one.Kind != sendOnly && !one.isTied && !one.isUntold &&
+func (f *File) isToTake(fault *Fault) bool {
+	return fault.Cause == Behind && fault.Kind != sendOnly && !fault.isTied && !fault.isUntold &&
 		(!f.foretold.isKnown() || f.foretold.is(outlook.ByItself) || f.foretold.is(outlook.Deleted))
 }
 
 // comesBack says whether by itself something comes to stand again where the name is missing on a device.
-func (f *File) comesBack(one *Fault) bool {
+func (f *File) comesBack(fault *Fault) bool {
 	if !f.foretold.isKnown() || len(f.foretold.fate.Ends) == 0 {
 		return false
 	}
 	for _, end := range f.foretold.fate.Ends {
 		is := false
 		for _, thing := range end {
-			is = is || !thing.Copy && slices.Contains(thing.Devices, one.Device)
+			is = is || !thing.Copy && slices.Contains(thing.Devices, fault.Device)
 		}
 		if !is {
 			return false
@@ -185,20 +185,22 @@ func (f *File) comesBack(one *Fault) bool {
 
 // isToGo says whether the name is missing somewhere, and doesn't come back there.
 func (f *File) isToGo() bool {
-	return slices.IndexFunc(f.Faults, func(one Fault) bool { return one.Cause == Missing && !f.comesBack(&one) && !f.isGoneElsewhere(&one) }) >= 0
+	return slices.IndexFunc(f.Faults, func(fault Fault) bool {
+		return fault.Cause == Missing && !f.comesBack(&fault) && !f.isGoneElsewhere(&fault)
+	}) >= 0
 }
 
 // looksDamaged says whether on some device a scan would take what looks like damage for a change.
 func (f *File) looksDamaged() bool {
-	return slices.IndexFunc(f.Faults, func(one Fault) bool { return one.isDamagedChange() || one.isReplacedDirectory() }) >= 0
+	return slices.IndexFunc(f.Faults, func(fault Fault) bool { return fault.isDamagedChange() || fault.isReplacedDirectory() }) >= 0
 }
 
 // mounted says to see that disks are mounted on which the name is missing, where that takes the name from others.
 func (f *File) mounted(named labels) []string {
 	on := []string{}
 	for place := range f.Faults {
-		if one := &f.Faults[place]; one.Cause == Missing && !f.comesBack(one) && !f.isGoneElsewhere(one) {
-			on = addOnce(on, one.Device)
+		if fault := &f.Faults[place]; fault.Cause == Missing && !f.comesBack(fault) && !f.isGoneElsewhere(fault) {
+			on = addOnce(on, fault.Device)
 		}
 	}
 	if len(on) == 0 {
@@ -224,8 +226,8 @@ func (f *File) toSave(named labels) []string {
 		on = append(on, named.rising(f.Have)[0])
 	}
 	for place := range f.Faults {
-		if one := &f.Faults[place]; one.Found != nil || one.Cause == Differs || one.Cause == Damaged || one.isHolding() && !f.hasAt(one.Device, Missing) {
-			on = addOnce(on, one.Device)
+		if fault := &f.Faults[place]; fault.Found != nil || fault.Cause == Differs || fault.Cause == Damaged || fault.isHolding() && !f.hasAt(fault.Device, Missing) {
+			on = addOnce(on, fault.Device)
 		}
 	}
 	if len(on) == 0 || len(f.Faults) == 0 {
@@ -235,8 +237,8 @@ func (f *File) toSave(named labels) []string {
 }
 
 // isGoneElsewhere says whether what is missing on a device was deleted on others, too: nothing is lost there.
-func (f *File) isGoneElsewhere(one *Fault) bool {
-	lack := f.lackOn(one.Device)
+func (f *File) isGoneElsewhere(fault *Fault) bool {
+	lack := f.lackOn(fault.Device)
 	return lack != nil && lack.Cause == Behind && lack.Deletion
 }
 
@@ -253,54 +255,54 @@ func (f *Fault) isOfDisk() bool {
 }
 
 // adviceOfFault says what a fault asks for beside the steps.
-func adviceOfFault(one *Fault, file *File, named labels) string {
-	at := named.of(one.Device)
+func adviceOfFault(fault *Fault, file *File, named labels) string {
+	at := named.of(fault.Device)
 	switch {
-	case one.Cause == Damaged:
-		return damageAdvice(one, file, at, named)
-	case one.Cause == Differs:
-		return differsAdvice(one, file, at)
-	case (one.isDamagedChange() || one.isReplacedDirectory()) && !file.foretold.hasGoal():
-		return seeDamage(one, file, named)
-	case one.Cause == NotScanned && file.isOdd:
+	case fault.Cause == Damaged:
+		return damageAdvice(fault, file, at, named)
+	case fault.Cause == Differs:
+		return differsAdvice(fault, file, at)
+	case (fault.isDamagedChange() || fault.isReplacedDirectory()) && !file.foretold.hasGoal():
+		return seeDamage(fault, file, named)
+	case fault.Cause == NotScanned && file.isOdd:
 		return "rename " + file.say("it", "them") + " on " + at + ": " + file.say("its name isn't", "their names aren't") + " in Unicode's form NFC, in which " +
 			"Syncthing has names. A scan does that by itself only where the folder's 'Auto Normalize' is on and nothing stands at the other name; else it passes over " + file.say("it", "them")
-	case one.isTied:
-		return tiedAdvice(one, file, at, named)
-	case one.isUntold:
+	case fault.isTied:
+		return tiedAdvice(fault, file, at, named)
+	case fault.isUntold:
 		return untoldAdvice(file, at, named)
-	case one.isOfDisk():
-		return diskAdvice(one, file, named)
+	case fault.isOfDisk():
+		return diskAdvice(fault, file, named)
 	}
-	return recordAdvice(one, file, at, named)
+	return recordAdvice(fault, file, at, named)
 }
 
 // diskAdvice says what a scan takes a disk for, where that isn't foretold, and how it gets back what was recorded there. Where there are steps for the
 // name, these do it.
-func diskAdvice(one *Fault, file *File, named labels) string {
-	at, it := named.of(one.Device), file.say("it", "them")
-	takes := map[Cause]string{Changed: "changed", Back: "new", NotScanned: "new", OtherTime: "changed"}[one.Cause]
+func diskAdvice(fault *Fault, file *File, named labels) string {
+	at, it := named.of(fault.Device), file.say("it", "them")
+	takes := map[Cause]string{Changed: "changed", Back: "new", NotScanned: "new", OtherTime: "changed"}[fault.Cause]
 	told := ""
 	switch {
-	case file.foretold.hasGoal() || file.isRightByItself() || one.Cause == Missing && (file.comesBack(one) || file.isGoneElsewhere(one)):
+	case file.foretold.hasGoal() || file.isRightByItself() || fault.Cause == Missing && (file.comesBack(fault) || file.isGoneElsewhere(fault)):
 		return ""
-	case file.isBadWithoutCopy() && one.Cause == OtherBytes:
-	case one.Cause != Missing && (file.foretold.is(outlook.Deleted) || file.foretold.is(outlook.ByItself)) || file.isToGoOn(one.Device): // a recorded change takes its place
+	case file.isBadWithoutCopy() && fault.Cause == OtherBytes:
+	case fault.Cause != Missing && (file.foretold.is(outlook.Deleted) || file.foretold.is(outlook.ByItself)) || file.isToGoOn(fault.Device): // a recorded change takes its place
 		return ""
-	case file.foretold.isKnown() && takes != "" && one.Cause != Changed:
+	case file.foretold.isKnown() && takes != "" && fault.Cause != Changed:
 		return ""
 	case !file.foretold.isKnown() && takes != "":
 		told = "a scan on " + at + " takes " + it + " for " + takes + ". "
 	}
-	if one.Cause == NotScanned || one.Cause == OtherTime {
+	if fault.Cause == NotScanned || fault.Cause == OtherTime {
 		return strings.TrimSuffix(told, ". ")
 	}
-	told += one.whetherEdit(file, at)
+	told += fault.whetherEdit(file, at)
 	have := "to have again what "
 	if strings.HasSuffix(told, ". ") {
 		have = "To have again what "
 	}
-	return told + have + at + " recorded, " + file.putsBack(one, named)
+	return told + have + at + " recorded, " + file.putsBack(fault, named)
 }
 
 // isToGoOn says whether it is known that a device takes a recorded deletion of the name.
@@ -310,36 +312,36 @@ func (f *File) isToGoOn(device string) bool {
 }
 
 // recordAdvice says what a record asks for that isn't as others', where that isn't foretold.
-func recordAdvice(one *Fault, file *File, at string, named labels) string {
+func recordAdvice(fault *Fault, file *File, at string, named labels) string {
 	switch {
-	case one.Cause == OtherBlocks:
+	case fault.Cause == OtherBlocks:
 		return "nothing is lost: the bytes are the same"
-	case file.isToTake(one):
-		return behindAdvice(one, file, at, named)
+	case file.isToTake(fault):
+		return behindAdvice(fault, file, at, named)
 	case file.foretold.isKnown():
 		return ""
-	case one.Cause == LocalChange || one.Cause == LocalAddition:
+	case fault.Cause == LocalChange || fault.Cause == LocalAddition:
 		return "'Revert Local Changes' on " + at + " deletes what was added there, and writes over what was changed, mostly without a copy: copy elsewhere first what is to stay"
-	case one.Kind == sendOnly:
+	case fault.Kind == sendOnly:
 		return at + " only sends, and takes nothing by itself. 'Override Changes' there undoes what others changed; made 'Send & Receive' there, it takes that in place of what stands there"
 	}
 	return "once what is to stay is saved, let Syncthing run on all of these devices, connected, until it is idle. Then audit again"
 }
 
 // behindAdvice says what a device needs to take what others have, and what to see if it doesn't.
-func behindAdvice(one *Fault, file *File, at string, named labels) string {
+func behindAdvice(fault *Fault, file *File, at string, named labels) string {
 	told := "let Syncthing run on " + at + " and on " + file.holders(named) + ", and let them finish. If it stays so, see whether a device " +
 		"or the folder is paused, whether they are connected, whether a disk is full, and whether Syncthing's page lists 'Failed Items'"
-	if one.Deletion {
+	if fault.Deletion {
 		told += "; or 'Ignore Delete' is set for the folder on " + at
 	}
 	return told
 }
 
 // differsAdvice says how details are told that weren't kept.
-func differsAdvice(one *Fault, file *File, at string) string {
+func differsAdvice(fault *Fault, file *File, at string) string {
 	before := ""
-	if one.mayBeMissing() {
+	if fault.mayBeMissing() {
 		before = "before Syncthing starts or scans on " + at + " (" + file.say("it", "they") + " may be missing there, which a scan takes for deleted), "
 	}
 	return before + file.detailsBy(file.say("audit it by itself: --names with this name tells more", "audit some of them by themselves: --names with how they begin tells more"))
@@ -369,9 +371,9 @@ func (f *File) holders(named labels) string {
 // safeHolders gives the devices that have what is due, and on which nothing is to be made safe first.
 func (f *File) safeHolders() []string {
 	made := []string{}
-	for _, one := range f.Have {
-		if !f.others.isToMakeSafe(one) {
-			made = append(made, one)
+	for _, device := range f.Have {
+		if !f.others.isToMakeSafe(device) {
+			made = append(made, device)
 		}
 	}
 	return made

@@ -10,13 +10,13 @@ func sameOtherBytes(faults []Fault) [][]string {
 	made := [][]string{}
 	isTold := map[string]bool{}
 	for place := range faults {
-		one := &faults[place]
-		if one.Cause != OtherBytes || isTold[one.Device] {
+		fault := &faults[place]
+		if fault.Cause != OtherBytes || isTold[fault.Device] {
 			continue
 		}
-		same := []string{one.Device}
+		same := []string{fault.Device}
 		for next := place + 1; next < len(faults); next++ {
-			if faults[next].Cause == OtherBytes && haveSame(one.contents, faults[next].contents) {
+			if faults[next].Cause == OtherBytes && haveSame(fault.contents, faults[next].contents) {
 				same = append(same, faults[next].Device)
 				isTold[faults[next].Device] = true
 			}
@@ -30,8 +30,8 @@ func sameOtherBytes(faults []Fault) [][]string {
 
 // haveSame says whether one file's bytes are another's: of one size, and in blocks of one size of one hash.
 func haveSame(contents, others []part.Content) bool {
-	for _, one := range contents {
-		if slices.Contains(others, one) {
+	for _, content := range contents {
+		if slices.Contains(others, content) {
 			return true
 		}
 	}

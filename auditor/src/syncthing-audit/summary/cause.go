@@ -89,26 +89,26 @@ func typeOf(number int) string {
 }
 
 // recorded gives the state that a record says.
-func recorded(one *part.Record) *State {
-	if one == nil {
+func recorded(record *part.Record) *State {
+	if record == nil {
 		return nil
 	}
-	made := &State{Type: typeOf(one.Type), Deleted: one.Deleted, Target: one.Target}
-	if one.Deleted || one.Type != int(protocol.FileInfoTypeSymlink) {
-		made.Modified = timeOf(one.ModifiedS, one.ModifiedNs)
+	made := &State{Type: typeOf(record.Type), Deleted: record.Deleted, Target: record.Target}
+	if record.Deleted || record.Type != int(protocol.FileInfoTypeSymlink) {
+		made.Modified = timeOf(record.ModifiedS, record.ModifiedNs)
 	}
-	if one.Content != nil {
-		made.Size = one.Content.Size
+	if record.Content != nil {
+		made.Size = record.Content.Size
 	}
 	return made
 }
 
 // found gives the state on a disk.
-func found(one *part.Node) *State {
-	if one == nil {
+func found(node *part.Node) *State {
+	if node == nil {
 		return nil
 	}
-	return &State{Type: typeOf(one.Type), Size: one.Size, Modified: timeOf(one.ModifiedS, one.ModifiedNs), Target: one.Target, Unread: one.Unread}
+	return &State{Type: typeOf(node.Type), Size: node.Size, Modified: timeOf(node.ModifiedS, node.ModifiedNs), Target: node.Target, Unread: node.Unread}
 }
 
 func timeOf(seconds int64, nanoseconds int) *time.Time {
@@ -176,8 +176,8 @@ func isCutOtherwise(at *part.Name, winner *part.Record) bool {
 	if at == nil || at.Own == nil || at.Own.Content == nil || at.Disk == nil || at.HasOtherBytes() || winner.Content == nil {
 		return false
 	}
-	for _, one := range at.Disk.Contents {
-		if one == *winner.Content {
+	for _, content := range at.Disk.Contents {
+		if content == *winner.Content {
 			return true
 		}
 	}

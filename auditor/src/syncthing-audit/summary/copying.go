@@ -11,22 +11,22 @@ const (
 )
 
 // copying says from where what is due is copied to a device, and how.
-func copying(one *Fault, file *File, named labels, to way) string {
+func copying(fault *Fault, file *File, named labels, to way) string {
 	what := file.say("it", "them")
 	if to == afterLoss {
 		what = "what is lost"
 	}
-	at := named.of(one.Device)
-	if one.lacks.name != "" {
-		return copyingParent(one, file, named)
+	at := named.of(fault.Device)
+	if fault.lacks.name != "" {
+		return copyingParent(fault, file, named)
 	}
 	if len(file.Have) == 0 {
 		return "look among old versions and backups for " + file.say("a file", "files") + " with the recorded bytes, which no audited device has, and copy " +
-			file.say("it", "them") + " to " + at + file.manner(one, to)
+			file.say("it", "them") + " to " + at + file.manner(fault, to)
 	}
-	from := file.sourceFor(one)
-	told := "copy " + what + " from " + named.of(from) + " to " + at + file.manner(one, to)
-	if to != overFile && one.isWide && !file.areWide[from] {
+	from := file.sourceFor(fault)
+	told := "copy " + what + " from " + named.of(from) + " to " + at + file.manner(fault, to)
+	if to != overFile && fault.isWide && !file.areWide[from] {
 		told += ". Syncthing on " + named.of(from) + " records no owners and attributes: give " + file.say("it", "them") + " those that " +
 			file.say("it", "they") + " had on " + at
 	}
@@ -34,9 +34,9 @@ func copying(one *Fault, file *File, named labels, to way) string {
 }
 
 // sourceFor gives a device that has what is due: one whose scans look at owners or attributes, where those of the device at fault do.
-func (f *File) sourceFor(one *Fault) string {
+func (f *File) sourceFor(fault *Fault) string {
 	for _, id := range f.Have {
-		if one.isWide && f.areWide[id] {
+		if fault.isWide && f.areWide[id] {
 			return id
 		}
 	}
@@ -45,16 +45,16 @@ func (f *File) sourceFor(one *Fault) string {
 
 // manner says how something is copied. Into a file that stands there its bytes and time alone are written: so it keeps its owner, mode and attributes,
 // also where root copies it.
-func (f *File) manner(one *Fault, to way) string {
+func (f *File) manner(fault *Fault, to way) string {
 	const stopped = " while Syncthing is stopped there"
 	switch to {
 	case toNothing, afterLoss:
-		return f.asItIs(one) + stopped
+		return f.asItIs(fault) + stopped
 	case overAnother:
-		return f.asItIs(one) + ", once what stands there is moved away," + stopped
+		return f.asItIs(fault) + ", once what stands there is moved away," + stopped
 	}
 	told := f.say(" with its time alone", " with their times alone")
-	if !one.isWide {
+	if !fault.isWide {
 		return told + intoFile + stopped
 	}
 	return told + f.say(", into the file that stands there", ", into the files that stand there") + intoFile + stopped +
@@ -65,9 +65,9 @@ func (f *File) manner(one *Fault, to way) string {
 const intoFile = " (cp --preserve=timestamps, or rsync --inplace --times --ignore-times)"
 
 // asItIs says how something is copied whole. Syncthing can't give a mode to what belongs to another user.
-func (f *File) asItIs(one *Fault) string {
+func (f *File) asItIs(fault *Fault) string {
 	whole := "rsync -aI"
-	if one.isWide {
+	if fault.isWide {
 		whole = "rsync -aIX"
 	}
 	return " as " + f.say("it is", "they are") + " (cp -a, or " + whole + ", as the user who runs Syncthing there)"

@@ -4,8 +4,8 @@ import "syncthing-audit/finding"
 
 // addDamage says of which devices the disk itself fails to give what it has, and why. Of a file that is a fault already, by what
 // syncaudit says.
-func (f *File) addDamage(folder *finding.Folder, one *finding.Damaged) {
-	for _, at := range one.At {
+func (f *File) addDamage(folder *finding.Folder, damaged *finding.Damaged) {
+	for _, at := range damaged.At {
 		member := folder.Members[at.Member]
 		if at.IsRot {
 			f.Faults = append(f.Faults, Fault{Device: member.Head.Device, Cause: Differs, Kind: kindOf(member), Why: at.Why, Reasons: []string{"StoreDiffers"},
@@ -25,20 +25,20 @@ func (f *File) addDamage(folder *finding.Folder, one *finding.Damaged) {
 // say, or without details.
 func (f *File) damageOf(device string) *Fault {
 	for place := range f.Faults {
-		one := &f.Faults[place]
-		if one.Device == device && (one.Cause == Damaged || one.Cause == NotScanned || one.Cause == Differs) {
-			return one
+		fault := &f.Faults[place]
+		if fault.Device == device && (fault.Cause == Damaged || fault.Cause == NotScanned || fault.Cause == Differs) {
+			return fault
 		}
 	}
 	return nil
 }
 
 // damageAdvice says what to do where a disk fails.
-func damageAdvice(one *Fault, file *File, at string, named labels) string {
+func damageAdvice(fault *Fault, file *File, at string, named labels) string {
 	told := "see the system's log on " + at + " (journalctl -k, smartctl -a): its disk fails there, and may soon fail elsewhere. Save what " +
 		"that disk has and no other device has, and replace it. "
 	if len(file.Have) > 0 {
-		told += "Then " + copying(one, file, named, afterLoss)
+		told += "Then " + copying(fault, file, named, afterLoss)
 	} else {
 		told += "Then bring back what is lost, from another device, old versions or backups"
 	}

@@ -95,9 +95,9 @@ func sizeOf(row *join.Row, winner *part.Record) int64 {
 var unwonCauses = map[string]Cause{finding.Unscanned: NotScanned, finding.LocalChange: LocalAddition, finding.OnlySeen: OnlySeen}
 
 // addUnwon adds what each device has of a name without a winner.
-func addUnwon(file *File, folder *finding.Folder, one *finding.Unwon) {
-	row := folder.Rows[one.Name]
-	for _, at := range one.At {
+func addUnwon(file *File, folder *finding.Folder, name *finding.Unwon) {
+	row := folder.Rows[name.Name]
+	for _, at := range name.At {
 		member := folder.Members[at.Member]
 		fault := Fault{Device: member.Head.Device, Cause: unwonCauses[at.Kind], Kind: kindOf(member), Reasons: []string{"NotWinner"}}
 		if row != nil && row.At[at.Member] != nil {
@@ -125,12 +125,12 @@ func isWide(member join.Member) bool { return member.About != nil && member.Abou
 // areWide gives the devices of which that is so; nothing where there is none.
 func areWide(folder *finding.Folder) map[string]bool {
 	var made map[string]bool
-	for _, one := range folder.Members {
-		if isWide(one) {
+	for _, member := range folder.Members {
+		if isWide(member) {
 			if made == nil {
 				made = map[string]bool{}
 			}
-			made[one.Head.Device] = true
+			made[member.Head.Device] = true
 		}
 	}
 	return made
@@ -142,9 +142,9 @@ func isTaker(member join.Member) bool { return isWide(member) && kindOf(member) 
 // membersWhere gives the devices of which something is so; nothing where there is none.
 func membersWhere(folder *finding.Folder, is func(join.Member) bool) []string {
 	var made []string
-	for _, one := range folder.Members {
-		if is(one) {
-			made = append(made, one.Head.Device)
+	for _, member := range folder.Members {
+		if is(member) {
+			made = append(made, member.Head.Device)
 		}
 	}
 	return made
@@ -153,8 +153,8 @@ func membersWhere(folder *finding.Folder, is func(join.Member) bool) []string {
 // runsOf gives the version of Syncthing on each device.
 func runsOf(folder *finding.Folder) map[string]string {
 	made := map[string]string{}
-	for _, one := range folder.Members {
-		made[one.Head.Device] = one.Head.Runs
+	for _, member := range folder.Members {
+		made[member.Head.Device] = member.Head.Runs
 	}
 	return made
 }
@@ -170,17 +170,17 @@ type reader struct {
 
 // read adds the faults of a name, and what follows from them.
 func (r *reader) read(failures []finding.Failure) {
-	for _, one := range failures {
-		member := r.member(one.Device)
-		r.reasons[member] = append(r.reasons[member], one.Reason)
+	for _, failure := range failures {
+		member := r.member(failure.Device)
+		r.reasons[member] = append(r.reasons[member], failure.Reason)
 	}
 	r.findWinner()
 	for member := range r.folder.Members {
 		r.addFaults(member)
 	}
-	for member, one := range r.folder.Members {
+	for member, by := range r.folder.Members {
 		for _, reason := range []string{"ViewAhead", "FlightAhead", "PullAhead"} {
-			if r.has(member, reason) && !r.isFaulty(one.Head.Device) {
+			if r.has(member, reason) && !r.isFaulty(by.Head.Device) {
 				r.addAhead(member, reason)
 			}
 		}
@@ -201,8 +201,8 @@ func (r *reader) addAhead(member int, reason string) {
 
 // isFaulty says whether a fault of the device is told.
 func (r *reader) isFaulty(device string) bool {
-	for _, one := range r.file.Faults {
-		if one.Device == device {
+	for _, fault := range r.file.Faults {
+		if fault.Device == device {
 			return true
 		}
 	}
@@ -211,8 +211,8 @@ func (r *reader) isFaulty(device string) bool {
 
 // member gives the place of the device with this number, or -1.
 func (r *reader) member(number uint64) int {
-	for place, one := range r.folder.Members {
-		if one.Number == number {
+	for place, member := range r.folder.Members {
+		if member.Number == number {
 			return place
 		}
 	}
@@ -221,9 +221,9 @@ func (r *reader) member(number uint64) int {
 
 // has says whether a member has one of these reasons.
 func (r *reader) has(member int, reasons ...string) bool {
-	for _, one := range r.reasons[member] {
+	for _, reason := range r.reasons[member] {
 		for _, other := range reasons {
-			if one == other {
+			if reason == other {
 				return true
 			}
 		}
@@ -243,16 +243,16 @@ func (r *reader) at(member int) *part.Name {
 // its disk, too, it has the recorded bytes. One that has them with another time counts where no other one has them.
 func (r *reader) findWinner() {
 	unclean := []string{}
-	for member, one := range r.folder.Members {
+	for member, by := range r.folder.Members {
 		if r.has(member, "RecordMissing", "RecordDiffers", "LocalOnly") {
 			continue
 		}
 		switch {
 		case r.has(member, "StoreDiffers"):
 		case r.has(member, "StoreUnclean"):
-			unclean = append(unclean, one.Head.Device)
+			unclean = append(unclean, by.Head.Device)
 		default:
-			r.file.Have = append(r.file.Have, one.Head.Device)
+			r.file.Have = append(r.file.Have, by.Head.Device)
 		}
 	}
 	if r.row != nil {

@@ -62,9 +62,9 @@ func (s *Summary) firstReverted(device string, named labels) First {
 func (s *Summary) firstScans(named labels) []First {
 	on := []string{}
 	for _, folder := range s.Folders {
-		for _, one := range folder.Devices {
-			if one.isScanning() {
-				on = addOnce(on, one.Device)
+		for _, member := range folder.Devices {
+			if member.isScanning() {
+				on = addOnce(on, member.Device)
 			}
 		}
 	}
@@ -86,12 +86,12 @@ func (m *Member) isScanning() bool {
 // that weren't asked for nobody knows what a start does.
 func (s *Summary) firstStarts(named labels) []First {
 	unseen, first, made := []string{}, []string{}, []First{}
-	for _, one := range s.Devices {
+	for _, device := range s.Devices {
 		switch {
-		case s.actions.isFirst(one.ID):
-			first = append(first, one.ID)
-		case len(s.actions.started[one.ID]) > 0 && !one.asked.IsAll() && !s.isLive():
-			unseen = append(unseen, one.ID)
+		case s.actions.isFirst(device.ID):
+			first = append(first, device.ID)
+		case len(s.actions.started[device.ID]) > 0 && !device.asked.IsAll() && !s.isLive():
+			unseen = append(unseen, device.ID)
 		}
 	}
 	if len(first) > 0 {
@@ -110,12 +110,12 @@ func (p *printer) first(s *Summary) {
 	if len(s.First) > 0 {
 		p.line("")
 	}
-	for _, one := range s.First {
-		if one.Why == isUnscanned || one.Why == isScanned {
-			line, text, _ := strings.Cut(one.Text, " ")
+	for _, first := range s.First {
+		if first.Why == isUnscanned || first.Why == isScanned {
+			line, text, _ := strings.Cut(first.Text, " ")
 			p.running(line, text)
 		} else {
-			p.line("%s", one.Text)
+			p.line("%s", first.Text)
 		}
 	}
 }
@@ -131,9 +131,9 @@ func (p *printer) entries(s *Summary) {
 	for _, mayLose := range []bool{true, false} {
 		for _, folder := range s.Folders {
 			for _, isAbove := range []bool{true, false} {
-				for _, one := range folder.Groups {
-					if one.of.mayLose() == mayLose && one.isAbove == isAbove {
-						p.group(folder, one)
+				for _, group := range folder.Groups {
+					if group.of.mayLose() == mayLose && group.isAbove == isAbove {
+						p.group(folder, group)
 					}
 				}
 				p.files(folder, func(file *File) bool { return file.mayLose() == mayLose && file.isAbove() == isAbove })

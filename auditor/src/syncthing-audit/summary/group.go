@@ -41,8 +41,8 @@ var canFold = map[Cause]bool{Behind: true, Missing: true, NotScanned: true, Othe
 // canBeTold says whether a name may be told with others: where all that is wrong with it asks for the same everywhere.
 func (f *File) canBeTold() bool {
 	for place := range f.Faults {
-		one := &f.Faults[place]
-		if one.Cause != f.Faults[0].Cause || !canFold[one.Cause] || one.isTied || len(f.Permissions) > 0 {
+		fault := &f.Faults[place]
+		if fault.Cause != f.Faults[0].Cause || !canFold[fault.Cause] || fault.isTied || len(f.Permissions) > 0 {
 			return false
 		}
 	}
@@ -57,8 +57,8 @@ func (f *folding) keyOf(file *File) string {
 	}
 	key := fmt.Sprint(file.Permissions, file.Have, file.isOfAnotherTime)
 	for place := range file.Faults {
-		one := &file.Faults[place]
-		key += fmt.Sprint(" ", one.Device, one.Cause, one.Kind, one.Deletion, file.losesAt(one))
+		fault := &file.Faults[place]
+		key += fmt.Sprint(" ", fault.Device, fault.Cause, fault.Kind, fault.Deletion, file.losesAt(fault))
 	}
 	many := file.asMany()
 	many.others = nil // these aren't all known yet, and are the same for all names
@@ -76,8 +76,8 @@ func (f *File) asMany() *File {
 // told together with others. There may be any number of such names.
 func (f *File) shorten() {
 	for place := range f.Faults {
-		one := &f.Faults[place]
-		f.Faults[place] = Fault{Device: one.Device, Cause: Differs, Kind: one.Kind, Reasons: one.Reasons}
+		fault := &f.Faults[place]
+		f.Faults[place] = Fault{Device: fault.Device, Cause: Differs, Kind: fault.Kind, Reasons: fault.Reasons}
 	}
 	f.Follows, f.Permissions, f.Have = []Follow{}, []Mode{}, []string{}
 }
@@ -105,25 +105,25 @@ type alike struct {
 }
 
 // take takes the next name.
-func (f *folding) take(one *File) {
-	if len(one.Faults) > 0 {
+func (f *folding) take(file *File) {
+	if len(file.Faults) > 0 {
 		f.wrong++
-	} else if len(one.Permissions) > 0 {
+	} else if len(file.Permissions) > 0 {
 		f.modes++
 	}
-	one.sortDevices(f.named)
-	one.Same = sameOtherBytes(one.Faults)
-	one.markSeen()
-	one.others = f.to
-	f.to.note(one)
-	f.noteLacked(one)
-	key := f.keyOf(one)
-	if !one.hasDetails && (key == "" || f.alike[key] == nil && len(f.alike) >= mostKinds) {
-		one.shorten()
-		key = f.keyOf(one)
+	file.sortDevices(f.named)
+	file.Same = sameOtherBytes(file.Faults)
+	file.markSeen()
+	file.others = f.to
+	f.to.note(file)
+	f.noteLacked(file)
+	key := f.keyOf(file)
+	if !file.hasDetails && (key == "" || f.alike[key] == nil && len(f.alike) >= mostKinds) {
+		file.shorten()
+		key = f.keyOf(file)
 	}
 	if key == "" {
-		f.alone = append(f.alone, one)
+		f.alone = append(f.alone, file)
 		return
 	}
 	to := f.alike[key]
@@ -132,19 +132,19 @@ func (f *folding) take(one *File) {
 		f.alike[key] = to
 		f.keys = append(f.keys, key)
 	}
-	to.take(one)
+	to.take(file)
 }
 
 // take takes one more name of the same fault.
-func (a *alike) take(one *File) {
+func (a *alike) take(file *File) {
 	a.group.Names++
-	a.group.Bytes += one.Size
-	a.group.isAbove = a.group.isAbove || one.isAbove()
-	if !one.hasDetails {
+	a.group.Bytes += file.Size
+	a.group.isAbove = a.group.isAbove || file.isAbove()
+	if !file.hasDetails {
 		a.group.Unsized++
 	}
 	if len(a.first) < mostAlone {
-		a.first = append(a.first, one)
+		a.first = append(a.first, file)
 	}
 }
 
@@ -152,16 +152,16 @@ func (a *alike) take(one *File) {
 func (f *folding) end() ([]*File, []*Group) {
 	files, groups := append([]*File{}, f.alone...), []*Group{}
 	for _, key := range f.keys {
-		if one := f.alike[key]; one.group.Names > mostAlone {
-			groups = append(groups, one.groupOf(f.named))
+		if alike := f.alike[key]; alike.group.Names > mostAlone {
+			groups = append(groups, alike.groupOf(f.named))
 		} else {
-			files = append(files, one.first...)
+			files = append(files, alike.first...)
 		}
 	}
 	sort.Slice(files, func(a, b int) bool { return files[a].Name < files[b].Name })
-	for _, one := range files {
-		f.noteBelow(one)
-		one.Foretold, one.Advice = one.tell(f.named), adviceOf(one, f.named)
+	for _, file := range files {
+		f.noteBelow(file)
+		file.Foretold, file.Advice = file.tell(f.named), adviceOf(file, f.named)
 	}
 	link(files)
 	return files, groups
@@ -179,19 +179,19 @@ func (a *alike) groupOf(named labels) *Group {
 		made.Deleted = made.Cause == Behind && first.Faults[0].Deletion
 	}
 	made.of, made.isOfAnotherTime = many, first.isOfAnotherTime
-	for _, one := range first.Faults {
-		made.Devices = append(made.Devices, one.Device)
+	for _, fault := range first.Faults {
+		made.Devices = append(made.Devices, fault.Device)
 	}
-	for _, one := range a.first[:firstNames] {
-		made.First = append(made.First, one.Name)
+	for _, file := range a.first[:firstNames] {
+		made.First = append(made.First, file.Name)
 	}
 	return &made
 }
 
 // modesOf gives the permissions of a name.
-func modesOf(folder *finding.Folder, one *finding.Permissions) []Mode {
+func modesOf(folder *finding.Folder, permissions *finding.Permissions) []Mode {
 	made := []Mode{}
-	for member, bits := range one.At {
+	for member, bits := range permissions.At {
 		if !bits.Has && !bits.OnDisk {
 			continue
 		}

@@ -67,9 +67,9 @@ func liveOf(from *finding.Folder) *Live {
 		}
 	}
 	id := func(member int) string { return from.Members[member].Head.Device }
-	for _, one := range from.Live.Names {
-		next := Moving{Name: one.Name, Devices: []Moved{}}
-		for _, at := range one.At {
+	for _, moving := range from.Live.Names {
+		next := Moving{Name: moving.Name, Devices: []Moved{}}
+		for _, at := range moving.At {
 			moved := Moved{Device: id(at.Member), Why: at.Why, Waits: at.Waits, as: at.As, isOverWire: from.Members[at.Member].Head.IsOverWireAlone()}
 			if at.As != nil {
 				moved.Recorded, moved.Found = recorded(at.As.Own), found(at.As.Disk)
@@ -81,8 +81,8 @@ func liveOf(from *finding.Folder) *Live {
 		}
 		made.Names = append(made.Names, next)
 	}
-	for _, one := range from.Live.Unheard {
-		made.Unheard = append(made.Unheard, Unheard{id(one.Member), id(one.Of), one.Names})
+	for _, unheard := range from.Live.Unheard {
+		made.Unheard = append(made.Unheard, Unheard{id(unheard.Member), id(unheard.Of), unheard.Names})
 	}
 	return made
 }
@@ -97,14 +97,14 @@ func (l *Live) inMotion() string {
 }
 
 // still says for how long the names were still.
-func still(one *Folder) string {
-	if one.Live.isOfParts {
+func still(folder *Folder) string {
+	if folder.Live.isOfParts {
 		return ""
 	}
-	if one.Live.Seconds == nil {
+	if folder.Live.Seconds == nil {
 		return "still: "
 	}
-	return fmt.Sprintf("still for %s s: ", thousands(int64(*one.Live.Seconds)))
+	return fmt.Sprintf("still for %s s: ", thousands(int64(*folder.Live.Seconds)))
 }
 
 // mostMoving is how many names in motion are told.
@@ -123,8 +123,8 @@ var wordsOfMoved = map[string]string{
 // waiting counts the names that wait for a scan.
 func (l *Live) waiting() int64 {
 	count := int64(0)
-	for _, one := range l.Names {
-		if slices.IndexFunc(one.Devices, func(at Moved) bool { return slices.Contains(at.Why, part.MovedUnscanned) }) >= 0 {
+	for _, moving := range l.Names {
+		if slices.IndexFunc(moving.Devices, func(at Moved) bool { return slices.Contains(at.Why, part.MovedUnscanned) }) >= 0 {
 			count++
 		}
 	}
@@ -141,9 +141,9 @@ const beforeScan = "it takes what differs on the disk for changed, and what is m
 // beforeScan says that of a folder, and which devices take nothing of it.
 func (p *printer) beforeScan(folder *Folder) string {
 	keepers := []string{}
-	for _, one := range folder.Devices {
-		if one.Kind == sendOnly {
-			keepers = append(keepers, one.Device)
+	for _, member := range folder.Devices {
+		if member.Kind == sendOnly {
+			keepers = append(keepers, member.Device)
 		}
 	}
 	if len(keepers) == 0 {
@@ -176,9 +176,9 @@ func (p *printer) moving(folder *Folder) {
 		p.line("for how long %s was still isn't known: the devices' clocks differ by more than that", folder.ID)
 	}
 	p.movingNames(folder, live)
-	for _, one := range live.Unheard {
+	for _, unheard := range live.Unheard {
 		p.line("not heard of in %s: what %s recorded last of %s hasn't reached %s: it is on its way, or the two aren't connected", folder.ID,
-			p.named.of(one.Of), counted(one.Names, "still name", "still names"), p.named.of(one.Device))
+			p.named.of(unheard.Of), counted(unheard.Names, "still name", "still names"), p.named.of(unheard.Device))
 	}
 }
 
@@ -194,16 +194,16 @@ func (p *printer) movingNames(folder *Folder, live *Live) {
 	if isWaiting {
 		p.running("  before a scan:", p.beforeScan(folder))
 	}
-	for place, one := range live.worst() {
+	for place, moving := range live.worst() {
 		if place == mostMoving {
 			p.line("  and %s more (--json has %s)", thousands(live.Moving-mostMoving), thousands(int64(len(live.Names))))
 			break
 		}
 		words := []string{}
-		for _, at := range one.Devices {
+		for _, at := range moving.Devices {
 			words = append(words, p.named.of(at.Device)+": "+p.whyMoved(at))
 		}
-		p.line("  %s: %s", shell.Path(string(one.Name)), strings.Join(words, "; "))
+		p.line("  %s: %s", shell.Path(string(moving.Name)), strings.Join(words, "; "))
 	}
 	if isWaiting {
 		p.line("  then: %s", live.advice())

@@ -20,8 +20,8 @@ func (f *Fault) isDamagedChange() bool {
 // wordsOfChanged say what changed in files: of one, or of many together.
 func wordsOfChanged(faults []*Fault) string {
 	recorded, found := int64(0), int64(0)
-	for _, one := range faults {
-		recorded, found = recorded+one.Recorded.Size, found+one.Found.Size
+	for _, fault := range faults {
+		recorded, found = recorded+fault.Recorded.Size, found+fault.Found.Size
 	}
 	words := wordsOf[Changed]
 	why := faults[0].Damage
@@ -38,15 +38,15 @@ func wordsOfChanged(faults []*Fault) string {
 }
 
 // seeDamage says what to do about what looks like damage, and which the next scan takes for a change.
-func seeDamage(one *Fault, file *File, named labels) string {
-	at, it := named.of(one.Device), file.say("it", "them")
-	if one.isReplacedDirectory() {
-		return "before Syncthing starts or scans on " + at + " (a scan takes all that was below the directory for deleted" + file.filesBelow(one) + "), " + file.putsBack(one, named)
+func seeDamage(fault *Fault, file *File, named labels) string {
+	at, it := named.of(fault.Device), file.say("it", "them")
+	if fault.isReplacedDirectory() {
+		return "before Syncthing starts or scans on " + at + " (a scan takes all that was below the directory for deleted" + file.filesBelow(fault) + "), " + file.putsBack(fault, named)
 	}
-	if one.Damage.MayBeOfRecord() {
+	if fault.Damage.MayBeOfRecord() {
 		return "before Syncthing starts or scans on " + at + ", copy " + it + " from there to a place outside the folder: nobody can tell which bytes are the right ones"
 	}
-	return "this looks like damage, not like an edit. Before Syncthing starts or scans on " + at + ", " + file.putsBack(one, named) + ". If " +
+	return "this looks like damage, not like an edit. Before Syncthing starts or scans on " + at + ", " + file.putsBack(fault, named) + ". If " +
 		file.say("it is wanted as it is, leave it", "they are wanted as they are, leave them")
 }
 

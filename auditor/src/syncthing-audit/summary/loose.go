@@ -29,12 +29,12 @@ func looseOf(from *finding.Folder) (int64, []Loose) {
 	if from.HasFailures() || from.HowFirm() != finding.NotFirm {
 		return 0, made
 	}
-	from.Loose.Each(func(one *finding.Loose) {
+	from.Loose.Each(func(loose *finding.Loose) {
 		if len(made) == finding.MostListed {
 			return
 		}
-		next := Loose{Name: Text(one.Name), Devices: []LooseAt{}}
-		for _, at := range one.At {
+		next := Loose{Name: Text(loose.Name), Devices: []LooseAt{}}
+		for _, at := range loose.At {
 			next.Devices = append(next.Devices, LooseAt{from.Members[at.Member].Head.Device, at.Reason, at.IsOlder})
 		}
 		made = append(made, next)
@@ -66,20 +66,20 @@ func (p *printer) loose(folder *Folder) {
 		return
 	}
 	p.line("\n%s %s from being firm", counted(folder.Loose, "name keeps", "names keep"), folder.ID)
-	for place, one := range folder.NotFirm {
+	for place, loose := range folder.NotFirm {
 		if place == mostLoose {
 			p.line("  and %s more (--lines has all)", thousands(folder.Loose-mostLoose))
 			break
 		}
 		words := []string{}
-		for _, at := range one.Devices {
+		for _, at := range loose.Devices {
 			why := wordsOfLoose[at.Reason]
 			if at.IsOlder {
 				why = "has it under an older version"
 			}
 			words = append(words, p.named.of(at.Device)+" "+why)
 		}
-		p.line("  %s: %s", shell.Path(string(one.Name)), strings.Join(words, "; "))
+		p.line("  %s: %s", shell.Path(string(loose.Name)), strings.Join(words, "; "))
 	}
 	p.running("  that is:", meaningOfLoose)
 	p.advice([]string{adviceOfLoose})

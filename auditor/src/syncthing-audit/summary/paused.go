@@ -6,12 +6,12 @@ import "syncthing-audit/shell"
 func (p *printer) paused(s *Summary) {
 	folders, others := places{}, places{}
 	for _, folder := range s.Folders {
-		for _, one := range folder.Devices {
-			if one.Paused {
-				folders.add(shell.Folder(folder.ID, folder.Label), one.Device)
+		for _, member := range folder.Devices {
+			if member.Paused {
+				folders.add(shell.Folder(folder.ID, folder.Label), member.Device)
 			}
-			for _, other := range one.PausedDevices {
-				others.add(p.named.of(other), one.Device)
+			for _, other := range member.PausedDevices {
+				others.add(p.named.of(other), member.Device)
 			}
 		}
 	}

@@ -14,13 +14,13 @@ func permissionsAdvice(file *File, named labels) string {
 	indexes := []string{}
 	devices := []string{}
 	strays := places{}
-	for _, one := range file.Permissions {
-		indexes = addOnce(indexes, one.Index)
-		devices = append(devices, one.Device)
-		if !one.isStray() {
+	for _, mode := range file.Permissions {
+		indexes = addOnce(indexes, mode.Index)
+		devices = append(devices, mode.Device)
+		if !mode.isStray() {
 			continue
 		}
-		strays.add(file.saveFirst()+"'chmod "+one.Index+"' "+it+" if that is the right mode, before Syncthing scans there: a scan takes "+one.Disk+" for a change", one.Device)
+		strays.add(file.saveFirst()+"'chmod "+mode.Index+"' "+it+" if that is the right mode, before Syncthing scans there: a scan takes "+mode.Disk+" for a change", mode.Device)
 	}
 	strays.each(named, func(told, devices string) { words = append(words, "on "+devices+", "+told) })
 	if len(indexes) > 1 {
@@ -42,7 +42,7 @@ func (f *File) saveFirst() string {
 // isModeFirst says whether a mode is to be changed before a scan, and so before anything is told that makes one. Steps that put a name right were found for its
 // disks as they are, and give it one mode where they copy it.
 func (f *File) isModeFirst() bool {
-	return !f.foretold.hasGoal() && slices.IndexFunc(f.Permissions, func(one Mode) bool { return one.isStray() }) >= 0
+	return !f.foretold.hasGoal() && slices.IndexFunc(f.Permissions, func(mode Mode) bool { return mode.isStray() }) >= 0
 }
 
 // isStray says whether a disk has another mode than the device's index.

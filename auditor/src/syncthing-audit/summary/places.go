@@ -19,8 +19,8 @@ func (p *places) add(told, device string) {
 
 // each says what is told, with the names of the devices.
 func (p *places) each(named labels, say func(told, devices string)) {
-	for _, one := range p.told {
-		say(one, named.all(p.devices[one]))
+	for _, word := range p.told {
+		say(word, named.all(p.devices[word]))
 	}
 }
 

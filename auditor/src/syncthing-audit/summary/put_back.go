@@ -28,21 +28,21 @@ func isAsRecorded(disk *part.Node, record *part.Record) bool {
 }
 
 // putBack says to put back the bytes that a device recorded: another device may have them, though another version is due.
-func (f *File) putBack(one *Fault, named labels) string {
-	at := named.of(one.Device)
+func (f *File) putBack(fault *Fault, named labels) string {
+	at := named.of(fault.Device)
 	told := "put the bytes back that " + at + " recorded"
-	if len(one.sources) == 0 {
+	if len(fault.sources) == 0 {
 		return told + ", from old versions or backups"
 	}
-	return told + ": copy " + f.say("it", "them") + " from " + f.sourceOfRecorded(one, named) + " to " + at + f.manner(one, overFile)
+	return told + ": copy " + f.say("it", "them") + " from " + f.sourceOfRecorded(fault, named) + " to " + at + f.manner(fault, overFile)
 }
 
 // sourceOfRecorded says from where the bytes that a device recorded can be copied.
-func (f *File) sourceOfRecorded(one *Fault, named labels) string {
-	if len(one.sources) == 0 {
+func (f *File) sourceOfRecorded(fault *Fault, named labels) string {
+	if len(fault.sources) == 0 {
 		return "old versions or backups"
 	}
-	return named.of(named.rising(one.sources)[0])
+	return named.of(named.rising(fault.sources)[0])
 }
 
 // bestAdvice says what is to be saved before all else where no audited device has the recorded bytes: what stands on the disks of those that have some of
@@ -50,13 +50,13 @@ func (f *File) sourceOfRecorded(one *Fault, named labels) string {
 func (f *File) bestAdvice(named labels) []string {
 	on, most := []string{}, (*Fault)(nil)
 	for place := range f.Faults {
-		one := &f.Faults[place]
-		if !f.hasSomeBlocks(one) {
+		fault := &f.Faults[place]
+		if !f.hasSomeBlocks(fault) {
 			continue
 		}
-		on = addOnce(on, one.Device)
-		if most == nil || one.Blocks.Count < most.Blocks.Count {
-			most = one
+		on = addOnce(on, fault.Device)
+		if most == nil || fault.Blocks.Count < most.Blocks.Count {
+			most = fault
 		}
 	}
 	if len(f.Have) > 0 || len(on) == 0 {
@@ -70,11 +70,11 @@ func (f *File) bestAdvice(named labels) []string {
 }
 
 // hasSomeBlocks says whether some blocks of what is due stand on the disk of a device.
-func (f *File) hasSomeBlocks(one *Fault) bool {
-	return f.isOfDue(one) && (one.Cause == OtherBytes || one.Cause == Changed && one.Damage != damage.None) && one.Blocks != nil && one.Blocks.Count < one.Blocks.Of
+func (f *File) hasSomeBlocks(fault *Fault) bool {
+	return f.isOfDue(fault) && (fault.Cause == OtherBytes || fault.Cause == Changed && fault.Damage != damage.None) && fault.Blocks != nil && fault.Blocks.Count < fault.Blocks.Of
 }
 
 // isOfDue says whether what a device recorded is what is due.
-func (f *File) isOfDue(one *Fault) bool {
-	return one.Due != nil && !one.Due.Deleted && f.lackOn(one.Device) == nil && !f.isTiedAt(one.Device) && !f.hasAt(one.Device, LocalChange)
+func (f *File) isOfDue(fault *Fault) bool {
+	return fault.Due != nil && !fault.Due.Deleted && f.lackOn(fault.Device) == nil && !f.isTiedAt(fault.Device) && !f.hasAt(fault.Device, LocalChange)
 }

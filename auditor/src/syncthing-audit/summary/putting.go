@@ -3,30 +3,30 @@ package summary
 import "syncthing-audit/part"
 
 // putsBack says how a device's disk gets what the device recorded: then no scan finds a change there, whatever others have.
-func (f *File) putsBack(one *Fault, named labels) string {
-	at, it := named.of(one.Device), f.say("it", "them")
-	if one.Cause == Back {
+func (f *File) putsBack(fault *Fault, named labels) string {
+	at, it := named.of(fault.Device), f.say("it", "them")
+	if fault.Cause == Back {
 		return "copy elsewhere first what is to stay, and delete " + it + " on " + at + " while Syncthing is stopped there"
 	}
 	first := ""
 	switch {
-	case one.Damage.MayBeOfRecord():
+	case fault.Damage.MayBeOfRecord():
 		first = "first copy " + it + " from " + at + " to a place outside the folder: the recorded bytes may be the wrong ones. Then "
-	case one.Cause != Missing:
+	case fault.Cause != Missing:
 		first = "copy elsewhere first what stands there, if it may be right, and "
 	}
-	if f.lackOn(one.Device) == nil && !f.isTiedAt(one.Device) && !f.hasAt(one.Device, LocalChange) {
-		return first + copying(one, f, named, wayTo(one))
+	if f.lackOn(fault.Device) == nil && !f.isTiedAt(fault.Device) && !f.hasAt(fault.Device, LocalChange) {
+		return first + copying(fault, f, named, wayTo(fault))
 	}
-	return first + f.putBack(one, named)
+	return first + f.putBack(fault, named)
 }
 
 // wayTo says over what something is copied at a fault.
-func wayTo(one *Fault) way {
+func wayTo(fault *Fault) way {
 	switch {
-	case one.Cause == Missing:
+	case fault.Cause == Missing:
 		return toNothing
-	case one.Cause == OtherBytes || one.isFileForFile():
+	case fault.Cause == OtherBytes || fault.isFileForFile():
 		return overFile
 	}
 	return overAnother
@@ -35,8 +35,8 @@ func wayTo(one *Fault) way {
 // lackOn gives the fault by which a device has still to take what others have of the name; nothing where it has none. Under an equal version it takes nothing.
 func (f *File) lackOn(device string) *Fault {
 	for place := range f.Faults {
-		if one := &f.Faults[place]; one.Device == device && (one.Cause == Behind && !one.isTied || one.Cause == Conflicting) {
-			return one
+		if fault := &f.Faults[place]; fault.Device == device && (fault.Cause == Behind && !fault.isTied || fault.Cause == Conflicting) {
+			return fault
 		}
 	}
 	return nil

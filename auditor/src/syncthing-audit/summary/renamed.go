@@ -11,14 +11,14 @@ import (
 type ends struct{ goes, comes []part.Content }
 
 // endsOf gives what goes and what comes with a fault at a device, of a name for which this is due.
-func endsOf(one *Fault, at *part.Name, due *part.Record) ends {
+func endsOf(fault *Fault, at *part.Name, due *part.Record) ends {
 	hasOwn := at != nil && at.Own != nil && at.Own.Content != nil
 	switch {
-	case hasOwn && (one.Cause == Missing || one.Cause == Behind && one.Deletion):
+	case hasOwn && (fault.Cause == Missing || fault.Cause == Behind && fault.Deletion):
 		return ends{goes: []part.Content{*at.Own.Content}}
-	case one.Cause == NotScanned && at != nil && at.Disk != nil:
+	case fault.Cause == NotScanned && at != nil && at.Disk != nil:
 		return ends{comes: at.Disk.Contents}
-	case one.Cause == Behind && !hasOwn && due != nil && due.Content != nil:
+	case fault.Cause == Behind && !hasOwn && due != nil && due.Content != nil:
 		return ends{comes: []part.Content{*due.Content}}
 	}
 	return ends{}
@@ -51,11 +51,11 @@ func link(files []*File) {
 }
 
 // renamed prints from what or to what a name was renamed, as it seems.
-func (p *printer) renamed(one *File) {
-	if one.RenamedFrom != "" {
-		p.line("  it seems to be renamed from %s: the recorded bytes are the same", shell.Path(string(one.RenamedFrom)))
+func (p *printer) renamed(file *File) {
+	if file.RenamedFrom != "" {
+		p.line("  it seems to be renamed from %s: the recorded bytes are the same", shell.Path(string(file.RenamedFrom)))
 	}
-	if one.RenamedTo != "" {
-		p.line("  it seems to be renamed to %s: the recorded bytes are the same", shell.Path(string(one.RenamedTo)))
+	if file.RenamedTo != "" {
+		p.line("  it seems to be renamed to %s: the recorded bytes are the same", shell.Path(string(file.RenamedTo)))
 	}
 }

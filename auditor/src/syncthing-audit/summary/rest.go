@@ -27,14 +27,14 @@ func (p *printer) rest(s *Summary) {
 	p.stopped(s)
 	p.writers(s)
 	p.nearTimes(s)
-	for _, one := range s.LeftOut {
-		p.line("left out: %s: %s", one.called(), one.Why)
+	for _, left := range s.LeftOut {
+		p.line("left out: %s: %s", left.called(), left.Why)
 	}
-	for _, one := range s.Earlier {
-		p.line("of another moment: %s of %s: %s", shell.Folder(one.Folder, one.label), one.Device, one.Why)
+	for _, left := range s.Earlier {
+		p.line("of another moment: %s of %s: %s", shell.Folder(left.Folder, left.label), left.Device, left.Why)
 	}
-	for _, one := range s.Observers {
-		p.line("not asked: %s, an observer: it shares %s, keeps no files of it, and sends no records", p.named.observer(one), one.Folder)
+	for _, observer := range s.Observers {
+		p.line("not asked: %s, an observer: it shares %s, keeps no files of it, and sends no records", p.named.observer(observer), observer.Folder)
 	}
 	p.notAsked(s)
 	p.otherNames(s)
@@ -52,12 +52,12 @@ func (p *printer) rest(s *Summary) {
 // own prints which folders are shared with nobody: no other device was asked about these.
 func (p *printer) own(s *Summary) {
 	own, apart := places{}, places{}
-	for _, one := range s.Folders {
+	for _, folder := range s.Folders {
 		switch {
-		case one.isApart:
-			apart.add(one.ID, one.Devices[0].Device)
-		case one.Own:
-			own.add(shell.Folder(one.ID, one.Label), one.Devices[0].Device)
+		case folder.isApart:
+			apart.add(folder.ID, folder.Devices[0].Device)
+		case folder.Own:
+			own.add(shell.Folder(folder.ID, folder.Label), folder.Devices[0].Device)
 		}
 	}
 	own.each(p.named, func(folder, devices string) {
@@ -72,11 +72,11 @@ func (p *printer) own(s *Summary) {
 // nearTimes prints of how many files the time isn't as recorded, and Syncthing takes it for the same: no scan finds them changed.
 func (p *printer) nearTimes(s *Summary) {
 	for _, folder := range s.Folders {
-		for _, one := range folder.Devices {
-			if one.Near > 0 {
+		for _, member := range folder.Devices {
+			if member.Near > 0 {
 				p.line("times taken for the same: %s of %s on %s: the time on the disk isn't the recorded one, by less than %s. No scan there sees that "+
-					"(modTimeWindowS)", counted(one.Near, "file", "files"), shell.Folder(folder.ID, folder.Label), p.named.of(one.Device),
-					counted(one.Window, "second", "seconds"))
+					"(modTimeWindowS)", counted(member.Near, "file", "files"), shell.Folder(folder.ID, folder.Label), p.named.of(member.Device),
+					counted(member.Window, "second", "seconds"))
 			}
 		}
 	}
@@ -89,9 +89,9 @@ const mostAge = 24 * time.Hour
 // since by themselves.
 func (p *printer) ages(s *Summary) {
 	old := []string{}
-	for _, one := range s.Devices {
-		if !one.Read.IsZero() && p.now.Sub(one.Read) > mostAge {
-			old = append(old, p.named.of(one.ID)+" "+p.when(one.Read))
+	for _, device := range s.Devices {
+		if !device.Read.IsZero() && p.now.Sub(device.Read) > mostAge {
+			old = append(old, p.named.of(device.ID)+" "+p.when(device.Read))
 		}
 	}
 	if len(old) > 0 {
@@ -101,19 +101,19 @@ func (p *printer) ages(s *Summary) {
 
 // doubts tells of which devices another index may have been read than Syncthing's present one, or one with a fault.
 func (p *printer) doubts(s *Summary) {
-	for _, one := range s.Devices {
-		if one.Index != nil {
+	for _, device := range s.Devices {
+		if device.Index != nil {
 			p.line("maybe an old index: that of %s was written last %s, and config.xml there after that, %s. If Syncthing was started there since then, it "+
 				"has its database elsewhere, and this answer isn't about that: name it as --data DIR. If config.xml was only edited, all is well",
-				p.named.of(one.ID), p.when(one.Index.Written), p.when(one.Index.Configured))
+				p.named.of(device.ID), p.when(device.Index.Written), p.when(device.Index.Configured))
 		}
-		if one.Newer != nil {
-			p.line("maybe an old index: that of %s was written last %s, and %s there after that, %s. %s", p.named.of(one.ID), p.when(one.Newer.Read),
-				one.Newer.Called(), p.when(one.Newer.Written), one.Newer.WhatToDo())
+		if device.Newer != nil {
+			p.line("maybe an old index: that of %s was written last %s, and %s there after that, %s. %s", p.named.of(device.ID), p.when(device.Newer.Read),
+				device.Newer.Called(), p.when(device.Newer.Written), device.Newer.WhatToDo())
 		}
-		if one.Repair {
+		if device.Repair {
 			p.line("to be repaired: the index of %s. Syncthing found a fault in it, and repairs it at its next start. Till then it may not take or tell what it "+
-				"should there, whatever its page shows, and records may be missing here. Start it there, let it finish, and audit again", p.named.of(one.ID))
+				"should there, whatever its page shows, and records may be missing here. Start it there, let it finish, and audit again", p.named.of(device.ID))
 		}
 	}
 }
@@ -124,9 +124,9 @@ var tried = []string{"1.19", "1.29"}
 // untried tells which devices have another version of Syncthing than those.
 func (p *printer) untried(s *Summary) {
 	others := []string{}
-	for _, one := range s.Devices {
-		if one.Runs != "" && slices.IndexFunc(tried, func(version string) bool { return strings.HasPrefix(one.Runs, "v"+version+".") }) < 0 {
-			others = append(others, p.named.of(one.ID)+" "+shell.Printable(one.Runs))
+	for _, device := range s.Devices {
+		if device.Runs != "" && slices.IndexFunc(tried, func(version string) bool { return strings.HasPrefix(device.Runs, "v"+version+".") }) < 0 {
+			others = append(others, p.named.of(device.ID)+" "+shell.Printable(device.Runs))
 		}
 	}
 	if len(others) > 0 {
@@ -143,20 +143,20 @@ func (p *printer) copies(folder *Folder) {
 		return
 	}
 	count, bytes, has := int64(len(folder.Copies))+folder.More.Names, folder.More.Bytes, "all"
-	for _, one := range folder.Copies {
-		bytes += one.Bytes
+	for _, conflict := range folder.Copies {
+		bytes += conflict.Bytes
 	}
 	if folder.More.Names > 0 {
 		has = "the first " + thousands(int64(len(folder.Copies)))
 	}
 	p.line("%s in %s, %s: compare each with its file, and keep what you want of both", counted(count, "conflict copy", "conflict copies"),
 		folder.ID, size(bytes))
-	for place, one := range folder.Copies {
+	for place, conflict := range folder.Copies {
 		if place == mostCopies {
 			p.line("  and %s more (--json has %s)", thousands(count-mostCopies), has)
 			break
 		}
-		p.line("  %s", shell.Path(string(one.Name)))
+		p.line("  %s", shell.Path(string(conflict.Name)))
 	}
 }
 
@@ -164,9 +164,9 @@ func (p *printer) copies(folder *Folder) {
 func (p *printer) leftOut(folder *Folder) {
 	if len(folder.LeftOut) > 0 {
 		names, bytes := folder.MoreOut.Names, folder.MoreOut.Bytes
-		for _, one := range folder.LeftOut {
-			names += one.Names
-			bytes += one.Bytes
+		for _, left := range folder.LeftOut {
+			names += left.Names
+			bytes += left.Bytes
 		}
 		p.line("left out of %s: %s, %s", folder.ID, counted(names, "name", "names"), size(bytes))
 		p.leftByReasons(folder.LeftOut)
@@ -182,11 +182,11 @@ func (p *printer) leftOut(folder *Folder) {
 
 // temporary prints how many names Syncthing takes for its temporary files. Some may be a user's own.
 func (p *printer) temporary(folder *Folder) {
-	for _, one := range folder.Devices {
-		if one.Temporary != nil {
+	for _, member := range folder.Devices {
+		if member.Temporary != nil {
 			p.line("outside %s: %s, %s on %s, which Syncthing takes for its temporary files ('.syncthing.*', '~syncthing~*'): it never sends such names, "+
 				"and its scans delete such files once they are a day old, or as 'keepTemporariesH' says", folder.ID,
-				counted(one.Temporary.Names, "name", "names"), size(one.Temporary.Bytes), p.named.of(one.Device))
+				counted(member.Temporary.Names, "name", "names"), size(member.Temporary.Bytes), p.named.of(member.Device))
 		}
 	}
 }
@@ -197,17 +197,17 @@ const mostLeft = 5
 // leftByReasons prints names that were left out: of those for the same on the same devices the first ones.
 func (p *printer) leftByReasons(all []Names) {
 	told, more, keys := map[string]int{}, map[string]finding.Count{}, []string{}
-	for _, one := range all {
-		key := p.kindsOf(one)
+	for _, names := range all {
+		key := p.kindsOf(names)
 		if told[key]++; told[key] <= mostLeft {
-			p.left(one)
+			p.left(names)
 			continue
 		}
 		if told[key] == mostLeft+1 {
 			keys = append(keys, key)
 		}
 		count := more[key]
-		count.Add(one.Names, one.Bytes)
+		count.Add(names.Names, names.Bytes)
 		more[key] = count
 	}
 	for _, key := range keys {
@@ -216,8 +216,8 @@ func (p *printer) leftByReasons(all []Names) {
 }
 
 // kindsOf says for what a name was left out, on which devices.
-func (p *printer) kindsOf(one Names) string {
-	return p.byDevices(one.Why, func(why WhyLeft) string { return why.Kind }, func(kind, devices string) string {
+func (p *printer) kindsOf(names Names) string {
+	return p.byDevices(names.Why, func(why WhyLeft) string { return why.Kind }, func(kind, devices string) string {
 		if devices != "" {
 			kind += " on " + devices
 		}
@@ -228,20 +228,20 @@ func (p *printer) kindsOf(one Names) string {
 // byDevices gives reasons as texts, each once with the devices at which it is.
 func (p *printer) byDevices(all []WhyLeft, text func(WhyLeft) string, say func(text, devices string) string) string {
 	reasons, words := places{}, []string{}
-	for _, one := range all {
-		reasons.add(text(one), one.Device)
+	for _, why := range all {
+		reasons.add(text(why), why.Device)
 	}
 	reasons.each(p.named, func(text, devices string) { words = append(words, say(text, devices)) })
 	return strings.Join(words, "; ")
 }
 
 // left prints a name that was left out.
-func (p *printer) left(one Names) {
-	name := shell.Path(string(one.Name))
-	if one.Below {
-		name += " and all below it (" + counted(one.Names, "name", "names") + ")"
+func (p *printer) left(names Names) {
+	name := shell.Path(string(names.Name))
+	if names.Below {
+		name += " and all below it (" + counted(names.Names, "name", "names") + ")"
 	}
-	p.line("  %s, %s: %s", name, size(one.Bytes), p.byDevices(one.Why, func(why WhyLeft) string { return why.Why }, func(why, devices string) string {
+	p.line("  %s, %s: %s", name, size(names.Bytes), p.byDevices(names.Why, func(why WhyLeft) string { return why.Why }, func(why, devices string) string {
 		if devices != "" {
 			why = devices + ": " + why
 		}

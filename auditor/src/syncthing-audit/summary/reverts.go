@@ -7,12 +7,12 @@ import "golang.org/x/exp/slices"
 func (a *actions) noteReverts(file *File) {
 	added, changed := map[string]bool{}, map[string]bool{}
 	for place := range file.Faults {
-		one := &file.Faults[place]
-		if one.Cause == LocalChange {
-			a.reverts[one.Device] = append(a.reverts[one.Device], a.entries)
+		fault := &file.Faults[place]
+		if fault.Cause == LocalChange {
+			a.reverts[fault.Device] = append(a.reverts[fault.Device], a.entries)
 		}
-		added[one.Device] = added[one.Device] || one.isAddedThere()
-		changed[one.Device] = changed[one.Device] || one.isChangedThere()
+		added[fault.Device] = added[fault.Device] || fault.isAddedThere()
+		changed[fault.Device] = changed[fault.Device] || fault.isChangedThere()
 	}
 	for device, is := range changed {
 		switch {

@@ -37,10 +37,10 @@ func (p *printer) changedEverywhere(since *history.Since) {
 	}
 	p.line("%s on all devices that have it, under one time and size. No comparison of devices shows that",
 		counted(since.Count, "file has other bytes than before", "files have other bytes than before, each"))
-	for _, one := range since.Changed[:shown(len(since.Changed))] {
+	for _, changed := range since.Changed[:shown(len(since.Changed))] {
 		p.line("  %s in %s: its bytes changed between %s and %s on %s. If nobody changed it, 'syncthing-audit find' looks among backups and old versions of before %s for its bytes. "+
-			"A program that puts a file's time back after it wrote looks the same", shell.Quoted(string(one.Name)), one.Folder, p.day(one.Before), p.day(one.Since),
-			p.named.all(one.Devices), p.day(one.Since))
+			"A program that puts a file's time back after it wrote looks the same", shell.Quoted(string(changed.Name)), changed.Folder, p.day(changed.Before), p.day(changed.Since),
+			p.named.all(changed.Devices), p.day(changed.Since))
 	}
 	if more := since.Count - int64(shown(len(since.Changed))); more > 0 {
 		p.line("  and %s more (--json has %s of them)", thousands(more), thousands(int64(len(since.Changed))))
@@ -55,16 +55,16 @@ func (p *printer) news(since *history.Since) {
 		told = append(told, counted(since.Unasked.Count, "wasn't looked at", "weren't looked at"))
 	}
 	p.line("since the audit of %s: %s", p.day(*since.Before), strings.Join(told, ", "))
-	for _, one := range []struct {
+	for _, list := range []struct {
 		word string
 		list history.List
 	}{{"new", since.New}, {"mended", since.Mended}, {"lasts", since.Lasting}, {"not looked at", since.Unasked}} {
-		places := placesOf(one.list.First)
+		places := placesOf(list.list.First)
 		for _, place := range places[:shown(len(places))] {
-			p.line("  %s: %s in %s%s (%s), since %s", one.word, shell.Quoted(string(place.Name)), place.Folder, p.onDevice(place.Device), place.Reason, p.day(place.First))
+			p.line("  %s: %s in %s%s (%s), since %s", list.word, shell.Quoted(string(place.Name)), place.Folder, p.onDevice(place.Device), place.Reason, p.day(place.First))
 		}
 		if more := len(places) - shown(len(places)); more > 0 {
-			p.line("  %s: %s more (--json has the first %s)", one.word, counted(int64(more), "name", "names"), thousands(history.MostListed))
+			p.line("  %s: %s more (--json has the first %s)", list.word, counted(int64(more), "name", "names"), thousands(history.MostListed))
 		}
 	}
 }

@@ -10,15 +10,15 @@ import (
 func (p *printer) stopped(s *Summary) {
 	told := map[string][]string{}
 	for _, folder := range s.Folders {
-		for _, one := range folder.Devices {
-			if one.Rest == part.RestStopped {
-				told[one.Device] = addOnce(told[one.Device], folder.ID)
+		for _, member := range folder.Devices {
+			if member.Rest == part.RestStopped {
+				told[member.Device] = addOnce(told[member.Device], folder.ID)
 			}
 		}
 	}
-	for _, one := range s.Devices {
-		if len(told[one.ID]) > 0 {
-			p.running("not running: Syncthing on "+p.named.of(one.ID), "("+strings.Join(told[one.ID], ", ")+"): it takes and sends nothing until it is started there.")
+	for _, device := range s.Devices {
+		if len(told[device.ID]) > 0 {
+			p.running("not running: Syncthing on "+p.named.of(device.ID), "("+strings.Join(told[device.ID], ", ")+"): it takes and sends nothing until it is started there.")
 		}
 	}
 }

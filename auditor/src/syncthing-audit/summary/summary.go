@@ -131,17 +131,17 @@ type Member struct {
 	OverWire *OverWire `json:"over_the_wire,omitempty"` // what isn't seen of a device that was asked over the wire
 }
 
-func memberOf(one join.Member) Member {
-	made := Member{Device: one.Head.Device, Kind: kindOf(one), OverWire: overWireOf(one)}
-	if one.About != nil {
-		made.Path, made.Indexed, made.Paused, made.PausedDevices = one.About.Path, one.About.Indexed, one.About.Paused, one.About.PausedDevices
-		made.Writers, made.Window, made.Near = one.About.Writers, one.About.TimeWindow, one.Near
-		if one.About.Rest != nil {
-			made.Rest = one.About.Rest.State
+func memberOf(member join.Member) Member {
+	made := Member{Device: member.Head.Device, Kind: kindOf(member), OverWire: overWireOf(member)}
+	if member.About != nil {
+		made.Path, made.Indexed, made.Paused, made.PausedDevices = member.About.Path, member.About.Indexed, member.About.Paused, member.About.PausedDevices
+		made.Writers, made.Window, made.Near = member.About.Writers, member.About.TimeWindow, member.Near
+		if member.About.Rest != nil {
+			made.Rest = member.About.Rest.State
 		}
 	}
-	if one.Temporary != nil && one.Temporary.Names > 0 {
-		made.Temporary = &Count{one.Temporary.Names, one.Temporary.Bytes}
+	if member.Temporary != nil && member.Temporary.Names > 0 {
+		made.Temporary = &Count{member.Temporary.Names, member.Temporary.Bytes}
 	}
 	return made
 }
@@ -202,30 +202,30 @@ func Of(answer *finding.Answer) *Summary {
 	made := &Summary{Version: Version, Verdict: verdictOf(answer), Firm: answer.HowFirm(), Devices: []Device{}, Folders: []*Folder{}, LeftOut: []LeftOut{},
 		NotAsked: notAsked(answer), NotTold: notTold(answer), NotCompared: notCompared, isByName: answer.IsByName, byNames: answer.ByNames}
 	asked := askedOf(answer)
-	for _, one := range answer.Devices {
-		names := asked[one.ID]
-		made.Devices = append(made.Devices, Device{one.ID, one.Name, one.Made, one.From, one.Runs, Text(names.Prefix), sliceOf(names), one.Index, one.Newer, one.ToRepair, one.IsUnsigned, names})
+	for _, device := range answer.Devices {
+		names := asked[device.ID]
+		made.Devices = append(made.Devices, Device{device.ID, device.Name, device.Made, device.From, device.Runs, Text(names.Prefix), sliceOf(names), device.Index, device.Newer, device.ToRepair, device.IsUnsigned, names})
 	}
 	named := made.labels()
 	made.actions = &actions{safe: map[string][]int{}, damaged: map[string]int64{}, waits: map[string]*waiting{}, grown: map[string]int64{}, added: map[string]int64{},
 		changed: map[string]int64{}, taken: map[string][]int{}, reverts: map[string][]int{}, started: map[string][]int{}}
 	names := []*folding{}
-	for _, one := range answer.Folders {
+	for _, folder := range answer.Folders {
 		all := &folding{named: named, to: made.actions, alike: map[string]*alike{}, lacking: map[lacked]int64{}}
-		made.Folders, names = append(made.Folders, folderOf(answer, one, all)), append(names, all)
+		made.Folders, names = append(made.Folders, folderOf(answer, folder, all)), append(names, all)
 	}
-	for place, one := range made.Folders { // what is told of one name depends on what is told of all others
-		one.Files, one.Groups = names[place].end()
+	for place, folder := range made.Folders { // what is told of one name depends on what is told of all others
+		folder.Files, folder.Groups = names[place].end()
 	}
-	for _, one := range answer.Observers {
-		made.Observers = append(made.Observers, Observer{one.Folder, one.Device, one.Name})
+	for _, observer := range answer.Observers {
+		made.Observers = append(made.Observers, Observer{observer.Folder, observer.Device, observer.Name})
 	}
 	made.First = made.firstOf(named)
-	for _, one := range answer.LeftOut {
-		made.LeftOut = append(made.LeftOut, LeftOut{one.Folder, one.Device, one.Kind, one.Why, one.Label})
+	for _, refusal := range answer.LeftOut {
+		made.LeftOut = append(made.LeftOut, LeftOut{refusal.Folder, refusal.Device, refusal.Kind, refusal.Why, refusal.Label})
 	}
-	for _, one := range answer.Earlier {
-		made.Earlier = append(made.Earlier, LeftOut{one.Folder, one.Device, one.Kind, one.Why, one.Label})
+	for _, refusal := range answer.Earlier {
+		made.Earlier = append(made.Earlier, LeftOut{refusal.Folder, refusal.Device, refusal.Kind, refusal.Why, refusal.Label})
 	}
 	return made
 }
@@ -236,20 +236,20 @@ const lengthOfShort = 7
 // labels gives each device's name for a person: the configured one, with the id's beginning where two have the same.
 func (s *Summary) labels() labels {
 	count := map[string]int{}
-	for _, one := range s.Devices {
-		count[one.Name]++
+	for _, device := range s.Devices {
+		count[device.Name]++
 	}
 	made := labels{}
-	for _, one := range s.Devices {
-		short := one.ID
+	for _, device := range s.Devices {
+		short := device.ID
 		if len(short) > lengthOfShort {
 			short = short[:lengthOfShort]
 		}
-		made[one.ID] = shell.Printable(one.Name)
-		if one.Name == "" {
-			made[one.ID] = short
-		} else if count[one.Name] > 1 {
-			made[one.ID] += " (" + short + ")"
+		made[device.ID] = shell.Printable(device.Name)
+		if device.Name == "" {
+			made[device.ID] = short
+		} else if count[device.Name] > 1 {
+			made[device.ID] += " (" + short + ")"
 		}
 	}
 	return made
@@ -276,26 +276,26 @@ func folderOf(answer *finding.Answer, from *finding.Folder, all *folding) *Folde
 	case answer.IsPart(from):
 		made.Verdict = AsFar
 	}
-	for _, one := range from.Members {
-		made.Devices = append(made.Devices, memberOf(one))
+	for _, member := range from.Members {
+		made.Devices = append(made.Devices, memberOf(member))
 	}
 	made.Outlook = print.OutlookOf(from.Outlook, devicesIn(made))
 	foretell := foreteller(made, all.named)
 	without := &withoutSteps{planned: plannedIn(from.Outlook)}
 	from.EachName(func(told *finding.Told) {
-		one := fileOf(from, told)
-		one.isOfSum, one.foretold = answer.IsSum, foretell(told.Name)
-		one.noteParents(from)
-		all.take(one)
-		without.note(one)
+		file := fileOf(from, told)
+		file.isOfSum, file.foretold = answer.IsSum, foretell(told.Name)
+		file.noteParents(from)
+		all.take(file)
+		without.note(file)
 	})
 	made.Wrong, made.modes = all.wrong, all.modes
 	all.to.noteWaiting(from)
-	for _, one := range from.Conflicts {
-		made.Copies = append(made.Copies, Copy{Text(one.Name), one.Bytes})
+	for _, conflict := range from.Conflicts {
+		made.Copies = append(made.Copies, Copy{Text(conflict.Name), conflict.Bytes})
 	}
-	for _, one := range from.LeftOut {
-		made.LeftOut = append(made.LeftOut, namesOf(from, one))
+	for _, left := range from.LeftOut {
+		made.LeftOut = append(made.LeftOut, namesOf(from, left))
 	}
 	made.Live = liveOf(from)
 	made.Firm = from.HowFirm()
@@ -321,9 +321,9 @@ func devicesIn(folder *Folder) []string {
 }
 
 // namesOf gives what was left out.
-func namesOf(folder *finding.Folder, one *finding.LeftOut) Names {
-	made := Names{Name: Text(one.Name), Below: one.Below, Names: one.Names, Bytes: one.Bytes, Why: []WhyLeft{}}
-	for _, why := range one.Why {
+func namesOf(folder *finding.Folder, left *finding.LeftOut) Names {
+	made := Names{Name: Text(left.Name), Below: left.Below, Names: left.Names, Bytes: left.Bytes, Why: []WhyLeft{}}
+	for _, why := range left.Why {
 		device := ""
 		if why.Member >= 0 {
 			device = folder.Members[why.Member].Head.Device
@@ -337,8 +337,8 @@ func namesOf(folder *finding.Folder, one *finding.LeftOut) Names {
 func askedOf(answer *finding.Answer) map[string]choice.Names {
 	made := map[string]choice.Names{}
 	for _, folder := range answer.Folders {
-		for _, one := range folder.Members {
-			made[one.Head.Device] = one.Head.Names
+		for _, member := range folder.Members {
+			made[member.Head.Device] = member.Head.Names
 		}
 	}
 	return made

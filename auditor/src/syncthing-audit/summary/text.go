@@ -26,19 +26,19 @@ type printer struct {
 func (s *Summary) Print(to io.Writer, zone *time.Location, now time.Time) {
 	noticed := &noticing{to: to}
 	p := &printer{noticed, s.labels(), zone, now}
-	for _, one := range s.Folders {
-		p.folder(one)
+	for _, folder := range s.Folders {
+		p.folder(folder)
 	}
 	p.history(s.Since)
 	p.first(s)
 	foretold := &print.Person{To: p.to, Called: p.named.of, Zone: zone}
-	for _, one := range s.Folders {
-		foretold.Outlook(shell.Folder(one.ID, one.Label), one.Verdict != NotInStep, one.Outlook)
-		if one.Converging == finding.Converges {
-			foretold.Converging(shell.Folder(one.ID, one.Label), one.Outlook, one.Pairs)
+	for _, folder := range s.Folders {
+		foretold.Outlook(shell.Folder(folder.ID, folder.Label), folder.Verdict != NotInStep, folder.Outlook)
+		if folder.Converging == finding.Converges {
+			foretold.Converging(shell.Folder(folder.ID, folder.Label), folder.Outlook, folder.Pairs)
 		}
-		if one.lacksOutlook {
-			foretold.NoOutlook(shell.Folder(one.ID, one.Label))
+		if folder.lacksOutlook {
+			foretold.NoOutlook(shell.Folder(folder.ID, folder.Label))
 		}
 	}
 	p.entries(s)
@@ -54,22 +54,22 @@ func (p *printer) line(format string, words ...interface{}) {
 }
 
 // verdict says whether a folder is in step, and firm.
-func (p *printer) verdict(one *Folder) string {
-	if one.Verdict == NotInStep {
-		verdict := "NOT in step, " + counted(one.Wrong, "name is wrong", "names are wrong")
-		if one.modes > 0 {
-			verdict += ", and of " + thousands(one.modes) + " more the permissions alone differ"
+func (p *printer) verdict(folder *Folder) string {
+	if folder.Verdict == NotInStep {
+		verdict := "NOT in step, " + counted(folder.Wrong, "name is wrong", "names are wrong")
+		if folder.modes > 0 {
+			verdict += ", and of " + thousands(folder.modes) + " more the permissions alone differ"
 		}
 		return verdict
 	}
 	verdict := "in step"
-	if one.Firm == finding.IsFirm {
+	if folder.Firm == finding.IsFirm {
 		verdict += " and firm"
 	}
-	if one.Verdict == AsFar {
-		verdict += one.asFarAs()
+	if folder.Verdict == AsFar {
+		verdict += folder.asFarAs()
 	}
-	switch one.Firm {
+	switch folder.Firm {
 	case finding.NotFirm:
 		verdict += ", not firm"
 	case finding.NotKnown:
@@ -79,75 +79,75 @@ func (p *printer) verdict(one *Folder) string {
 }
 
 // folder prints the one line of a folder.
-func (p *printer) folder(one *Folder) {
-	verdict := p.verdict(one)
-	names, moving := counted(one.Names, "name", "names"), ""
-	if one.Live != nil {
-		names, moving = still(one)+names, one.Live.inMotion()
+func (p *printer) folder(folder *Folder) {
+	verdict := p.verdict(folder)
+	names, moving := counted(folder.Names, "name", "names"), ""
+	if folder.Live != nil {
+		names, moving = still(folder)+names, folder.Live.inMotion()
 	}
-	deleted := thousands(one.Deleted) + " deleted"
-	if one.Going > 0 {
-		deleted += ", " + thousands(one.Going) + " being deleted"
+	deleted := thousands(folder.Deleted) + " deleted"
+	if folder.Going > 0 {
+		deleted += ", " + thousands(folder.Going) + " being deleted"
 	}
-	p.line("%s: %s; %s (%s), %s hashed on %s%s", shell.Folder(one.ID, one.Label), verdict, names, deleted, size(one.Bytes), p.named.all(devicesIn(one)), moving)
+	p.line("%s: %s; %s (%s), %s hashed on %s%s", shell.Folder(folder.ID, folder.Label), verdict, names, deleted, size(folder.Bytes), p.named.all(devicesIn(folder)), moving)
 }
 
 // group prints names with the same fault as one entry.
-func (p *printer) group(folder *Folder, one *Group) {
-	p.line("\n%s in %s: %s%s", counted(one.Names, "name", "names"), folder.ID, size(one.Bytes), p.unsized(one))
-	if one.Cause == Permissions {
-		p.modes(one.Modes)
+func (p *printer) group(folder *Folder, group *Group) {
+	p.line("\n%s in %s: %s%s", counted(group.Names, "name", "names"), folder.ID, size(group.Bytes), p.unsized(group))
+	if group.Cause == Permissions {
+		p.modes(group.Modes)
 	}
-	for _, device := range one.Devices {
-		words := p.wordsOfMany(one, device)
-		if one.Deleted {
+	for _, device := range group.Devices {
+		words := p.wordsOfMany(group, device)
+		if group.Deleted {
 			words = "behind: hasn't deleted them yet"
 		}
 		p.line("  %s: %s", p.named.of(device), words)
 	}
 	first := []string{}
-	for _, name := range one.First {
+	for _, name := range group.First {
 		first = append(first, shell.Path(string(name)))
 	}
-	p.line("  the first: %s, and %s more (--lines has all)", strings.Join(first, " "), thousands(one.Names-int64(len(first))))
-	if len(one.Have) > 0 && one.Cause != Permissions {
-		p.have(one.Have, one.isOfAnotherTime, one.of.isDeletionDue())
+	p.line("  the first: %s, and %s more (--lines has all)", strings.Join(first, " "), thousands(group.Names-int64(len(first))))
+	if len(group.Have) > 0 && group.Cause != Permissions {
+		p.have(group.Have, group.isOfAnotherTime, group.of.isDeletionDue())
 	}
-	p.foretold(one.Foretold)
-	p.advice(one.Advice)
+	p.foretold(group.Foretold)
+	p.advice(group.Advice)
 }
 
-func (p *printer) unsized(one *Group) string {
-	if one.Unsized == 0 {
+func (p *printer) unsized(group *Group) string {
+	if group.Unsized == 0 {
 		return ""
 	}
-	return fmt.Sprintf(", without %s whose details weren't kept", counted(one.Unsized, "name", "names"))
+	return fmt.Sprintf(", without %s whose details weren't kept", counted(group.Unsized, "name", "names"))
 }
 
 // file prints the entry of a name. Of a directory that a disk fails to give, whose name ends with a slash, it isn't known who has what is
 // below it.
-func (p *printer) file(folder *Folder, one *File) {
+func (p *printer) file(folder *Folder, file *File) {
 	about := "in " + folder.ID
-	if one.Size > 0 {
-		about += ", " + size(one.Size)
+	if file.Size > 0 {
+		about += ", " + size(file.Size)
 	}
-	p.line("\n%s  (%s)", shell.Path(string(one.Name)), about)
-	for next := range one.Faults {
-		p.fault(&one.Faults[next])
+	p.line("\n%s  (%s)", shell.Path(string(file.Name)), about)
+	for next := range file.Faults {
+		p.fault(&file.Faults[next])
 	}
-	p.renamed(one)
-	for _, same := range one.Same {
+	p.renamed(file)
+	for _, same := range file.Same {
 		p.line("  the same other bytes on: %s", p.named.all(same))
 	}
-	p.modes(one.Permissions)
-	if len(one.Faults) > 0 && !isOfNobody(one) && !strings.HasSuffix(string(one.Name), "/") {
-		p.have(one.Have, one.isOfAnotherTime, one.isDeletionDue())
+	p.modes(file.Permissions)
+	if len(file.Faults) > 0 && !isOfNobody(file) && !strings.HasSuffix(string(file.Name), "/") {
+		p.have(file.Have, file.isOfAnotherTime, file.isDeletionDue())
 	}
-	if len(one.Follows) > 0 && !one.isTied() {
-		p.line("  so %s can still take another version of it, until that is mended", p.named.all(devicesOf(one.Follows)))
+	if len(file.Follows) > 0 && !file.isTied() {
+		p.line("  so %s can still take another version of it, until that is mended", p.named.all(devicesOf(file.Follows)))
 	}
-	p.foretold(one.Foretold)
-	p.advice(one.Advice)
+	p.foretold(file.Foretold)
+	p.advice(file.Advice)
 }
 
 // have prints which devices have what is due, be it with another time.
@@ -165,8 +165,8 @@ func (p *printer) have(devices []string, isOfAnotherTime, isDeletion bool) {
 }
 
 // isOfNobody says whether a name has no winner, so that there is nothing that devices should have.
-func isOfNobody(one *File) bool {
-	for _, fault := range one.Faults {
+func isOfNobody(file *File) bool {
+	for _, fault := range file.Faults {
 		if len(fault.Reasons) == 1 && fault.Reasons[0] == "NotWinner" {
 			return true
 		}
@@ -176,8 +176,8 @@ func isOfNobody(one *File) bool {
 
 func devicesOf(follows []Follow) []string {
 	made := []string{}
-	for _, one := range follows {
-		made = addOnce(made, one.Device)
+	for _, follow := range follows {
+		made = addOnce(made, follow.Device)
 	}
 	return made
 }
@@ -202,76 +202,76 @@ var wordsOf = map[Cause]string{
 }
 
 // fault prints what is wrong on a device, and since when.
-func (p *printer) fault(one *Fault) {
-	p.line("  %s: %s%s", p.named.of(one.Device), p.wordsOf(one), p.since(one))
-	if one.Found != nil && one.Found.Unread > 0 {
+func (p *printer) fault(fault *Fault) {
+	p.line("  %s: %s%s", p.named.of(fault.Device), p.wordsOf(fault), p.since(fault))
+	if fault.Found != nil && fault.Found.Unread > 0 {
 		p.line("    its last %s weren't read: it is that much longer than any record, so it isn't what is recorded, and which devices have the same "+
-			"bytes isn't known", size(one.Found.Unread))
+			"bytes isn't known", size(fault.Found.Unread))
 	}
-	if one.Blocks == nil || one.Blocks.Of < 1 {
+	if fault.Blocks == nil || fault.Blocks.Of < 1 {
 		return
 	}
-	p.line("    %s (%s of %s of %d KiB; the first is block 0)", differing(one.Blocks), thousands(one.Blocks.Count),
-		counted(one.Blocks.Of, "block", "blocks"), one.Blocks.Size>>10)
-	if one.Blocks.Recorded != "" && one.Blocks.Found != "" {
-		p.line("    the first of them: SHA-256 %s.. recorded, %s.. on the disk", one.Blocks.Recorded[:8], one.Blocks.Found[:8])
+	p.line("    %s (%s of %s of %d KiB; the first is block 0)", differing(fault.Blocks), thousands(fault.Blocks.Count),
+		counted(fault.Blocks.Of, "block", "blocks"), fault.Blocks.Size>>10)
+	if fault.Blocks.Recorded != "" && fault.Blocks.Found != "" {
+		p.line("    the first of them: SHA-256 %s.. recorded, %s.. on the disk", fault.Blocks.Recorded[:8], fault.Blocks.Found[:8])
 	}
 }
 
-func (p *printer) wordsOf(one *Fault) string {
+func (p *printer) wordsOf(fault *Fault) string {
 	switch {
-	case one.Cause == Differs && one.Why != "":
-		return one.Why
-	case one.mayBeEdit():
-		return "other bytes on the disk, of the recorded size: rot, or an edit that no scan has taken" + one.ofDamage()
-	case one.isSeen:
+	case fault.Cause == Differs && fault.Why != "":
+		return fault.Why
+	case fault.mayBeEdit():
+		return "other bytes on the disk, of the recorded size: rot, or an edit that no scan has taken" + fault.ofDamage()
+	case fault.isSeen:
 		return "other bytes on the disk; size and time are as recorded, the mode isn't, so the next scan sees it"
-	case one.mayShow():
+	case fault.mayShow():
 		return "other bytes on the disk; size and time are as recorded, but a scan of owners or attributes may see it"
-	case one.isTied:
+	case fault.isTied:
 		return "has something else under the same version, so Syncthing takes the two for the same"
-	case one.Cause == Behind && one.Deletion:
+	case fault.Cause == Behind && fault.Deletion:
 		return "behind: hasn't deleted it yet"
-	case one.Cause == Behind && one.Recorded == nil:
+	case fault.Cause == Behind && fault.Recorded == nil:
 		return "behind: doesn't have it yet"
-	case one.Cause == Conflicting && one.Deletion:
+	case fault.Cause == Conflicting && fault.Deletion:
 		return "in conflict: deleted it, and lacks a change of it"
-	case one.Cause == LocalChange && one.Deletion:
+	case fault.Cause == LocalChange && fault.Deletion:
 		return "deleted on this receive-only device"
-	case one.Cause == LocalChange && one.Due != nil && one.Due.Deleted:
+	case fault.Cause == LocalChange && fault.Due != nil && fault.Due.Deleted:
 		return "changed on this receive-only device, while the others have deleted it"
-	case one.Cause == Changed && one.Recorded != nil && one.Found != nil && one.Recorded.Type != one.Found.Type:
-		return fmt.Sprintf("a %s on the disk, recorded as a %s", one.Found.Type, one.Recorded.Type)
-	case one.Cause == Changed && one.isFileForFile():
-		return wordsOfChanged([]*Fault{one})
-	case one.Cause == OtherBytes && one.Damage != damage.None:
-		return wordsOf[OtherBytes] + one.ofDamage()
+	case fault.Cause == Changed && fault.Recorded != nil && fault.Found != nil && fault.Recorded.Type != fault.Found.Type:
+		return fmt.Sprintf("a %s on the disk, recorded as a %s", fault.Found.Type, fault.Recorded.Type)
+	case fault.Cause == Changed && fault.isFileForFile():
+		return wordsOfChanged([]*Fault{fault})
+	case fault.Cause == OtherBytes && fault.Damage != damage.None:
+		return wordsOf[OtherBytes] + fault.ofDamage()
 	}
-	return wordsOf[one.Cause]
+	return wordsOf[fault.Cause]
 }
 
 // since says when a file was modified, as far as that is known. For a deletion it says of when the deletion is.
-func (p *printer) since(one *Fault) string {
+func (p *printer) since(fault *Fault) string {
 	switch {
-	case one.Cause == Damaged && one.Why != "":
-		return " (" + one.Why + ")"
-	case one.isTied || one.Cause == Behind && one.Due.isUndated() || one.Cause == LocalChange && one.Recorded.isUndated():
+	case fault.Cause == Damaged && fault.Why != "":
+		return " (" + fault.Why + ")"
+	case fault.isTied || fault.Cause == Behind && fault.Due.isUndated() || fault.Cause == LocalChange && fault.Recorded.isUndated():
 		return ""
-	case one.mayBeEdit() && one.Recorded != nil:
-		return " (recorded as modified " + p.when(*one.Recorded.Modified) + ")"
-	case one.Cause == OtherBytes && one.Recorded != nil:
-		return " (modified " + p.when(*one.Recorded.Modified) + ")"
-	case one.Cause == LocalChange && one.Recorded != nil && one.Deletion:
-		return " (" + p.when(*one.Recorded.Modified) + ")"
-	case one.Cause == LocalChange && one.Recorded != nil:
-		return " (modified " + p.when(*one.Recorded.Modified) + ")"
-	case one.Found != nil && one.Found.Type == "file" && (one.Cause == Changed || one.Cause == NotScanned || one.Cause == OtherTime ||
-		one.Cause == Back || one.Cause == LocalAddition):
-		return " (modified " + p.when(*one.Found.Modified) + ")"
-	case one.Cause == Behind && one.Due != nil && !one.Deletion:
-		return " (modified " + p.when(*one.Due.Modified) + ")"
-	case one.Cause == Behind && one.Due != nil:
-		return " (since " + p.when(*one.Due.Modified) + ")"
+	case fault.mayBeEdit() && fault.Recorded != nil:
+		return " (recorded as modified " + p.when(*fault.Recorded.Modified) + ")"
+	case fault.Cause == OtherBytes && fault.Recorded != nil:
+		return " (modified " + p.when(*fault.Recorded.Modified) + ")"
+	case fault.Cause == LocalChange && fault.Recorded != nil && fault.Deletion:
+		return " (" + p.when(*fault.Recorded.Modified) + ")"
+	case fault.Cause == LocalChange && fault.Recorded != nil:
+		return " (modified " + p.when(*fault.Recorded.Modified) + ")"
+	case fault.Found != nil && fault.Found.Type == "file" && (fault.Cause == Changed || fault.Cause == NotScanned || fault.Cause == OtherTime ||
+		fault.Cause == Back || fault.Cause == LocalAddition):
+		return " (modified " + p.when(*fault.Found.Modified) + ")"
+	case fault.Cause == Behind && fault.Due != nil && !fault.Deletion:
+		return " (modified " + p.when(*fault.Due.Modified) + ")"
+	case fault.Cause == Behind && fault.Due != nil:
+		return " (since " + p.when(*fault.Due.Modified) + ")"
 	}
 	return ""
 }
@@ -296,15 +296,15 @@ const mostRanges = 8
 func ranges(blocks *Blocks) string {
 	words := []string{}
 	told := int64(0)
-	for _, one := range blocks.Ranges {
+	for _, span := range blocks.Ranges {
 		if len(words) == mostRanges {
 			break
 		}
-		told += one[1] - one[0] + 1
-		if one[0] == one[1] {
-			words = append(words, strconv.FormatInt(one[0], 10))
+		told += span[1] - span[0] + 1
+		if span[0] == span[1] {
+			words = append(words, strconv.FormatInt(span[0], 10))
 		} else {
-			words = append(words, fmt.Sprintf("%d-%d", one[0], one[1]))
+			words = append(words, fmt.Sprintf("%d-%d", span[0], span[1]))
 		}
 	}
 	text := strings.Join(words, ", ")
@@ -320,10 +320,10 @@ func (p *printer) modes(all []Mode) {
 		return
 	}
 	words := []string{}
-	for _, one := range all {
-		word := p.named.of(one.Device) + " " + one.Index
-		if one.Disk != "" && one.Disk != one.Index {
-			word += " recorded, " + one.Disk + " on the disk"
+	for _, mode := range all {
+		word := p.named.of(mode.Device) + " " + mode.Index
+		if mode.Disk != "" && mode.Disk != mode.Index {
+			word += " recorded, " + mode.Disk + " on the disk"
 		}
 		words = append(words, word)
 	}
@@ -339,7 +339,7 @@ func (p *printer) foretold(told string) {
 
 // advice prints what to do, over as many lines as it takes.
 func (p *printer) advice(all []string) {
-	for _, one := range all {
-		p.running("  to do:", one+".")
+	for _, word := range all {
+		p.running("  to do:", word+".")
 	}
 }

@@ -13,22 +13,22 @@ func (r *reader) isTied(at *part.Name) bool {
 
 // isTied says whether that is so of the name at some device.
 func (f *File) isTied() bool {
-	return slices.IndexFunc(f.Faults, func(one Fault) bool { return one.isTied }) >= 0
+	return slices.IndexFunc(f.Faults, func(fault Fault) bool { return fault.isTied }) >= 0
 }
 
 // isTiedAt says whether it is so at this device.
 func (f *File) isTiedAt(device string) bool {
-	return slices.IndexFunc(f.Faults, func(one Fault) bool { return one.isTied && one.Device == device }) >= 0
+	return slices.IndexFunc(f.Faults, func(fault Fault) bool { return fault.isTied && fault.Device == device }) >= 0
 }
 
 // tiedAdvice says how a device gets what is due where it has something else under the same version: by a new version.
-func tiedAdvice(one *Fault, file *File, at string, named labels) string {
+func tiedAdvice(fault *Fault, file *File, at string, named labels) string {
 	told := "Syncthing doesn't mend this by itself, whatever its page shows: it compares versions, and these are equal. To have what " + at +
-		" lacks, " + file.anew(one.Due, file.Have, file.holders(named), named)
-	if one.Recorded != nil && one.Recorded.Deleted {
+		" lacks, " + file.anew(fault.Due, file.Have, file.holders(named), named)
+	if fault.Recorded != nil && fault.Recorded.Deleted {
 		told += ". To have " + file.say("it", "them") + " gone, delete " + file.say("it", "them") + " there and let Syncthing scan"
 	} else {
-		told += ". To have what " + at + " has, " + file.anew(one.Recorded, []string{one.Device}, at, named)
+		told += ". To have what " + at + " has, " + file.anew(fault.Recorded, []string{fault.Device}, at, named)
 	}
 	return told + ". Where the device on which you do that only receives, first make the folder 'Send & Receive' there (that sends all local changes of the folder, deletions too: put back first what is to stay)"
 }

@@ -16,18 +16,18 @@ var readTogether = map[Cause]bool{OtherBytes: true, LocalChange: true, LocalAddi
 // the others.
 func (p *printer) files(folder *Folder, isSo func(*File) bool) {
 	files, keys, alike := []*File{}, []string{}, map[string][]*File{}
-	for _, one := range folder.Files {
-		if isSo(one) {
-			key := one.readKey()
-			files, keys = append(files, one), append(keys, key)
-			alike[key] = append(alike[key], one)
+	for _, file := range folder.Files {
+		if isSo(file) {
+			key := file.readKey()
+			files, keys = append(files, file), append(keys, key)
+			alike[key] = append(alike[key], file)
 		}
 	}
-	for place, one := range files {
+	for place, file := range files {
 		switch all := alike[keys[place]]; {
 		case keys[place] == "" || len(all) <= mostAlone:
-			p.file(folder, one)
-		case one == all[0]:
+			p.file(folder, file)
+		case file == all[0]:
 			p.together(folder, all)
 		}
 	}
@@ -40,11 +40,11 @@ func (f *File) readKey() string {
 	}
 	key := fmt.Sprint(f.Have, f.Same, f.Foretold, f.Advice, isOfNobody(f))
 	for place := range f.Faults {
-		one := &f.Faults[place]
-		if !readTogether[one.Cause] || one.isSeen {
+		fault := &f.Faults[place]
+		if !readTogether[fault.Cause] || fault.isSeen {
 			return ""
 		}
-		key += fmt.Sprint(" ", one.Device, one.Cause, one.Deletion, one.types(), one.Damage, one.Recorded == nil, one.Due != nil && one.Due.Deleted)
+		key += fmt.Sprint(" ", fault.Device, fault.Cause, fault.Deletion, fault.types(), fault.Damage, fault.Recorded == nil, fault.Due != nil && fault.Due.Deleted)
 	}
 	return key
 }
@@ -52,20 +52,20 @@ func (f *File) readKey() string {
 // together prints names with the same fault on the same devices as one entry.
 func (p *printer) together(folder *Folder, all []*File) {
 	bytes, first := int64(0), []string{}
-	for place, one := range all {
-		bytes += one.Size
+	for place, file := range all {
+		bytes += file.Size
 		if place < mostAlone {
-			first = append(first, shell.Path(string(one.Name)))
+			first = append(first, shell.Path(string(file.Name)))
 		}
 	}
 	p.line("\n%s in %s: %s", counted(int64(len(all)), "name", "names"), folder.ID, size(bytes))
 	for next := range all[0].Faults {
-		one := &all[0].Faults[next]
-		words := p.wordsOf(one)
-		if one.Cause == Changed && one.isFileForFile() {
+		fault := &all[0].Faults[next]
+		words := p.wordsOf(fault)
+		if fault.Cause == Changed && fault.isFileForFile() {
 			words = wordsOfChanged(faultsAt(all, next))
 		}
-		p.line("  %s: %s%s", p.named.of(one.Device), words, differingInAll(all, next))
+		p.line("  %s: %s%s", p.named.of(fault.Device), words, differingInAll(all, next))
 	}
 	for _, same := range all[0].Same {
 		p.line("  the same other bytes on: %s", p.named.all(same))
@@ -83,8 +83,8 @@ func (p *printer) together(folder *Folder, all []*File) {
 // faultsAt gives the faults of all names at this place, as of one device.
 func faultsAt(all []*File, place int) []*Fault {
 	made := []*Fault{}
-	for _, one := range all {
-		made = append(made, &one.Faults[place])
+	for _, file := range all {
+		made = append(made, &file.Faults[place])
 	}
 	return made
 }
@@ -95,8 +95,8 @@ func differingInAll(all []*File, fault int) string {
 		return ""
 	}
 	blocks := int64(0)
-	for _, one := range all {
-		if differ := one.Faults[fault].Blocks; differ != nil {
+	for _, file := range all {
+		if differ := file.Faults[fault].Blocks; differ != nil {
 			blocks += differ.Count
 		}
 	}

@@ -28,12 +28,12 @@ func (f *File) mayForget(device string) bool {
 // lostByTouch says which devices lose the file's owner and attributes where it is touched on one of these devices: they take what is recorded.
 func (f *File) lostByTouch(devices []string, named labels) string {
 	forgetting, record := []string{}, " record no owners and attributes"
-	for _, one := range devices {
-		if !f.mayForget(one) {
+	for _, device := range devices {
+		if !f.mayForget(device) {
 			continue
 		}
-		forgetting = append(forgetting, one)
-		if !strings.HasPrefix(f.runs[one], firstTried) {
+		forgetting = append(forgetting, device)
+		if !strings.HasPrefix(f.runs[device], firstTried) {
 			record = " may record no owners and attributes"
 		}
 	}

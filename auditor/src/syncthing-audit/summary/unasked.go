@@ -20,8 +20,8 @@ type NotAsked struct {
 func notAsked(answer *finding.Answer) []NotAsked {
 	made := []NotAsked{}
 	for _, device := range answer.Devices {
-		for _, one := range device.Unasked {
-			made = append(made, NotAsked{one.ID, one.Label, device.ID, one.InPart})
+		for _, unasked := range device.Unasked {
+			made = append(made, NotAsked{unasked.ID, unasked.Label, device.ID, unasked.InPart})
 		}
 	}
 	return made
@@ -30,9 +30,9 @@ func notAsked(answer *finding.Answer) []NotAsked {
 // notTold gives the devices whose parts don't say which folders they haven't.
 func notTold(answer *finding.Answer) []string {
 	made := []string{}
-	for _, one := range answer.Devices {
-		if one.IsSilent {
-			made = append(made, one.ID)
+	for _, device := range answer.Devices {
+		if device.IsSilent {
+			made = append(made, device.ID)
 		}
 	}
 	return made
@@ -40,15 +40,15 @@ func notTold(answer *finding.Answer) []string {
 
 // otherNames prints which names weren't audited, where some weren't asked for: all parts have the same.
 func (p *printer) otherNames(s *Summary) {
-	for _, one := range s.Devices {
+	for _, device := range s.Devices {
 		switch {
-		case one.asked.IsAll():
+		case device.asked.IsAll():
 			continue
 		case s.byNames:
-			p.line("not asked for: %s%s", one.asked.Others(), s.ofAll(one.asked))
+			p.line("not asked for: %s%s", device.asked.Others(), s.ofAll(device.asked))
 		default:
-			p.line("not audited: %s; no part has them%s", one.asked.Others(), s.ofAll(one.asked))
-			p.advice([]string{"make the parts without " + one.asked.Unlike(choice.Names{}) + "; or say by " + one.asked.Command() +
+			p.line("not audited: %s; no part has them%s", device.asked.Others(), s.ofAll(device.asked))
+			p.advice([]string{"make the parts without " + device.asked.Unlike(choice.Names{}) + "; or say by " + device.asked.Command() +
 				" that only these are to be audited"})
 		}
 		return
@@ -60,9 +60,9 @@ func (s *Summary) ofAll(asked choice.Names) string {
 	total := int64(0)
 	for _, folder := range s.Folders {
 		most := int64(0)
-		for _, one := range folder.Devices {
-			if one.Indexed > most {
-				most = one.Indexed
+		for _, member := range folder.Devices {
+			if member.Indexed > most {
+				most = member.Indexed
 			}
 		}
 		total += most
@@ -76,8 +76,8 @@ func (s *Summary) ofAll(asked choice.Names) string {
 // notAsked prints which folders of the devices weren't audited, or that this isn't known.
 func (p *printer) notAsked(s *Summary) {
 	folders, words := places{}, []string{}
-	for _, one := range s.NotAsked {
-		folders.add(shell.Folder(one.Folder, one.Label), one.Device)
+	for _, notAsked := range s.NotAsked {
+		folders.add(shell.Folder(notAsked.Folder, notAsked.Label), notAsked.Device)
 	}
 	folders.each(p.named, func(folder, devices string) { words = append(words, folder+" on "+devices) })
 	count := counted(int64(len(words)), "folder", "folders")

@@ -5,9 +5,9 @@ import "strings"
 // unsigned tells whose parts anybody may have made who could write them.
 func (p *printer) unsigned(s *Summary) {
 	names := []string{}
-	for _, one := range s.Devices {
-		if one.IsUnsigned {
-			names = append(names, p.named.of(one.ID))
+	for _, device := range s.Devices {
+		if device.IsUnsigned {
+			names = append(names, p.named.of(device.ID))
 		}
 	}
 	if len(names) > 0 {

@@ -16,27 +16,27 @@ type Unsure struct {
 // unsureOf gives what may change a folder in step.
 func unsureOf(from *finding.Folder) []Unsure {
 	made := []Unsure{}
-	for _, one := range from.Unsure() {
-		made = append(made, Unsure{from.Members[one.Member].Head.Device, one.Kind, whyUnsure(one), one.Names})
+	for _, unsure := range from.Unsure() {
+		made = append(made, Unsure{from.Members[unsure.Member].Head.Device, unsure.Kind, whyUnsure(unsure), unsure.Names})
 	}
 	return made
 }
 
 // whyUnsure says in words what may change a folder.
-func whyUnsure(one finding.Unsure) string {
-	switch one.Kind {
+func whyUnsure(unsure finding.Unsure) string {
+	switch unsure.Kind {
 	case finding.Waits:
-		return "no scan has seen what stands there: " + countsOfWaiting(one.Waits.Names)
+		return "no scan has seen what stands there: " + countsOfWaiting(unsure.Waits.Names)
 	case finding.ToIgnore:
-		return counted(one.Names, "directory", "directories") + " in its index that .stignore ignores by now: the next scan marks the records"
+		return counted(unsure.Names, "directory", "directories") + " in its index that .stignore ignores by now: the next scan marks the records"
 	case finding.Linked:
-		return counted(one.Names, "name stands for a file that has a name elsewhere, too (a hard link)",
+		return counted(unsure.Names, "name stands for a file that has a name elsewhere, too (a hard link)",
 			"names stand for files that have names elsewhere, too (hard links)") + ": whoever sets time or mode there sets them here, as " +
 			"Syncthing does for a folder that has such a link"
 	case finding.OverWire:
-		return whyOverWire(one)
+		return whyOverWire(unsure)
 	}
-	return one.Why
+	return unsure.Why
 }
 
 // whatToDo says what to do about what may change a folder.
@@ -51,11 +51,11 @@ var whatToDo = map[string]string{
 // unsure prints what may change a folder in step.
 func (p *printer) unsure(folder *Folder) {
 	told := map[string]*places{}
-	for _, one := range folder.Unsure {
-		if told[one.Kind] == nil {
-			told[one.Kind] = &places{}
+	for _, unsure := range folder.Unsure {
+		if told[unsure.Kind] == nil {
+			told[unsure.Kind] = &places{}
 		}
-		told[one.Kind].add(one.Why, one.Device)
+		told[unsure.Kind].add(unsure.Why, unsure.Device)
 	}
 	for _, kind := range finding.KindsOfUnsure {
 		if told[kind] == nil {

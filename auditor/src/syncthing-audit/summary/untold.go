@@ -14,8 +14,8 @@ func (r *reader) isUntold(member int) bool {
 		return false
 	}
 	is := false
-	for other, one := range r.row.At {
-		if other == member || one == nil || one.Own == nil || one.Own.Invalid || !part.IsAtMost(r.winner.Version, one.Own.Version) {
+	for other, name := range r.row.At {
+		if other == member || name == nil || name.Own == nil || name.Own.Invalid || !part.IsAtMost(r.winner.Version, name.Own.Version) {
 			continue
 		}
 		if place := r.viewOf(member, other); place >= 0 {

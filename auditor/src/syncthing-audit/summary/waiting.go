@@ -132,8 +132,8 @@ func (f *File) actsOn() []string {
 	for place := range f.Faults {
 		made = addOnce(made, f.Faults[place].Device)
 	}
-	for _, one := range f.Permissions {
-		made = addOnce(made, one.Device)
+	for _, mode := range f.Permissions {
+		made = addOnce(made, mode.Device)
 	}
 	return made
 }

@@ -11,8 +11,8 @@ import (
 
 // isOverWire says whether some device of a folder was asked over the wire.
 func (f *Folder) isOverWire() bool {
-	for _, one := range f.Devices {
-		if one.OverWire != nil && !one.OverWire.hasDisks {
+	for _, member := range f.Devices {
+		if member.OverWire != nil && !member.OverWire.hasDisks {
 			return true
 		}
 	}
@@ -31,21 +31,21 @@ type OverWire struct {
 }
 
 // overWireOf gives what isn't seen of a member; nothing of one that made its part itself.
-func overWireOf(one join.Member) *OverWire {
-	if one.Device == nil || !one.Head.IsOverWire() {
+func overWireOf(member join.Member) *OverWire {
+	if member.Device == nil || !member.Head.IsOverWire() {
 		return nil
 	}
-	return &OverWire{append([]string{}, one.Head.Wire.Unseen...), one.Unseen.Standing, one.Unseen.Unread, one.Head.Wire.WentBackFrom, one.About.Max, !one.Head.IsOverWireAlone()}
+	return &OverWire{append([]string{}, member.Head.Wire.Unseen...), member.Unseen.Standing, member.Unseen.Unread, member.Head.Wire.WentBackFrom, member.About.Max, !member.Head.IsOverWireAlone()}
 }
 
 // whyOverWire says in words what isn't seen over the wire, with counts.
-func whyOverWire(one finding.Unsure) string {
+func whyOverWire(unsure finding.Unsure) string {
 	words := []string{}
-	if one.Unread > 0 {
-		words = append(words, "the bytes of "+counted(one.Unread, "file", "files"))
+	if unsure.Unread > 0 {
+		words = append(words, "the bytes of "+counted(unsure.Unread, "file", "files"))
 	}
-	if one.Names > 0 {
-		words = append(words, "what stands where "+counted(one.Names, "directory or symlink is", "directories and symlinks are")+" recorded")
+	if unsure.Names > 0 {
+		words = append(words, "what stands where "+counted(unsure.Names, "directory or symlink is", "directories and symlinks are")+" recorded")
 	}
 	words = append(words, "times", "permissions", "names that no scan has taken", "whether a scan is under way")
 	return "not seen over the wire: " + strings.Join(words, ", ")
@@ -88,21 +88,21 @@ func (f *Fault) ofDamage() string {
 }
 
 // wordsOfMany says what is wrong on a device with names that are told as one.
-func (p *printer) wordsOfMany(one *Group, device string) string {
-	for place := range one.of.Faults {
-		if fault := &one.of.Faults[place]; fault.Device == device && fault.mayBeEdit() {
+func (p *printer) wordsOfMany(group *Group, device string) string {
+	for place := range group.of.Faults {
+		if fault := &group.of.Faults[place]; fault.Device == device && fault.mayBeEdit() {
 			return p.wordsOf(fault)
 		}
 	}
-	return wordsOf[one.Cause]
+	return wordsOf[group.Cause]
 }
 
 // notToldOverWire gives the devices that don't tell their other folders since they were asked over the wire, and the others of that kind.
 func (s *Summary) notToldOverWire() (overWire, older []string) {
 	is := map[string]bool{}
 	for _, folder := range s.Folders {
-		for _, one := range folder.Devices {
-			is[one.Device] = is[one.Device] || one.OverWire != nil
+		for _, member := range folder.Devices {
+			is[member.Device] = is[member.Device] || member.OverWire != nil
 		}
 	}
 	for _, device := range s.NotTold {
@@ -123,22 +123,22 @@ type Observer struct {
 }
 
 // observer names an observer for a person.
-func (l labels) observer(one Observer) string {
-	if one.Name == "" {
-		return one.Device
+func (l labels) observer(observer Observer) string {
+	if observer.Name == "" {
+		return observer.Device
 	}
-	return shell.Printable(one.Name) + " (" + one.Device[:lengthOfShort] + ")"
+	return shell.Printable(observer.Name) + " (" + observer.Device[:lengthOfShort] + ")"
 }
 
 // wentBack prints which devices' indexes went back since an earlier look over the wire.
 func (p *printer) wentBack(s *Summary) {
 	for _, folder := range s.Folders {
-		for _, one := range folder.Devices {
-			if one.OverWire != nil && one.OverWire.WentBackFrom > 0 {
+		for _, member := range folder.Devices {
+			if member.OverWire != nil && member.OverWire.WentBackFrom > 0 {
 				p.line("went back: the index of %s on %s: an earlier look had its change %d, and its last one is %d now, as after an older home was put in its "+
-					"place there. Syncthing doesn't tell the others such changes again by itself", folder.ID, p.named.of(one.Device), one.OverWire.WentBackFrom,
-					one.OverWire.highest)
-				p.advice([]string{"stop Syncthing on " + p.named.of(one.Device) + ", and start it there once by 'syncthing serve --reset-deltas', as the same user and with " +
+					"place there. Syncthing doesn't tell the others such changes again by itself", folder.ID, p.named.of(member.Device), member.OverWire.WentBackFrom,
+					member.OverWire.highest)
+				p.advice([]string{"stop Syncthing on " + p.named.of(member.Device) + ", and start it there once by 'syncthing serve --reset-deltas', as the same user and with " +
 					"the same --home, --config and --data as ever"})
 			}
 		}

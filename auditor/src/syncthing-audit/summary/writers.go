@@ -11,9 +11,9 @@ import (
 func (p *printer) writers(s *Summary) {
 	told := places{}
 	for _, folder := range s.Folders {
-		for _, one := range folder.Devices {
-			if len(one.Writers) > 0 {
-				told.add(shell.Folder(folder.ID, folder.Label)+" by "+strings.Join(one.Writers, ", "), one.Device)
+		for _, member := range folder.Devices {
+			if len(member.Writers) > 0 {
+				told.add(shell.Folder(folder.ID, folder.Label)+" by "+strings.Join(member.Writers, ", "), member.Device)
 			}
 		}
 	}

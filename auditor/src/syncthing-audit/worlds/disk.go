@@ -58,9 +58,9 @@ func (d disk) directory() forecast.Node {
 func (d disk) move(name, to string) {
 	moved := map[string]forecast.Node{}
 	for place := range d.world.Names {
-		one := &d.world.Names[place]
-		if what := one.Disk[d.device]; what != nil && (one.Name == name || strings.HasPrefix(one.Name, name+"/")) {
-			moved[to+one.Name[len(name):]] = *what
+		below := &d.world.Names[place]
+		if what := below.Disk[d.device]; what != nil && (below.Name == name || strings.HasPrefix(below.Name, name+"/")) {
+			moved[to+below.Name[len(name):]] = *what
 		}
 	}
 	d.remove(name)

@@ -51,11 +51,11 @@ func (w *World) Foretold(release forecast.Release) ([]End, bool, error) {
 	sort.Strings(names)
 	var made []End
 	for _, end := range answer.Ends {
-		one := End{}
+		foretold := End{}
 		for place, name := range names {
-			one[name] = namesOf(end.Disks[place])
+			foretold[name] = namesOf(end.Disks[place])
 		}
-		made = append(made, one)
+		made = append(made, foretold)
 	}
 	return made, answer.IsAll, nil
 }
@@ -80,8 +80,8 @@ func namesOf(places []forecast.Place) map[string]interface{} {
 	}
 	for root, all := range copies {
 		var words []string
-		for one := range all {
-			words = append(words, one)
+		for word := range all {
+			words = append(words, word)
 		}
 		sort.Strings(words)
 		made["copies of "+root] = words
