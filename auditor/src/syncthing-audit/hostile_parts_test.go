@@ -13,7 +13,7 @@ func idOf(device byte) string { return protocol.DeviceID{7: device}.String() }
 // headOfHostile gives a head with all that a device may say of itself.
 func headOfHostile(device byte) *part.Head {
 	other := idOf(3 - device)
-	return &part.Head{Version: part.Version, Device: idOf(device), Name: "laptop", Runs: "v9.9.9", Made: time.Unix(0, 0).UTC(),
+	return &part.Head{Version: part.FirstVersion, Device: idOf(device), Name: "laptop", Runs: "v9.9.9", Made: time.Unix(0, 0).UTC(),
 		Index: &part.Index{Written: time.Unix(1, 0), Configured: time.Unix(2, 0)},
 		Newer: &part.Newer{Path: "/srv/data", Read: time.Unix(1, 0), Written: time.Unix(2, 0)},
 		Folders: []part.Folder{{ID: "docs", Label: "Documents", Kind: "send-receive", Path: "/srv/docs", Directory: idOf(device) + "docs", IndexID: uint64(device), Max: 99,

@@ -36,7 +36,7 @@ func (l *linesInMemory) Next() (part.Line, error) {
 func threeInStep() []*hostile {
 	made := []*hostile{}
 	for device := byte(1); device <= 3; device++ {
-		one := &hostile{Head: &part.Head{Version: part.Version, Device: idOf(device), Name: fmt.Sprint("device", device), Others: []part.Other{}}}
+		one := &hostile{Head: &part.Head{Version: part.FirstVersion, Device: idOf(device), Name: fmt.Sprint("device", device), Others: []part.Other{}}}
 		for place, id := range []string{"docs", "pics"} {
 			folder := part.Folder{ID: id, Kind: "send-receive", IndexID: uint64(device), Max: 5, Directory: fmt.Sprint(id, device)}
 			file := hostileFile("a", 1, 7)

@@ -65,7 +65,7 @@ func (y *year) write(at int, made time.Time) {
 			folder.Sharing = append(folder.Sharing, part.Sharing{Device: id(other), Name: fmt.Sprint("device", other)})
 		}
 	}
-	one := &hostile{Head: &part.Head{Version: part.Version, Device: id(at), Name: fmt.Sprint("device", at), Made: made, Folders: []part.Folder{folder}, Others: []part.Other{}}}
+	one := &hostile{Head: &part.Head{Version: part.FirstVersion, Device: id(at), Name: fmt.Sprint("device", at), Made: made, Folders: []part.Folder{folder}, Others: []part.Other{}}}
 	one.Lines = append(one.Lines, &part.Line{Begin: &part.Begin{Folder: "docs"}})
 	for place := 0; place < len(y.files); place++ {
 		name := fmt.Sprintf("file%02d", place)

@@ -22,7 +22,7 @@ import (
 // aPart gives the lines of a small part: a file, a symlink, a deletion, a local change, and a name that is left out.
 func aPart(t testing.TB, number byte) []byte {
 	other := protocol.DeviceID{7: 3 - number}.String()
-	head := &part.Head{Version: part.Version, Device: protocol.DeviceID{7: number}.String(), Name: "laptop", Made: time.Unix(0, 0).UTC(),
+	head := &part.Head{Version: part.FirstVersion, Device: protocol.DeviceID{7: number}.String(), Name: "laptop", Made: time.Unix(0, 0).UTC(),
 		Folders: []part.Folder{{ID: "docs", Kind: "send-receive", Directory: other, IndexID: uint64(number), Max: 9,
 			Sharing: []part.Sharing{{Device: other, Name: "server"}}, Views: []part.View{{Device: other, IndexID: uint64(3 - number), Max: 9}}}}}
 	var zipped bytes.Buffer

@@ -16,9 +16,9 @@ func (n *names) addLoose(row *join.Row) {
 	}
 	made := finding.Loose{Name: row.Name}
 	for member, name := range row.At { // nothing is beyond the winner, so what the winner is at most is the same
-		if name != nil && name.Own != nil && !part.IsAtMost(winner.Version, name.Own.Version) {
+		if name != nil && name.Own != nil && !winner.Version.IsAtMost(name.Own.Version) {
 			made.At = append(made.At, finding.LooseAt{Member: member, Reason: finding.VersionDiffers,
-				IsOlder: part.IsAtMost(name.Own.Version, winner.Version)})
+				IsOlder: name.Own.Version.IsAtMost(winner.Version)})
 		}
 	}
 	for member, name := range row.At {
@@ -35,7 +35,7 @@ func (n *names) addLoose(row *join.Row) {
 func (n *names) seesNotBelow(member int, name *part.Name, winner *part.Record) bool {
 	views := n.folder.Members[member].About.Views
 	for _, seen := range name.Views {
-		if n.folder.Member(views[seen.View].Device) >= 0 && !seen.Record.Invalid && !part.IsAtMost(seen.Record.Version, winner.Version) {
+		if n.folder.Member(views[seen.View].Device) >= 0 && !seen.Record.Invalid && !seen.Record.Version.IsAtMost(winner.Version) {
 			return true
 		}
 	}

@@ -120,8 +120,8 @@ func checkHead(entry protocol.FileInfo) error {
 }
 
 // versionOf gives a version's counters, their devices rising.
-func versionOf(version protocol.Vector) ([][2]uint64, error) {
-	counters := make([][2]uint64, 0, len(version.Counters))
+func versionOf(version protocol.Vector) (part.Version, error) {
+	counters := make(part.Version, 0, len(version.Counters))
 	for _, counter := range version.Counters {
 		if counter.ID == 0 || counter.Value == 0 || counter.Value > math.MaxInt64 {
 			return nil, errors.New("its version has a counter without device, of 0 or over 9223372036854775807")

@@ -102,7 +102,7 @@ func (w *writer) file(size int64, hashes [][32]byte) {
 }
 
 // version writes a record's version.
-func (w *writer) version(counters [][2]uint64) {
+func (w *writer) version(counters part.Version) {
 	w.text(`,"version":[`)
 	for place, counter := range counters {
 		if place > 0 {

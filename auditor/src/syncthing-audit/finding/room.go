@@ -34,7 +34,7 @@ func (r *Room) Keep(row *join.Row) *join.Row {
 func heardOf(name *part.Name) []part.Seen {
 	var made []part.Seen
 	for _, seen := range name.Views {
-		if name.Own == nil || !part.IsAtMost(seen.Record.Version, name.Own.Version) {
+		if name.Own == nil || !seen.Record.Version.IsAtMost(name.Own.Version) {
 			made = append(made, part.Seen{View: seen.View, Record: &part.Record{Version: seen.Record.Version}})
 		}
 	}

@@ -4,7 +4,7 @@ import "syncthing-audit/part"
 
 // Claim is what a device's record says of a name, or comes to say by a scan, as far as Syncthing goes by that when it chooses between several.
 type Claim struct {
-	Version     [][2]uint64
+	Version     part.Version
 	Deleted     bool
 	Seconds     int64 // when it was modified; 0 for a symlink, of which Syncthing records no time
 	Nanoseconds int
@@ -17,7 +17,7 @@ func ClaimOf(record *part.Record) Claim {
 
 // IsBelow says whether another claim is on top of this one.
 func (c Claim) IsBelow(other Claim) bool {
-	return part.IsAtMost(c.Version, other.Version) && !part.IsAtMost(other.Version, c.Version)
+	return c.Version.IsAtMost(other.Version) && !other.Version.IsAtMost(c.Version)
 }
 
 // Wins says whether Syncthing keeps this one of two claims: the one on top; else by its WinsConflict what isn't deleted, the later one, and at equal
@@ -33,7 +33,7 @@ func (c Claim) Wins(other Claim) bool {
 	case c.Nanoseconds != other.Nanoseconds:
 		return c.Nanoseconds > other.Nanoseconds
 	}
-	return part.GoesFirst(c.Version, other.Version)
+	return c.Version.GoesFirst(other.Version)
 }
 
 // Winner gives the place of the claim that Syncthing keeps once all devices know all claims: of those that no other one is on top of, the one that wins

@@ -228,5 +228,5 @@ func told(row *Row) string {
 
 // IsOfOneVersion says whether two claims have one version. Syncthing never exchanges such ones, whatever else they say.
 func (c Claim) IsOfOneVersion(other Claim) bool {
-	return part.IsAtMost(c.Version, other.Version) && part.IsAtMost(other.Version, c.Version)
+	return c.Version.IsAtMost(other.Version) && other.Version.IsAtMost(c.Version)
 }

@@ -41,7 +41,7 @@ func aPart() *aWhole {
 	folder := Folder{ID: "docs", Kind: "send-receive", IndexID: 1, Max: 9, Sharing: []Sharing{{Device: otherDevice}},
 		Views: []View{{Device: otherDevice, IndexID: 2, Max: 7}, {Device: thirdDevice, IndexID: 3, Max: 8}}}
 	pics := Folder{ID: "pics", Kind: "send-only", IndexID: 4}
-	head := &Head{Version: Version, Device: thisDevice, Made: time.Unix(0, 0).UTC(), Folders: []Folder{folder, pics},
+	head := &Head{Version: FirstVersion, Device: thisDevice, Made: time.Unix(0, 0).UTC(), Folders: []Folder{folder, pics},
 		Others: []Other{{ID: "a", Devices: []string{otherDevice}}, {ID: "z", Devices: []string{}}}}
 	return &aWhole{head, []Line{{Begin: &Begin{"docs"}}, {Name: &Name{Name: "a", Own: file, Views: view(file), Disk: disk}},
 		{Name: &Name{Name: "b", Own: directory, Disk: &Node{Type: 1}}}, {Name: &Name{Name: "c", Own: link, Disk: &Node{Type: symlink, Target: "x"}}},

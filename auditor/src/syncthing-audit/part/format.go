@@ -5,7 +5,7 @@ import "fmt"
 // The versions of the format. A part has another one where it says too little for a program that doesn't know of what it says: that one
 // refuses the part then.
 const (
-	Version         = 1
+	FirstVersion    = 1
 	VersionOfLooks  = 2 // of one of two looks, which says nothing by itself
 	VersionOfSlices = 3 // of one slice of the names, whether of a look or not
 	VersionOfWire   = 4 // made over the wire, of two looks: what isn't seen so isn't to be asked for
@@ -27,13 +27,13 @@ func (h *Head) DueVersion() int {
 	case h.Look != nil:
 		return VersionOfLooks
 	}
-	return Version
+	return FirstVersion
 }
 
 // checkVersionOf says why a head's version is none.
 func checkVersionOf(head *Head) error {
-	if head.Version < Version || head.Version > VersionOfBudget {
-		return fmt.Errorf("the part has version %d; this program reads versions %d to %d", head.Version, Version, VersionOfBudget)
+	if head.Version < FirstVersion || head.Version > VersionOfBudget {
+		return fmt.Errorf("the part has version %d; this program reads versions %d to %d", head.Version, FirstVersion, VersionOfBudget)
 	}
 	if due := head.DueVersion(); head.Version != due {
 		return fmt.Errorf("the part has version %d; by what it says of looks, slices, disks and the wire it is %d", head.Version, due)

@@ -250,7 +250,7 @@ func checkRecord(record *Record, greatest int64) error {
 }
 
 // checkVersion says why a version is none.
-func checkVersion(counters [][2]uint64) error {
+func checkVersion(counters Version) error {
 	if len(counters) > limits.MostCounters {
 		return fmt.Errorf("its version has over %d counters", limits.MostCounters)
 	}

@@ -219,18 +219,18 @@ type Seen struct {
 
 // Record is an entry of an index, as it goes over the wire.
 type Record struct {
-	Type        int         `json:"type"`
-	ModifiedS   int64       `json:"s"`
-	ModifiedNs  int         `json:"ns,omitempty"`
-	ModifiedBy  uint64      `json:"by"`
-	Version     [][2]uint64 `json:"version"`
-	Local       [][2]uint64 `json:"local,omitempty"` // of a local change of a device that only receives: the version that its index has
-	Sequence    int64       `json:"sequence"`
-	Deleted     bool        `json:"deleted,omitempty"`
-	Invalid     bool        `json:"invalid,omitempty"`
-	Content     *Content    `json:"content,omitempty"` // of a file that isn't deleted
-	Target      string      `json:"target,omitempty"`
-	Permissions *uint32     `json:"permissions,omitempty"` // none where the entry has none
+	Type        int      `json:"type"`
+	ModifiedS   int64    `json:"s"`
+	ModifiedNs  int      `json:"ns,omitempty"`
+	ModifiedBy  uint64   `json:"by"`
+	Version     Version  `json:"version"`
+	Local       Version  `json:"local,omitempty"` // of a local change of a device that only receives: the version that its index has
+	Sequence    int64    `json:"sequence"`
+	Deleted     bool     `json:"deleted,omitempty"`
+	Invalid     bool     `json:"invalid,omitempty"`
+	Content     *Content `json:"content,omitempty"` // of a file that isn't deleted
+	Target      string   `json:"target,omitempty"`
+	Permissions *uint32  `json:"permissions,omitempty"` // none where the entry has none
 
 	Blocks [][32]byte `json:"-"` // in memory alone, for documents with bytes
 }

@@ -2,10 +2,13 @@ package part
 
 import "math"
 
+// Version is a version vector: the greatest value of each device that changed the name, by the device's number (BEP 'Vector').
+type Version [][2]uint64
+
 // IsAtMost says whether a version is at most another one everywhere.
-func IsAtMost(version, other [][2]uint64) bool {
-	for _, counter := range version {
-		if counter[1] > valueAt(other, counter[0]) {
+func (v Version) IsAtMost(other Version) bool {
+	for _, counter := range v {
+		if counter[1] > other.valueAt(counter[0]) {
 			return false
 		}
 	}
@@ -13,12 +16,12 @@ func IsAtMost(version, other [][2]uint64) bool {
 }
 
 // Counts says whether a version counts a change of this device.
-func Counts(version [][2]uint64, device uint64) bool { return valueAt(version, device) > 0 }
+func (v Version) Counts(device uint64) bool { return v.valueAt(device) > 0 }
 
-// valueAt gives a version's value for an id; 0 where it isn't listed.
-func valueAt(version [][2]uint64, id uint64) uint64 {
-	for _, counter := range version {
-		if counter[0] == id {
+// valueAt gives a version's value for a device; 0 where it isn't listed.
+func (v Version) valueAt(device uint64) uint64 {
+	for _, counter := range v {
+		if counter[0] == device {
 			return counter[1]
 		}
 	}
@@ -27,11 +30,11 @@ func valueAt(version [][2]uint64, id uint64) uint64 {
 
 // GoesFirst says whether Syncthing keeps this one of two concurrent versions of what was modified at the same time (its WinsConflict): of the ids
 // whose values differ, it has the greater value for the least one.
-func GoesFirst(version, other [][2]uint64) bool {
+func (v Version) GoesFirst(other Version) bool {
 	goes, least := false, uint64(math.MaxUint64)
-	for _, list := range [][][2]uint64{version, other} {
+	for _, list := range []Version{v, other} {
 		for _, counter := range list {
-			here, there := valueAt(version, counter[0]), valueAt(other, counter[0])
+			here, there := v.valueAt(counter[0]), other.valueAt(counter[0])
 			if here != there && counter[0] <= least {
 				goes, least = here > there, counter[0]
 			}

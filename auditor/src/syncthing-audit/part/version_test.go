@@ -12,16 +12,16 @@ import (
 func TestWhoseChangesAVersionCounts(t *testing.T) {
 	for _, one := range []struct {
 		why     string
-		version [][2]uint64
+		version Version
 		own     bool
 	}{
 		{"none", nil, false},
-		{"of the device alone", [][2]uint64{{2, 5}}, true},
-		{"of another one", [][2]uint64{{1, 5}}, false},
-		{"of both", [][2]uint64{{1, 1}, {2, 1}}, true},
-		{"a value of 0 is none", [][2]uint64{{1, 0}, {2, 0}}, false},
+		{"of the device alone", Version{{2, 5}}, true},
+		{"of another one", Version{{1, 5}}, false},
+		{"of both", Version{{1, 1}, {2, 1}}, true},
+		{"a value of 0 is none", Version{{1, 0}, {2, 0}}, false},
 	} {
-		if own := Counts(one.version, 2); own != one.own {
+		if own := one.version.Counts(2); own != one.own {
 			t.Errorf("%s: %t", one.why, own)
 		}
 	}
@@ -29,7 +29,7 @@ func TestWhoseChangesAVersionCounts(t *testing.T) {
 
 // What Syncthing keeps at equal times is what its own Compare says of two concurrent versions.
 func TestWhichVersionGoesFirst(t *testing.T) {
-	versions := [][][2]uint64{{{1, 5}}, {{2, 5}}, {{1, 5}, {2, 1}}, {{1, 4}, {2, 9}}, {{1, 4}, {3, 1}}, {{3, 7}}, {{1, 0}, {3, 8}}, {{2, 5}, {3, 1}}, {{math.MaxUint64, 3}}}
+	versions := []Version{{{1, 5}}, {{2, 5}}, {{1, 5}, {2, 1}}, {{1, 4}, {2, 9}}, {{1, 4}, {3, 1}}, {{3, 7}}, {{1, 0}, {3, 8}}, {{2, 5}, {3, 1}}, {{math.MaxUint64, 3}}}
 	concurrent := 0
 	for _, one := range versions {
 		for _, other := range versions {
@@ -38,7 +38,7 @@ func TestWhichVersionGoesFirst(t *testing.T) {
 				continue
 			}
 			concurrent++
-			if GoesFirst(one, other) != (compared == protocol.ConcurrentGreater) {
+			if one.GoesFirst(other) != (compared == protocol.ConcurrentGreater) {
 				t.Errorf("%v and %v: %v", one, other, compared)
 			}
 		}
@@ -49,7 +49,7 @@ func TestWhichVersionGoesFirst(t *testing.T) {
 }
 
 // vector gives a version as Syncthing's own packages have it.
-func vector(version [][2]uint64) (made protocol.Vector) {
+func vector(version Version) (made protocol.Vector) {
 	for _, one := range version {
 		made.Counters = append(made.Counters, protocol.Counter{ID: protocol.ShortID(one[0]), Value: one[1]})
 	}
@@ -63,12 +63,12 @@ func TestVersionsCompareAsSyncthingsDo(t *testing.T) {
 		one, other := versionBy(random), versionBy(random)
 		compared := vector(one).Compare(vector(other))
 		seen[compared]++
-		if IsAtMost(one, other) != (compared == protocol.Equal || compared == protocol.Lesser) {
-			t.Fatalf("%v and %v: %v, and at most: %t", one, other, compared, IsAtMost(one, other))
+		if one.IsAtMost(other) != (compared == protocol.Equal || compared == protocol.Lesser) {
+			t.Fatalf("%v and %v: %v, and at most: %t", one, other, compared, one.IsAtMost(other))
 		}
 		isConcurrent := compared == protocol.ConcurrentGreater || compared == protocol.ConcurrentLesser
-		if isConcurrent && GoesFirst(one, other) != (compared == protocol.ConcurrentGreater) {
-			t.Fatalf("%v and %v: %v, and goes first: %t", one, other, compared, GoesFirst(one, other))
+		if isConcurrent && one.GoesFirst(other) != (compared == protocol.ConcurrentGreater) {
+			t.Fatalf("%v and %v: %v, and goes first: %t", one, other, compared, one.GoesFirst(other))
 		}
 	}
 	for _, ordering := range []protocol.Ordering{protocol.Equal, protocol.Greater, protocol.Lesser, protocol.ConcurrentGreater, protocol.ConcurrentLesser} {
@@ -79,7 +79,7 @@ func TestVersionsCompareAsSyncthingsDo(t *testing.T) {
 }
 
 // versionBy gives a version as Syncthing has one: its ids rise, and a value may be 0.
-func versionBy(random *rand.Rand) [][2]uint64 {
+func versionBy(random *rand.Rand) Version {
 	var made [][2]uint64
 	for _, id := range []uint64{0, 1, 2, math.MaxUint64 - 1, math.MaxUint64} {
 		if value := uint64(random.Intn(4)); random.Intn(2) == 0 {

@@ -55,7 +55,7 @@ func rotInLongNames(line *part.Name, isLast bool) *part.Name {
 func recordItself(line *part.Name) {
 	own := *line.Own
 	own.ModifiedBy++
-	own.Version = [][2]uint64{{own.ModifiedBy, 1700000000}}
+	own.Version = part.Version{{own.ModifiedBy, 1700000000}}
 	line.Own = &own
 }
 

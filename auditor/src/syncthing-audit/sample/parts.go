@@ -46,7 +46,7 @@ func (p *plan) writePart(file *os.File, ids []string, place int) error {
 			folder.Views = append(folder.Views, part.View{Device: id, IndexID: uint64(other + 1), Max: most})
 		}
 	}
-	head := &part.Head{Version: part.Version, Device: ids[place], Name: fmt.Sprintf("device%d", place+1),
+	head := &part.Head{Version: part.FirstVersion, Device: ids[place], Name: fmt.Sprintf("device%d", place+1),
 		Made: time.Unix(1700000000, 0).UTC(), Folders: []part.Folder{folder}, Others: []part.Other{}}
 	to, err := part.NewWriter(file, head)
 	if err != nil {
@@ -80,7 +80,7 @@ func (p *plan) writePart(file *os.File, ids []string, place int) error {
 func nameLine(number int, size int64, by uint64, views int) *part.Name {
 	permissions := uint32(0o644)
 	content := part.Content{Size: size, BlockSize: int64(protocol.BlockSize(size)), Hash: sha256.Sum256([]byte(nameOf(number)))}
-	record := part.Record{ModifiedS: 1700000000, ModifiedNs: 123456789, ModifiedBy: by, Version: [][2]uint64{{by, 1700000000}},
+	record := part.Record{ModifiedS: 1700000000, ModifiedNs: 123456789, ModifiedBy: by, Version: part.Version{{by, 1700000000}},
 		Sequence: int64(number) + 1, Content: &content, Permissions: &permissions}
 	made := &part.Name{Name: part.Bytes(nameOf(number)), Own: &record, Disk: &part.Node{ModifiedS: record.ModifiedS,
 		ModifiedNs: record.ModifiedNs, Size: size, Contents: []part.Content{content}, Permissions: permissions}}

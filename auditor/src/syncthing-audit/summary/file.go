@@ -276,7 +276,7 @@ func (r *reader) addFaults(member int) {
 		r.add(member, LocalChange)
 	case isBehind && r.winner != nil && isCutOtherwise(at, r.winner):
 		r.add(member, OtherBlocks)
-	case isBehind && at != nil && at.Own != nil && r.winner != nil && !part.IsAtMost(at.Own.Version, r.winner.Version):
+	case isBehind && at != nil && at.Own != nil && r.winner != nil && !at.Own.Version.IsAtMost(r.winner.Version):
 		r.add(member, Conflicting)
 	case isBehind:
 		r.add(member, Behind)

@@ -17,7 +17,7 @@ func isTakenByRevert(row *join.Row, member int, number uint64) bool {
 		return false
 	}
 	if winner != nil && winner.Deleted {
-		return !part.Counts(winner.Version, number)
+		return !winner.Version.Counts(number)
 	}
 	return winner == nil || winner.Content == nil || *winner.Content != at.Disk.Contents[0]
 }

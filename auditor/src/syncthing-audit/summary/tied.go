@@ -8,7 +8,7 @@ import (
 // isTied says whether a device has something else than what is due under the very version of that. Syncthing compares versions, so neither
 // device takes anything from the other.
 func (r *reader) isTied(at *part.Name) bool {
-	return at.Own != nil && r.winner != nil && part.IsAtMost(at.Own.Version, r.winner.Version) && part.IsAtMost(r.winner.Version, at.Own.Version)
+	return at.Own != nil && r.winner != nil && at.Own.Version.IsAtMost(r.winner.Version) && r.winner.Version.IsAtMost(at.Own.Version)
 }
 
 // isTied says whether that is so of the name at some device.

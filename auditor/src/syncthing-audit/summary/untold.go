@@ -15,7 +15,7 @@ func (r *reader) isUntold(member int) bool {
 	}
 	is := false
 	for other, name := range r.row.At {
-		if other == member || name == nil || name.Own == nil || name.Own.Invalid || !part.IsAtMost(r.winner.Version, name.Own.Version) {
+		if other == member || name == nil || name.Own == nil || name.Own.Invalid || !r.winner.Version.IsAtMost(name.Own.Version) {
 			continue
 		}
 		if place := r.viewOf(member, other); place >= 0 {
@@ -45,7 +45,7 @@ func (r *reader) isPassedOver(member, other, place int) bool {
 		return true
 	}
 	return slices.IndexFunc(r.row.At[member].Views, func(seen part.Seen) bool {
-		return seen.View == place && part.IsAtMost(own.Version, seen.Record.Version)
+		return seen.View == place && own.Version.IsAtMost(seen.Record.Version)
 	}) < 0
 }
 

@@ -135,7 +135,7 @@ func record(of *part.Record) *forecast.Record {
 	return made
 }
 
-func version(pairs [][2]uint64) []forecast.Counter {
+func version(pairs part.Version) []forecast.Counter {
 	var made []forecast.Counter
 	for _, pair := range pairs {
 		made = append(made, forecast.Counter{Device: pair[0], Value: pair[1]})
