@@ -47,3 +47,19 @@ func TestFoldersThatAreAway(t *testing.T) {
 		t.Errorf("another one is asked for: %v, %s", err, refused(plan))
 	}
 }
+
+// Where Syncthing stopped such a folder, or its part is of another moment than the rest, that is refused.
+func TestFoldersThatAreRefusedAway(t *testing.T) {
+	for told, away := range map[string]part.Other{
+		"absent": {Away: "there is no /media/docs", IsStopped: true}, "left-out:absent": {Away: "there is no /media/docs"}, "moment": {Apart: "it changed meanwhile"},
+	} {
+		devices := sharing(map[byte]string{1: "12", 2: "12"}, unchanged)
+		devices[1].Head.Folders = nil
+		away.ID, away.Devices = "docs", []string{deviceID(1)}
+		devices[1].Head.Others = []part.Other{away}
+		plan, err := NewPlan(devices, nil)
+		if err != nil || refused(plan) != told || !plan.IsLeftOut("docs", deviceID(2)) {
+			t.Errorf("%v: %s, not %s", err, refused(plan), told)
+		}
+	}
+}

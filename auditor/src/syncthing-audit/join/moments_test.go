@@ -17,11 +17,12 @@ func TestMoments(t *testing.T) {
 	}{
 		{"as far as the index goes", 2, 5, ""}, {"behind it", 2, 4, ""}, {"ahead of it", 2, 6, "earlier:moment"}, {"of an index that is gone", 9, 6, ""},
 	} {
-		plan, err := NewPlan(sharing(map[byte]string{1: "12", 2: "12"}, func(device byte, folder *part.Folder) {
+		devices := sharing(map[byte]string{1: "12", 2: "12"}, func(device byte, folder *part.Folder) {
 			if device == 1 {
 				folder.Views = []part.View{{Device: deviceID(2), IndexID: one.indexID, Max: one.max}}
 			}
-		}), nil)
+		})
+		plan, err := NewPlan(devices, nil)
 		if err != nil || refused(plan) != one.told || len(plan.Folders) != 1 || len(plan.Folders[0].Members) != 2 {
 			t.Errorf("%s: %q, %v", one.why, refused(plan), err)
 			continue
@@ -29,6 +30,9 @@ func TestMoments(t *testing.T) {
 		view := plan.Folders[0].Members[0].About.Views[0]
 		if isClipped := view.Max == 5 && one.max > 5; plan.Folders[0].IsOfOneMoment() == (one.told != "") || isClipped != (one.told != "") {
 			t.Errorf("%s: the view goes to %d", one.why, view.Max)
+		}
+		if head := devices[0].Head.Folders[0].Views[0]; head.Max != one.max {
+			t.Errorf("%s: the part's own head has a view to %d, not %d", one.why, head.Max, one.max)
 		}
 	}
 }

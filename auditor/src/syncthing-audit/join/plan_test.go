@@ -120,6 +120,17 @@ func TestSharing(t *testing.T) {
 	}
 }
 
+// Of two groups with as many devices, which don't share the folder with one another, the one with the first device is compared.
+func TestOfTwoGroupsTheFirstIsCompared(t *testing.T) {
+	plan, err := NewPlan(sharing(map[byte]string{1: "13", 2: "24", 3: "13", 4: "24"}, unchanged), nil)
+	if err != nil || refused(plan) != "unshared unshared" {
+		t.Fatalf("%v, %s", err, refused(plan))
+	}
+	if members := plan.Folders[0].Members; len(members) != 2 || members[0].Head.Device != deviceID(1) || members[1].Head.Device != deviceID(3) {
+		t.Errorf("%+v", members)
+	}
+}
+
 // Where each device shares its folder of an id with nobody, each has one of its own. Where others share theirs, one device may be meant to
 // share it, too.
 func TestFoldersThatAreSharedWithNobody(t *testing.T) {
