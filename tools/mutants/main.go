@@ -3,6 +3,7 @@
 // the tests once with nearly all mutants, each behind a switch, and runs for each mutant the tests that come to it.
 //
 //	tools/mutants/run [--turn K/N] [--sample N [--seed S]] [--seconds S] [--jobs N] PACKAGE..
+//	tools/mutants/run --again FILE PACKAGE..    only those that an earlier run, whose output this is, says survived
 //	tools/mutants/run --classes MODULE:CLASS,.. [--sample N] PACKAGE..    what classes of real devices fail for (classes.go)
 //
 // Each mutant that all tests let pass is printed with file, line and change. One that stands in same.txt, with the reason why
@@ -16,6 +17,7 @@ import (
 	"fmt"
 	"math/rand"
 	"os"
+	"regexp"
 	"sort"
 	"strings"
 	"sync"
@@ -30,6 +32,7 @@ type asked struct {
 	jobs        int
 	most        float64 // how many of a hundred mutants may survive
 	same        map[string]bool
+	again       map[string]bool // only these; all where it is nothing
 }
 
 func main() {
@@ -41,6 +44,7 @@ func main() {
 	most := flag.Float64("most", 5, "how many of a hundred mutants may survive")
 	classes := flag.String("classes", "", "in place of Go's tests, these classes of auditor/test: MODULE:CLASS,..")
 	same := flag.String("same", "", "the file of mutants that are the same program")
+	again := flag.String("again", "", "the output of an earlier run: only the mutants that survived it")
 	flag.Parse()
 	given := asked{sample: *sample, seed: *seed, jobs: *jobs, most: *most}
 	if _, err := fmt.Sscanf(*turn, "%d/%d", &given.turn, &given.turns); err != nil || given.turn < 1 || given.turn > given.turns {
@@ -51,6 +55,9 @@ func main() {
 	}
 	var err error
 	if given.same, err = readSame(*same); err != nil {
+		fail(err)
+	}
+	if given.again, err = readSurvivors(*again); err != nil {
 		fail(err)
 	}
 	if *classes != "" {
@@ -116,6 +123,24 @@ func readSame(path string) (map[string]bool, error) {
 	}
 	return keys, lines.Err()
 }
+
+// readSurvivors reads the keys of the mutants that a run's output says survived; nothing where no file is named.
+func readSurvivors(path string) (map[string]bool, error) {
+	if path == "" {
+		return nil, nil
+	}
+	text, err := os.ReadFile(path)
+	keys := map[string]bool{}
+	for _, line := range strings.Split(string(text), "\n") {
+		if found := survivor.FindStringSubmatch(line); found != nil {
+			keys[found[1]] = true
+		}
+	}
+	return keys, err
+}
+
+// A survivor's line, as counts.count prints it.
+var survivor = regexp.MustCompile(`^survived.*\.go:\d+: (.*)$`)
 
 // counts is how many mutants of a package had which outcome.
 type counts struct{ seen, survived, same, notCompiled, left, stale int }
@@ -238,6 +263,7 @@ func tryAll(on *bench, due []keyed, given asked) (counts, error) {
 	}
 	for _, place := range given.chosen(len(due)) {
 		switch {
+		case given.again != nil && !given.again[due[place].name]:
 		case given.same[due[place].name]:
 			total.same++
 		case !given.until.IsZero() && time.Now().After(given.until):
