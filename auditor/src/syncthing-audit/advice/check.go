@@ -11,11 +11,11 @@ func (s Search) Check(world forecast.World, goal Goal, steps []Step) *Plan {
 			return nil
 		}
 	}
-	made := t.leads(steps)
-	if made == nil || !t.isSafe(steps, made.Lost) {
+	plan := t.leads(steps)
+	if plan == nil || !t.isSafe(steps, plan.Lost) {
 		return nil
 	}
-	return made
+	return plan
 }
 
 // mayTake says whether there is what a step touches or copies.
@@ -33,13 +33,13 @@ func (t *task) mayTake(step Step) bool {
 // reached at some end; none where it is for another reason.
 func (s Search) Together(world forecast.World, goals []Goal, steps []Step) (*Plan, []Goal) {
 	t := task{Search: s, world: world, before: onDisks(&world), unavoidable: contents{}}
-	made := t.comesOf(steps)
-	if made == nil {
+	plan := t.comesOf(steps)
+	if plan == nil {
 		return nil, nil
 	}
 	var missed []Goal
 	for _, goal := range goals {
-		if !goal.isReachedAtAll(made.Answer.Ends) {
+		if !goal.isReachedAtAll(plan.Answer.Ends) {
 			missed = append(missed, goal)
 		}
 	}
@@ -47,13 +47,13 @@ func (s Search) Together(world forecast.World, goals []Goal, steps []Step) (*Pla
 		return nil, missed
 	}
 	t.before.lostIn(s.answer(world).Ends, t.unavoidable)
-	if !t.isSafe(steps, made.Lost) {
+	if !t.isSafe(steps, plan.Lost) {
 		return nil, nil
 	}
-	for _, content := range made.Lost {
+	for _, content := range plan.Lost {
 		if !t.unavoidable[content] {
-			made.Costs = append(made.Costs, content)
+			plan.Costs = append(plan.Costs, content)
 		}
 	}
-	return made, nil
+	return plan, nil
 }

@@ -53,15 +53,15 @@ type contents map[forecast.Content]bool
 
 // onDisks gives the bytes that a world has on disks.
 func onDisks(world *forecast.World) contents {
-	made := contents{}
+	found := contents{}
 	for place := range world.Names {
 		for _, what := range world.Names[place].Disk {
 			if what != nil && what.Content.Size > 0 {
-				made[what.Content] = true
+				found[what.Content] = true
 			}
 		}
 	}
-	return made
+	return found
 }
 
 // lostIn adds the bytes that stand on no disk at some end.

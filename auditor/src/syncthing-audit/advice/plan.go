@@ -45,15 +45,15 @@ func (s Search) Plans(world forecast.World, goal Goal) []Plan {
 	t := task{Search: s, world: world, goal: goal, before: onDisks(&world), unavoidable: contents{}}
 	t.before.lostIn(s.answer(world).Ends, t.unavoidable)
 	for count := 0; count <= MostSteps; count++ {
-		var made []Plan
+		var plans []Plan
 		choose(t.steps(), count, func(steps []Step) {
 			if plan := t.plan(steps); plan != nil {
-				made = append(made, *plan)
+				plans = append(plans, *plan)
 			}
 		})
-		if len(made) > 0 {
-			sort.SliceStable(made, func(a, b int) bool { return len(made[a].Lost) < len(made[b].Lost) })
-			return made
+		if len(plans) > 0 {
+			sort.SliceStable(plans, func(a, b int) bool { return len(plans[a].Lost) < len(plans[b].Lost) })
+			return plans
 		}
 	}
 	return nil
@@ -73,12 +73,12 @@ func (s Search) answer(world forecast.World) forecast.Answer {
 
 // steps gives all steps that may serve.
 func (t *task) steps() []Step {
-	var made []Step
+	var steps []Step
 	from := -1
 	for i := range t.world.Devices {
 		if there := t.world.At(i, t.goal.Name); t.goal.Node != nil && isSame(there, t.goal.Node) {
 			if there != nil && there.Type == forecast.File { // no scan sees the time of anything else
-				made = append(made, Step{Touch, i, 0, t.goal.Name})
+				steps = append(steps, Step{Touch, i, 0, t.goal.Name})
 			}
 			if from < 0 {
 				from = i
@@ -88,13 +88,13 @@ func (t *task) steps() []Step {
 	for i := range t.world.Devices {
 		there := t.world.At(i, t.goal.Name)
 		if from >= 0 && !isSame(there, t.goal.Node) && t.world.HasRoom(i, t.goal.Name) {
-			made = append(made, Step{Copy, i, from, t.goal.Name})
+			steps = append(steps, Step{Copy, i, from, t.goal.Name})
 		}
 		if there != nil && !isSame(there, t.goal.Node) {
-			made = append(made, Step{Delete, i, 0, t.goal.Name})
+			steps = append(steps, Step{Delete, i, 0, t.goal.Name})
 		}
 	}
-	return made
+	return steps
 }
 
 // choose calls for each choice of some of these steps, in their order.
@@ -122,8 +122,8 @@ func (t *task) plan(steps []Step) *Plan {
 		return nil
 	}
 	permute(steps, func(order []Step) bool {
-		if made := t.leads(order); made != nil && t.isSafe(order, made.Lost) {
-			found = made
+		if plan := t.leads(order); plan != nil && t.isSafe(order, plan.Lost) {
+			found = plan
 		}
 		return found == nil
 	})
@@ -132,26 +132,26 @@ func (t *task) plan(steps []Step) *Plan {
 
 // leads gives the plan of steps in this order if each of its ends is the goal.
 func (t *task) leads(steps []Step) *Plan {
-	made := t.comesOf(steps)
-	if made == nil || !t.goal.isReachedAtAll(made.Answer.Ends) {
+	plan := t.comesOf(steps)
+	if plan == nil || !t.goal.isReachedAtAll(plan.Answer.Ends) {
 		return nil
 	}
-	return made
+	return plan
 }
 
 // comesOf gives what comes of steps in this order; nothing where that isn't known.
 func (t *task) comesOf(steps []Step) *Plan {
-	made := &Plan{Steps: append([]Step{}, steps...), Answer: t.answer(t.after(steps))}
-	if len(made.Answer.Ends) == 0 || made.Answer.Endless > 0 {
+	plan := &Plan{Steps: append([]Step{}, steps...), Answer: t.answer(t.after(steps))}
+	if len(plan.Answer.Ends) == 0 || plan.Answer.Endless > 0 {
 		return nil
 	}
 	lost := contents{}
-	t.before.lostIn(made.Answer.Ends, lost)
+	t.before.lostIn(plan.Answer.Ends, lost)
 	for content := range lost {
-		made.Lost = append(made.Lost, content)
+		plan.Lost = append(plan.Lost, content)
 	}
-	sort.Slice(made.Lost, func(a, b int) bool { return made.Lost[a].Hash < made.Lost[b].Hash })
-	return made
+	sort.Slice(plan.Lost, func(a, b int) bool { return plan.Lost[a].Hash < plan.Lost[b].Hash })
+	return plan
 }
 
 // mostStops is after how many of its steps a plan is tried to be left: of a longer plan, which does the same to many names, after some of them.
@@ -176,29 +176,29 @@ func (t *task) isSafe(steps []Step, lost []forecast.Content) bool {
 
 // permute calls for each order of some steps until a call says that this was enough.
 func permute(steps []Step, call func([]Step) bool) bool {
-	var made func(chosen, rest []Step) bool
-	made = func(chosen, rest []Step) bool {
+	var again func(chosen, rest []Step) bool
+	again = func(chosen, rest []Step) bool {
 		if len(rest) == 0 {
 			return call(chosen)
 		}
 		for place := range rest {
 			others := append(append([]Step{}, rest[:place]...), rest[place+1:]...)
-			if !made(append(append([]Step{}, chosen...), rest[place]), others) {
+			if !again(append(append([]Step{}, chosen...), rest[place]), others) {
 				return false
 			}
 		}
 		return true
 	}
-	return made(nil, steps)
+	return again(nil, steps)
 }
 
 // after gives the world after these steps.
 func (t *task) after(steps []Step) forecast.World {
-	made := t.world.Copied()
+	world := t.world.Copied()
 	for _, step := range steps {
-		step.On(&made, t.Present)
+		step.On(&world, t.Present)
 	}
-	return made
+	return world
 }
 
 // On carries out a step in a world.

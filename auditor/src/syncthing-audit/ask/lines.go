@@ -20,23 +20,23 @@ func Line(folder string, failure *finding.Failure) string {
 
 // Printed gives a name as syncaudit writes it: each byte below 0x21, each backslash and 0x7f as \xNN.
 func Printed(name string) string {
-	var made strings.Builder
+	var text strings.Builder
 	for place := 0; place < len(name); place++ {
 		if letter := name[place]; letter < 0x21 || letter == '\\' || letter == 0x7f {
-			fmt.Fprintf(&made, `\x%02x`, letter)
+			fmt.Fprintf(&text, `\x%02x`, letter)
 		} else {
-			made.WriteByte(letter)
+			text.WriteByte(letter)
 		}
 	}
-	return made.String()
+	return text.String()
 }
 
 // unprinted gives the name that is written so.
 func unprinted(text string) (string, bool) {
-	var made strings.Builder
+	var name strings.Builder
 	for place := 0; place < len(text); place++ {
 		if text[place] != '\\' {
-			made.WriteByte(text[place])
+			name.WriteByte(text[place])
 			continue
 		}
 		if place+4 > len(text) || text[place+1] != 'x' {
@@ -46,10 +46,10 @@ func unprinted(text string) (string, bool) {
 		if err != nil {
 			return "", false
 		}
-		made.Write(letter)
+		name.Write(letter)
 		place += 3
 	}
-	return made.String(), true
+	return name.String(), true
 }
 
 // readFailures reads what 'syncaudit explain' writes: what is indented is only said.
@@ -76,11 +76,11 @@ func readFailures(folder, report string) ([]finding.Failure, error) {
 
 // readFailure reads one of its lines.
 func readFailure(folder, line string) (finding.Failure, bool) {
-	made, is := readLine(folder, line)
-	if !is || finding.Place(made.Reason) < 0 && !finding.IsFirmReason(made.Reason) {
+	failure, is := readLine(folder, line)
+	if !is || finding.Place(failure.Reason) < 0 && !finding.IsFirmReason(failure.Reason) {
 		return finding.Failure{}, false
 	}
-	return made, true
+	return failure, true
 }
 
 // readLine reads a line of a reason, whichever that is.
@@ -90,11 +90,11 @@ func readLine(folder, line string) (finding.Failure, bool) {
 		return finding.Failure{}, false
 	}
 	name, is := unprinted(words[2])
-	made := finding.Failure{Reason: words[0], Name: name}
+	failure := finding.Failure{Reason: words[0], Name: name}
 	if len(words) == 5 {
 		number, err := strconv.ParseUint(words[4], 10, 64)
 		is = is && err == nil && words[3] == "on"
-		made.Device = number
+		failure.Device = number
 	}
-	return made, is
+	return failure, is
 }

@@ -32,13 +32,13 @@ const ahead = 3
 // NewPool starts so many workers; each reply is given to take, one at a time, in the order of the documents' places.
 func NewPool(program Program, workers int, take func(*document.Document, *Reply)) *Pool {
 	program.lacks = &lacks{}
-	made := &Pool{program: program, asked: make(chan *document.Document), most: ahead * workers, take: take, early: map[int]answered{}}
-	made.changed = sync.NewCond(&made.mutex)
+	pool := &Pool{program: program, asked: make(chan *document.Document), most: ahead * workers, take: take, early: map[int]answered{}}
+	pool.changed = sync.NewCond(&pool.mutex)
 	for next := 0; next < workers; next++ {
-		made.workers.Add(1)
-		go made.work()
+		pool.workers.Add(1)
+		go pool.work()
 	}
-	return made
+	return pool
 }
 
 func (p *Pool) work() {

@@ -31,19 +31,19 @@ type Options struct {
 
 // Collect goes through the folders of a plan. Each document is given to take, as long as nothing was refused.
 func Collect(plan *join.Plan, options Options, take func(*document.Document) error) (*finding.Answer, error) {
-	made := &collector{plan: plan, options: options, take: take, foretells: outlook.NewForeteller(budget, time.Now().UnixNano()), answer: &finding.Answer{IsByName: plan.IsByName, ByNames: options.ByNames, HasRest: true}}
-	made.refusePlan()
+	to := &collector{plan: plan, options: options, take: take, foretells: outlook.NewForeteller(budget, time.Now().UnixNano()), answer: &finding.Answer{IsByName: plan.IsByName, ByNames: options.ByNames, HasRest: true}}
+	to.refusePlan()
 	for _, observer := range plan.Observers {
 		if slices.IndexFunc(plan.Folders, func(folder *join.Folder) bool { return folder.ID == observer.Folder }) >= 0 {
-			made.answer.Observers = append(made.answer.Observers, observer)
+			to.answer.Observers = append(to.answer.Observers, observer)
 		}
 	}
 	for _, device := range plan.Devices {
-		made.answer.Devices = append(made.answer.Devices, finding.Device{ID: device.Head.Device, Number: device.Number, Name: device.Head.Name,
+		to.answer.Devices = append(to.answer.Devices, finding.Device{ID: device.Head.Device, Number: device.Number, Name: device.Head.Name,
 			Runs: device.Head.Runs, Made: device.Head.Made, From: device.From, Index: device.Head.Index, Newer: device.Head.Newer, ToRepair: device.Head.ToRepair, IsUnsigned: device.IsUnsigned, Unasked: unaskedOf(plan, device), IsSilent: device.Head.Others == nil})
 	}
 	for _, folder := range plan.Folders {
-		if err := made.folder(folder); err != nil {
+		if err := to.folder(folder); err != nil {
 			return nil, err
 		}
 	}
@@ -52,14 +52,14 @@ func Collect(plan *join.Plan, options Options, take func(*document.Document) err
 			return nil, err
 		}
 	}
-	return made.answer, made.checkSomething()
+	return to.answer, to.checkSomething()
 }
 
 // Refused gives what of a plan isn't audited, before any of its names is read.
 func Refused(plan *join.Plan, consent Consent) *finding.Answer {
-	made := &collector{plan: plan, options: Options{Consent: consent}, answer: &finding.Answer{}}
-	made.refusePlan()
-	return made.answer
+	to := &collector{plan: plan, options: Options{Consent: consent}, answer: &finding.Answer{}}
+	to.refusePlan()
+	return to.answer
 }
 
 // refusePlan notes what of the plan isn't audited.

@@ -11,9 +11,9 @@ func (c Consent) Has(kind string) bool { return !c.IsStrict || c.Kinds[kind] }
 
 // Of gives a strict consent to some kinds alone.
 func Of(kinds ...string) Consent {
-	made := Consent{IsStrict: true, Kinds: map[string]bool{}}
+	consent := Consent{IsStrict: true, Kinds: map[string]bool{}}
 	for _, kind := range kinds {
-		made.Kinds[kind] = true
+		consent.Kinds[kind] = true
 	}
-	return made
+	return consent
 }

@@ -20,24 +20,24 @@ func liveOf(folder *join.Folder) *finding.Live {
 	if !folder.IsLive() {
 		return &finding.Live{OfParts: true}
 	}
-	made := &finding.Live{}
+	live := &finding.Live{}
 	if spent, err := folder.Still(); err == nil {
-		made.Seconds, made.Timed = spent.Seconds(), true
+		live.Seconds, live.Timed = spent.Seconds(), true
 	}
-	return made
+	return live
 }
 
 // addMoving adds a name that changed at a device between its two looks, or after its part was made.
 func (n *names) addMoving(row *join.Row) {
-	made := finding.Moving{Name: part.Bytes(row.Name)}
+	moving := finding.Moving{Name: part.Bytes(row.Name)}
 	for member, name := range row.At {
 		if name != nil && len(name.Moved) > 0 {
-			made.At = append(made.At, movedOf(row, member))
+			moving.At = append(moving.At, movedOf(row, member))
 		} else if slices.Contains(row.Later, member) {
-			made.At = append(made.At, finding.Moved{Member: member, Why: []string{part.MovedLater}})
+			moving.At = append(moving.At, finding.Moved{Member: member, Why: []string{part.MovedLater}})
 		}
 	}
-	n.found.Live.AddMoving(made)
+	n.found.Live.AddMoving(moving)
 }
 
 // addUnheard counts a still name whose record a device hadn't heard of from another one.

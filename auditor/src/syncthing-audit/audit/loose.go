@@ -14,20 +14,20 @@ func (n *names) addLoose(row *join.Row) {
 	if winner == nil || !areAlike(row, winner) {
 		return
 	}
-	made := finding.Loose{Name: row.Name}
+	loose := finding.Loose{Name: row.Name}
 	for member, name := range row.At { // nothing is beyond the winner, so what the winner is at most is the same
 		if name != nil && name.Own != nil && !winner.Version.IsAtMost(name.Own.Version) {
-			made.At = append(made.At, finding.LooseAt{Member: member, Reason: finding.VersionDiffers,
+			loose.At = append(loose.At, finding.LooseAt{Member: member, Reason: finding.VersionDiffers,
 				IsOlder: name.Own.Version.IsAtMost(winner.Version)})
 		}
 	}
 	for member, name := range row.At {
 		if name != nil && n.seesNotBelow(member, name, winner) {
-			made.At = append(made.At, finding.LooseAt{Member: member, Reason: finding.ViewNotBelow})
+			loose.At = append(loose.At, finding.LooseAt{Member: member, Reason: finding.ViewNotBelow})
 		}
 	}
-	if len(made.At) > 0 {
-		n.found.Loose.Add(made)
+	if len(loose.At) > 0 {
+		n.found.Loose.Add(loose)
 	}
 }
 

@@ -14,16 +14,16 @@ const whyRot = "other bytes on the disk than its own index records; size and tim
 // addOwnFaults adds what is wrong at each device by itself of a name that isn't audited. It may be another device that says that it changes or
 // can't be read, and what a device's own disk and index say is so whatever others say.
 func (n *names) addOwnFaults(row *join.Row) {
-	made := damagedOf(row)
-	made.IsFile = false // no document has it
+	damaged := damagedOf(row)
+	damaged.IsFile = false // no document has it
 	for member, name := range row.At {
 		if name != nil && isRotten(name, n.found.Members[member].About) {
-			made.At = append(made.At, finding.DamagedAt{Member: member, Why: whyRot, IsRot: true})
+			damaged.At = append(damaged.At, finding.DamagedAt{Member: member, Why: whyRot, IsRot: true})
 		}
 	}
-	if len(made.At) > 0 {
-		sort.SliceStable(made.At, func(one, other int) bool { return made.At[one].Member < made.At[other].Member })
-		n.found.Damaged.Add(made)
+	if len(damaged.At) > 0 {
+		sort.SliceStable(damaged.At, func(one, other int) bool { return damaged.At[one].Member < damaged.At[other].Member })
+		n.found.Damaged.Add(damaged)
 		n.audited++
 	}
 }

@@ -30,13 +30,13 @@ func (n *names) addPermissions(row *join.Row) {
 // bitsOf gives the permissions of an entry that has some. It gives those on the disk, too, if what stands there is of the
 // entry's kind.
 func bitsOf(name *part.Name) finding.Bits {
-	var made finding.Bits
+	var bits finding.Bits
 	if name.Own == nil || name.Own.Permissions == nil {
-		return made
+		return bits
 	}
-	made.Has, made.Index = true, *name.Own.Permissions&0o777
+	bits.Has, bits.Index = true, *name.Own.Permissions&0o777
 	if name.Disk != nil && name.Disk.Type == name.Own.Type {
-		made.OnDisk, made.Disk = true, name.Disk.Permissions&0o777
+		bits.OnDisk, bits.Disk = true, name.Disk.Permissions&0o777
 	}
-	return made
+	return bits
 }

@@ -12,10 +12,10 @@ func unaskedOf(plan *join.Plan, device *join.Device) []finding.Unasked {
 	for _, refusal := range plan.Refusals {
 		told[refusal.Folder] = true
 	}
-	var made []finding.Unasked
+	var unasked []finding.Unasked
 	for _, other := range device.Head.Others {
 		if !told[other.ID] && len(other.Devices) > 0 && !plan.IsLeftOut(other.ID, device.Head.Device) {
-			made = append(made, finding.Unasked{ID: other.ID, Label: other.Label})
+			unasked = append(unasked, finding.Unasked{ID: other.ID, Label: other.Label})
 		}
 	}
 	for _, folder := range plan.Folders {
@@ -23,8 +23,8 @@ func unaskedOf(plan *join.Plan, device *join.Device) []finding.Unasked {
 	}
 	for _, folder := range device.Head.Folders {
 		if !told[folder.ID] {
-			made = append(made, finding.Unasked{ID: folder.ID, Label: folder.Label, InPart: true})
+			unasked = append(unasked, finding.Unasked{ID: folder.ID, Label: folder.Label, InPart: true})
 		}
 	}
-	return made
+	return unasked
 }

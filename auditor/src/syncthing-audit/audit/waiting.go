@@ -10,20 +10,20 @@ import (
 // movedOf says what changed at a member, or how its disk isn't as recorded where the name waits for a scan.
 func movedOf(row *join.Row, member int) finding.Moved {
 	name := row.At[member]
-	made := finding.Moved{Member: member, Why: name.Moved}
+	moved := finding.Moved{Member: member, Why: name.Moved}
 	if !slices.Contains(name.Moved, part.MovedUnscanned) && name.Waits == nil {
-		return made
+		return moved
 	}
-	made.Waits, made.As = finding.KindOfWaiting(name.Waits), withoutContents(name.Waits)
+	moved.Waits, moved.As = finding.KindOfWaiting(name.Waits), withoutContents(name.Waits)
 	if name.Waits == nil || name.Waits.Own == nil || name.Waits.Own.Deleted {
-		return made
+		return moved
 	}
 	for other, at := range row.At {
 		if other != member && hasRecorded(at, name.Waits.Own) {
-			made.Have = append(made.Have, other)
+			moved.Have = append(moved.Have, other)
 		}
 	}
-	return made
+	return moved
 }
 
 // withoutContents gives what is told of a name that waits.
@@ -31,10 +31,10 @@ func withoutContents(name *part.Name) *part.Name {
 	if name == nil || name.Disk == nil {
 		return name
 	}
-	made, disk := *name, *name.Disk
+	copied, disk := *name, *name.Disk
 	disk.Contents = nil
-	made.Disk = &disk
-	return &made
+	copied.Disk = &disk
+	return &copied
 }
 
 // hasRecorded says whether what a record says stands on a member's disk, and is recorded there.

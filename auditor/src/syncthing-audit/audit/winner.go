@@ -56,7 +56,7 @@ func seesOne(name *part.Name) bool {
 
 // addUnwon adds a name without a winner, with what each device has of it.
 func (n *names) addUnwon(row *join.Row) {
-	made := finding.Unwon{Name: row.Name}
+	unwon := finding.Unwon{Name: row.Name}
 	isDeleted := true
 	for member, name := range row.At {
 		if name == nil {
@@ -71,12 +71,12 @@ func (n *names) addUnwon(row *join.Row) {
 		} else if !seesOne(name) {
 			continue
 		}
-		made.At = append(made.At, finding.Cause{Member: member, Kind: kind})
+		unwon.At = append(unwon.At, finding.Cause{Member: member, Kind: kind})
 	}
 	n.found.Names++
 	if isDeleted {
 		n.found.Deleted++
 	}
-	n.found.Unwon.Add(made)
+	n.found.Unwon.Add(unwon)
 	n.keep(row)
 }

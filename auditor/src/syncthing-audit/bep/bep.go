@@ -24,11 +24,11 @@ const (
 
 // BlockSize gives the size of the blocks into which a new file of this size is cut.
 func BlockSize(size int64) int64 {
-	made := int64(MinBlockSize)
-	for made < MaxBlockSize && size >= blocksOfAFile*made {
-		made *= 2
+	length := int64(MinBlockSize)
+	for length < MaxBlockSize && size >= blocksOfAFile*length {
+		length *= 2
 	}
-	return made
+	return length
 }
 
 // IsBlockSize says whether Syncthing cuts files into blocks of this size.

@@ -34,14 +34,14 @@ func ReadID(text string) (ID, error) {
 	if err != nil {
 		return ID{}, fmt.Errorf("%q is no device id: %w", text, err)
 	}
-	var made ID
-	copy(made[:], data)
-	return made, nil
+	var id ID
+	copy(id[:], data)
+	return id, nil
 }
 
 // withoutCheckDigits gives the digits of an id without those that check it, and says which of these is wrong.
 func withoutCheckDigits(digits string) (string, error) {
-	made := ""
+	kept := ""
 	for at := 0; at < len(digits); at += digitsOfGroup + 1 {
 		group := digits[at : at+digitsOfGroup]
 		check, err := checkDigit(group)
@@ -51,9 +51,9 @@ func withoutCheckDigits(digits string) (string, error) {
 		if digits[at+digitsOfGroup] != check {
 			return "", fmt.Errorf("%q is no device id: a check digit is wrong", digits)
 		}
-		made += group
+		kept += group
 	}
-	return made, nil
+	return kept, nil
 }
 
 const base32Digits = "ABCDEFGHIJKLMNOPQRSTUVWXYZ234567"

@@ -63,7 +63,7 @@ func hashOfZeros(length int64) part.Hash {
 	if found, is := hashesOfZeros.Load(length); is {
 		return found.(part.Hash)
 	}
-	made := part.Hash(sha256.Sum256(make([]byte, length)))
-	hashesOfZeros.Store(length, made)
-	return made
+	hash := part.Hash(sha256.Sum256(make([]byte, length)))
+	hashesOfZeros.Store(length, hash)
+	return hash
 }

@@ -57,18 +57,18 @@ func (h *Home) noteAge() error {
 
 // Doubts says in words what may be amiss with the index: it may not be Syncthing's present one, by the times of its files, or is to be repaired.
 func (h *Home) Doubts() []string {
-	made := []string{}
+	doubts := []string{}
 	if h.State != nil {
-		made = append(made, fmt.Sprintf("%s was written last %s, and config.xml after that, %s. If Syncthing was started since then, it has its database "+
+		doubts = append(doubts, fmt.Sprintf("%s was written last %s, and config.xml after that, %s. If Syncthing was started since then, it has its database "+
 			"elsewhere: name that as --data DIR. If config.xml was only edited, all is well", h.database(), local(h.State.Written), local(h.State.Configured)))
 	}
 	if h.Newer != nil {
-		made = append(made, fmt.Sprintf("%s was written last %s, and %s after that, %s. %s", h.database(), local(h.Newer.Read), h.Newer.Called(),
+		doubts = append(doubts, fmt.Sprintf("%s was written last %s, and %s after that, %s. %s", h.database(), local(h.Newer.Read), h.Newer.Called(),
 			local(h.Newer.Written), h.Newer.WhatToDo()))
 	}
 	if h.ToRepair {
-		made = append(made, fmt.Sprintf("Syncthing found a fault in %s, and is to repair it at its next start (%s is there). Start it, let it finish, and "+
+		doubts = append(doubts, fmt.Sprintf("Syncthing found a fault in %s, and is to repair it at its next start (%s is there). Start it, let it finish, and "+
 			"audit again", h.database(), databaseName+endingOfMark))
 	}
-	return made
+	return doubts
 }

@@ -18,9 +18,9 @@ func attributesIn(text []byte) (map[string]bool, error) {
 	if err := xml.Unmarshal(text, &read); err != nil {
 		return nil, err
 	}
-	made := map[string]bool{}
+	folders := map[string]bool{}
 	for _, folder := range read.Folders {
-		made[folder.ID] = folder.SendOwnership || folder.SyncOwnership || folder.SendXattrs || folder.SyncXattrs
+		folders[folder.ID] = folder.SendOwnership || folder.SyncOwnership || folder.SendXattrs || folder.SyncXattrs
 	}
-	return made, nil
+	return folders, nil
 }

@@ -146,17 +146,17 @@ func readAbout(dir string, maps Maps) (*Home, error) {
 	if err != nil {
 		return nil, err
 	}
-	made := &Home{Dir: dir, ID: id}
-	if made.Config, err = readConfig(path, text, id); err == nil {
-		err = maps.apply(dir, &made.Config)
+	home := &Home{Dir: dir, ID: id}
+	if home.Config, err = readConfig(path, text, id); err == nil {
+		err = maps.apply(dir, &home.Config)
 	}
 	if err != nil {
 		return nil, err
 	}
-	if made.attributes, err = attributesIn(text); err != nil {
+	if home.attributes, err = attributesIn(text); err != nil {
 		return nil, fmt.Errorf("%s: %w", path, err)
 	}
-	return made, nil
+	return home, nil
 }
 
 // withHint says beside why a home can't be read what that may come from.
@@ -206,24 +206,24 @@ func (h *Home) Name() string { return h.nameOf(h.ID) }
 
 // Sharing gives the other devices that a folder is shared with, by the device's own configuration.
 func (h *Home) Sharing(folder config.FolderConfiguration) []part.Sharing {
-	made := []part.Sharing{}
+	sharing := []part.Sharing{}
 	for _, other := range folder.Devices {
 		if other.DeviceID != h.ID {
-			made = append(made, part.Sharing{Device: other.DeviceID.String(), Name: h.nameOf(other.DeviceID), Encrypted: other.EncryptionPassword != ""})
+			sharing = append(sharing, part.Sharing{Device: other.DeviceID.String(), Name: h.nameOf(other.DeviceID), Encrypted: other.EncryptionPassword != ""})
 		}
 	}
-	return made
+	return sharing
 }
 
 // pausedOf gives the devices with which a folder is shared, and which are paused here.
 func (h *Home) pausedOf(folder config.FolderConfiguration) []string {
-	var made []string
+	var devices []string
 	for _, device := range h.Config.Devices {
 		if device.Paused && device.DeviceID != h.ID && folder.SharedWith(device.DeviceID) {
-			made = append(made, device.DeviceID.String())
+			devices = append(devices, device.DeviceID.String())
 		}
 	}
-	return made
+	return devices
 }
 
 // nameOf gives the name that this device has for another. It may be another device's word, so one that is too long is cut.

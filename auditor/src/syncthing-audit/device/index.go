@@ -27,7 +27,7 @@ type Index struct {
 }
 
 // Index opens a folder's index. What Syncthing's packages panic with is the error.
-func (h *Home) Index(folder config.FolderConfiguration) (made *Index, err error) {
+func (h *Home) Index(folder config.FolderConfiguration) (index *Index, err error) {
 	defer recovered(folder.ID, &err)
 	folder.CaseSensitiveFS = true // names come from the directory itself
 	if err := CheckPath(folder); err != nil {
@@ -139,7 +139,7 @@ func (i *Index) names() int64 {
 
 // Folder gives what a part's head says of the folder. A view that was never filled isn't told.
 func (i *Index) Folder() part.Folder {
-	made := part.Folder{ID: i.Config.ID, Label: limits.Cut(i.Config.Label), Kind: kindOf(i.Config.Type), Path: adapt.Filesystem(i.Config.Filesystem, nil).URI(),
+	folder := part.Folder{ID: i.Config.ID, Label: limits.Cut(i.Config.Label), Kind: kindOf(i.Config.Type), Path: adapt.Filesystem(i.Config.Filesystem, nil).URI(),
 		Directory: i.directory, IndexID: uint64(i.files.IndexID(protocol.LocalDeviceID)), Max: i.Max(),
 		IgnoresPermissions: i.Config.IgnorePerms, TimeWindow: timeWindowOf(i.Config), ScansAttributes: i.home.attributes[i.Config.ID], Sharing: i.home.Sharing(i.Config), Views: []part.View{},
 		Paused: i.Config.Paused, PausedDevices: i.home.pausedOf(i.Config), Writers: i.home.writersOf(i.Config.ID),
@@ -150,10 +150,10 @@ func (i *Index) Folder() part.Folder {
 		}
 		view := part.View{Device: other.DeviceID.String(), IndexID: uint64(i.files.IndexID(other.DeviceID)), Max: i.snapshot.Sequence(other.DeviceID)}
 		if view.IndexID != 0 || view.Max != 0 {
-			made.Views = append(made.Views, view)
+			folder.Views = append(folder.Views, view)
 		}
 	}
-	return made
+	return folder
 }
 
 // timeWindowOf gives by how many seconds less the times of a file may differ that Syncthing takes for one.
@@ -211,11 +211,11 @@ func (i *Index) entries(of protocol.DeviceID, names choice.Names, greatest int64
 		if !names.Has(i.Config.ID, entry.Name) {
 			return !names.IsPast(entry.Name)
 		}
-		made := read(entry)
-		if made.Record != nil && (entry.Sequence < 1 || entry.Sequence > greatest) {
-			made = leftOut(entry, i.kindOfOddSequence(), fmt.Sprintf("its sequence %d isn't 1 to %d", entry.Sequence, greatest))
+		next := read(entry)
+		if next.Record != nil && (entry.Sequence < 1 || entry.Sequence > greatest) {
+			next = leftOut(entry, i.kindOfOddSequence(), fmt.Sprintf("its sequence %d isn't 1 to %d", entry.Sequence, greatest))
 		}
-		return take(made)
+		return take(next)
 	})
 	return nil
 }

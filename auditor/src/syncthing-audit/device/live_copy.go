@@ -41,16 +41,16 @@ type liveCopy struct {
 // copyLive copies an index, as it was at one moment after the call. Nothing of the index is changed, and no lock is taken.
 // Accept says why a copy isn't one to be taken: with errAgain another one is made.
 func copyLive(from, to string, accept func(copied string) error) (Copied, error) {
-	made := &liveCopy{from: from, to: to, tables: map[int64]bool{}}
+	copied := &liveCopy{from: from, to: to, tables: map[int64]bool{}}
 	pause := firstPause
 	for {
-		made.copied.Rounds++
-		err := made.round()
+		copied.copied.Rounds++
+		err := copied.round()
 		if err == nil {
 			err = accept(to)
 		}
-		if err == nil || !errors.Is(err, errAgain) || made.copied.Rounds == mostRounds {
-			return made.copied, err
+		if err == nil || !errors.Is(err, errAgain) || copied.copied.Rounds == mostRounds {
+			return copied.copied, err
 		}
 		time.Sleep(pause)
 		if pause *= 2; pause > mostPause {
@@ -150,10 +150,10 @@ func (c *liveCopy) logs(first int64) (map[int64][]byte, error) {
 	if err != nil {
 		return nil, err
 	}
-	made := map[int64][]byte{}
+	contents := map[int64][]byte{}
 	for place, number := range numbers {
 		path := filepath.Join(c.from, fmt.Sprintf("%06d.log", number))
-		if made[number], err = readRecords(path); err != nil {
+		if contents[number], err = readRecords(path); err != nil {
 			return nil, err
 		}
 		hasRead(path)
@@ -162,7 +162,7 @@ func (c *liveCopy) logs(first int64) (map[int64][]byte, error) {
 		}
 		if about, err := os.Stat(path); err != nil {
 			return nil, again(err)
-		} else if about.Size() != int64(len(made[number])) {
+		} else if about.Size() != int64(len(contents[number])) {
 			return nil, fmt.Errorf("%w: %06d.log, behind which another one stands, ends in the middle", errAgain, number)
 		}
 	}
@@ -173,7 +173,7 @@ func (c *liveCopy) logs(first int64) (map[int64][]byte, error) {
 	if len(after) < len(numbers) || !slices.Equal(after[:len(numbers)], numbers) {
 		return nil, fmt.Errorf("%w: a log came between others", errAgain)
 	}
-	return made, nil
+	return contents, nil
 }
 
 // clear takes away what an earlier round copied, but for tables that are wanted still.

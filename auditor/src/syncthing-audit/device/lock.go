@@ -112,13 +112,13 @@ func copyFile(from, to string) error {
 		return err
 	}
 	defer source.Close()
-	made, err := os.OpenFile(to, os.O_WRONLY|os.O_CREATE|os.O_EXCL, 0o600)
+	file, err := os.OpenFile(to, os.O_WRONLY|os.O_CREATE|os.O_EXCL, 0o600)
 	if err != nil {
 		return err
 	}
-	if _, err := io.Copy(made, source); err != nil {
-		made.Close()
+	if _, err := io.Copy(file, source); err != nil {
+		file.Close()
 		return err
 	}
-	return made.Close()
+	return file.Close()
 }

@@ -34,15 +34,15 @@ func readManifest(database string) (*manifest, error) {
 
 // readEntries reads the entries of a manifest.
 func readEntries(file io.Reader) (*manifest, error) {
-	made := &manifest{tables: map[int64]int64{}}
+	read := &manifest{tables: map[int64]int64{}}
 	entries := journal.NewReader(file, nil, true, true)
 	for {
 		entry, err := entries.Next()
 		if err == io.EOF {
-			return made, nil
+			return read, nil
 		}
 		if err == nil {
-			err = made.read(bufio.NewReader(entry))
+			err = read.read(bufio.NewReader(entry))
 		}
 		if err != nil {
 			return nil, fmt.Errorf("its manifest ends in the middle: %w", err)

@@ -43,28 +43,28 @@ func (h *Home) noteNewer() error {
 // placesOfIndexes gives the directories where an index of this device may be: its home, and those that Syncthing takes by itself, but for those
 // of another device. A directory without a certificate is of another one where such a home is beside it.
 func (h *Home) placesOfIndexes() []string {
-	made, bare, isOfAnother := []string{h.Dir}, []string{}, false
+	places, bare, isOfAnother := []string{h.Dir}, []string{}, false
 	for _, dir := range placesByDefault(h.Dir) {
 		id, err := readDeviceID(filepath.Join(dir, "cert.pem"))
 		switch {
 		case err != nil:
 			bare = append(bare, dir)
 		case id == h.ID:
-			made = append(made, dir)
+			places = append(places, dir)
 		default:
 			isOfAnother = true
 		}
 	}
 	if isOfAnother {
-		return made
+		return places
 	}
-	return append(made, bare...)
+	return append(places, bare...)
 }
 
 // placesByDefault gives the directories that Syncthing takes by itself: of the user to whom a home belongs by its path, or of the one who runs
 // this. Of the latter the variables are known, too.
 func placesByDefault(home string) []string {
-	user, made := userOf(home), []string{}
+	user, places := userOf(home), []string{}
 	mine, _ := os.UserHomeDir()
 	if user == "" {
 		user = mine
@@ -72,17 +72,17 @@ func placesByDefault(home string) []string {
 	if user == mine {
 		for _, name := range []string{"XDG_CONFIG_HOME", "XDG_STATE_HOME", "XDG_DATA_HOME"} {
 			if dir := os.Getenv(name); filepath.IsAbs(dir) {
-				made = append(made, filepath.Join(dir, "syncthing"))
+				places = append(places, filepath.Join(dir, "syncthing"))
 			}
 		}
 	}
 	if user == "" {
-		return made
+		return places
 	}
 	for _, place := range usualPlaces {
-		made = append(made, filepath.Join(user, place))
+		places = append(places, filepath.Join(user, place))
 	}
-	return made
+	return places
 }
 
 // userOf gives the directory of the user whose home a directory is, where that is one that Syncthing takes by itself.

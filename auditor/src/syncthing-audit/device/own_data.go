@@ -25,14 +25,14 @@ func (h *Home) addOwnData(all *places, words map[string][]string) {
 // ownData gives what Syncthing writes for itself: its index, which changes all the time; its configuration; the keys of sessions, at a login; a log,
 // where it is asked for; and its program, at an upgrade.
 func (h *Home) ownData() []string {
-	made := []string{h.database()}
+	paths := []string{h.database()}
 	for _, name := range []string{"config.xml", "csrftokens.txt", "syncthing.log"} {
-		made = append(made, filepath.Join(h.Dir, name))
+		paths = append(paths, filepath.Join(h.Dir, name))
 	}
 	if program := h.program(); program != "" {
-		made = append(made, program)
+		paths = append(paths, program)
 	}
-	return made
+	return paths
 }
 
 // program gives the program that runs on the home's index, as far as it is seen; of a stopped device it isn't known.

@@ -38,11 +38,11 @@ func ownEntry(entry protocol.FileInfo) Entry {
 	}
 	local, _ := versionOf(entry.Version)
 	entry.Version = protocol.Vector{}
-	made := entryOf(entry)
-	if made.Record != nil && len(local) > 0 {
-		made.Record.Local = local
+	own := entryOf(entry)
+	if own.Record != nil && len(local) > 0 {
+		own.Record.Local = local
 	}
-	return made
+	return own
 }
 
 // WireEntry reads a device's entry that came over the wire.
@@ -83,25 +83,25 @@ func recordOf(entry protocol.FileInfo) (*part.Record, [][32]byte, error) {
 	if err != nil {
 		return nil, nil, err
 	}
-	made := &part.Record{Type: int(entry.Type), ModifiedS: entry.ModifiedS, ModifiedNs: int(entry.ModifiedNs), ModifiedBy: uint64(entry.ModifiedBy),
+	record := &part.Record{Type: int(entry.Type), ModifiedS: entry.ModifiedS, ModifiedNs: int(entry.ModifiedNs), ModifiedBy: uint64(entry.ModifiedBy),
 		Version: version, Sequence: entry.Sequence, Deleted: entry.Deleted, Invalid: entry.IsInvalid()}
 	if entry.Deleted {
-		return made, nil, nil
+		return record, nil, nil
 	}
 	if entry.HasPermissionBits() && !entry.IsSymlink() {
 		bits := entry.Permissions & 0o777
-		made.Permissions = &bits
+		record.Permissions = &bits
 	}
 	if entry.Type != protocol.FileInfoTypeFile {
-		made.Target = string(entry.SymlinkTarget)
-		return made, nil, checkOther(entry)
+		record.Target = string(entry.SymlinkTarget)
+		return record, nil, checkOther(entry)
 	}
 	blocks, err := blocksOf(entry)
 	if err != nil {
 		return nil, nil, err
 	}
-	made.Content = &part.Content{Size: entry.Size, BlockSize: int64(entry.BlockSize()), Hash: disk.HashOf(blocks)}
-	return made, blocks, nil
+	record.Content = &part.Content{Size: entry.Size, BlockSize: int64(entry.BlockSize()), Hash: disk.HashOf(blocks)}
+	return record, blocks, nil
 }
 
 // checkHead says what of an entry but its version and content the document doesn't have.

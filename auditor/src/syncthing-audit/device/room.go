@@ -23,11 +23,11 @@ func roomFor(database string) (string, error) {
 	if err != nil {
 		return "", notCopied(err)
 	}
-	made, err := leftover.Directory()
+	place, err := leftover.Directory()
 	if err != nil {
 		return "", notCopied(err)
 	}
-	return made, nil
+	return place, nil
 }
 
 // bytesFor gives the bytes that a copy of an index takes. On opening it LevelDB writes what its logs have into tables, before they go.

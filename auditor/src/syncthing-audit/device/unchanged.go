@@ -14,15 +14,15 @@ func listingOf(database string) (listing, error) {
 	if err != nil {
 		return nil, err
 	}
-	made := listing{}
+	listed := listing{}
 	for _, entry := range entries {
 		info, err := entry.Info()
 		if err != nil {
 			return nil, err
 		}
-		made[entry.Name()] = fmt.Sprint(info.Size(), info.ModTime())
+		listed[entry.Name()] = fmt.Sprint(info.Size(), info.ModTime())
 	}
-	return made, nil
+	return listed, nil
 }
 
 // checkUnchanged says which file of the home's index isn't as it was before it was copied: Syncthing was started since. It opens the index before it

@@ -21,20 +21,20 @@ func (h *Home) writersOf(folder string) []string {
 
 // allWriters says so of all folders, by their ids.
 func (h *Home) allWriters() map[string][]string {
-	made := newPlaces(h.Config.Folders)
+	places := newPlaces(h.Config.Folders)
 	for place, folder := range h.Config.Folders {
-		made.each(made.real[place], func(outer int) {
+		places.each(places.real[place], func(outer int) {
 			if outer != place {
-				made.note(outer, place, "folder ")
-				made.note(place, outer, "folder ")
+				places.note(outer, place, "folder ")
+				places.note(place, outer, "folder ")
 			}
 		})
 		if versions := h.versionsOf(folder); versions != "" {
-			made.each(realPath(versions), func(outer int) { made.note(outer, place, "the old versions of ") })
+			places.each(realPath(versions), func(outer int) { places.note(outer, place, "the old versions of ") })
 		}
 	}
-	words := made.words()
-	h.addOwnData(made, words)
+	words := places.words()
+	h.addOwnData(places, words)
 	return words
 }
 
@@ -48,13 +48,13 @@ type places struct {
 }
 
 func newPlaces(folders []config.FolderConfiguration) *places {
-	made := &places{folders: folders, at: map[string][]int{}, patterns: map[int]*ignore.Matcher{}}
+	p := &places{folders: folders, at: map[string][]int{}, patterns: map[int]*ignore.Matcher{}}
 	for place, folder := range folders {
 		real := realPath(adapt.Filesystem(folder.Filesystem, nil).URI())
-		made.real, made.at[real] = append(made.real, real), append(made.at[real], place)
-		made.notes = append(made.notes, map[int]map[string]bool{})
+		p.real, p.at[real] = append(p.real, real), append(p.at[real], place)
+		p.notes = append(p.notes, map[int]map[string]bool{})
 	}
-	return made
+	return p
 }
 
 // each calls of each folder that has what is at a path, or below it.
@@ -100,7 +100,7 @@ func (p *places) note(into, of int, what string) {
 
 // words gives what writes into each folder's directory, in the order of the folders.
 func (p *places) words() map[string][]string {
-	made := map[string][]string{}
+	words := map[string][]string{}
 	for into, notes := range p.notes {
 		order := []int{}
 		for of := range notes {
@@ -110,12 +110,12 @@ func (p *places) words() map[string][]string {
 		for _, of := range order {
 			for _, what := range []string{"folder ", "the old versions of "} {
 				if notes[of][what] {
-					made[p.folders[into].ID] = append(made[p.folders[into].ID], what+shell.Folder(p.folders[of].ID, p.folders[of].Label))
+					words[p.folders[into].ID] = append(words[p.folders[into].ID], what+shell.Folder(p.folders[of].ID, p.folders[of].Label))
 				}
 			}
 		}
 	}
-	return made
+	return words
 }
 
 // versionsOf gives where a folder's old versions are kept and cleaned, where it isn't their usual place; nothing where that isn't so. A

@@ -18,12 +18,12 @@ func Open(path string) (*Plain, error) {
 	if err != nil {
 		return nil, err
 	}
-	made := &Plain{rootOf(whole), insideOf(rootOf(whole))}
-	about, err := os.Stat(made.root)
+	plain := &Plain{rootOf(whole), insideOf(rootOf(whole))}
+	about, err := os.Stat(plain.root)
 	if err == nil && !about.IsDir() {
 		err = &os.PathError{Op: "open", Path: path, Err: errNoDirectory}
 	}
-	return made, err
+	return plain, err
 }
 
 // URI gives the directory's path.

@@ -44,17 +44,17 @@ func Compare(recorded, found [][32]byte) *part.Differ {
 	if len(found) > most {
 		most = len(found)
 	}
-	var made *part.Differ
+	var differ *part.Differ
 	for place := 0; place < most; place++ {
 		if place < len(recorded) && place < len(found) && recorded[place] == found[place] {
 			continue
 		}
-		if made == nil {
-			made = &part.Differ{First: pairAt(recorded, found, place)}
+		if differ == nil {
+			differ = &part.Differ{First: pairAt(recorded, found, place)}
 		}
-		addRange(made, int64(place), int64(place))
+		addRange(differ, int64(place), int64(place))
 	}
-	return made
+	return differ
 }
 
 // addRange adds blocks, from the first to the last one, to those that differ.
@@ -71,14 +71,14 @@ func addRange(to *part.Differ, first, last int64) {
 
 // pairAt gives the hashes of a block that differs.
 func pairAt(recorded, found [][32]byte, place int) part.Pair {
-	var made part.Pair
+	var pair part.Pair
 	if place < len(recorded) {
 		hash := part.Hash(recorded[place])
-		made.Recorded = &hash
+		pair.Recorded = &hash
 	}
 	if place < len(found) {
 		hash := part.Hash(found[place])
-		made.Found = &hash
+		pair.Found = &hash
 	}
-	return made
+	return pair
 }

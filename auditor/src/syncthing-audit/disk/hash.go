@@ -51,17 +51,17 @@ type Pool struct {
 
 // NewPool starts a pool in which so many hash at once. Twice as many read, so that there is always something to hash.
 func NewPool(hashers int) *Pool {
-	made := &Pool{tasks: make(chan func(), hashers), hashing: make(chan struct{}, hashers)}
+	pool := &Pool{tasks: make(chan func(), hashers), hashing: make(chan struct{}, hashers)}
 	for next := 0; next < 2*hashers; next++ {
-		made.workers.Add(1)
+		pool.workers.Add(1)
 		go func() {
-			defer made.workers.Done()
-			for task := range made.tasks {
+			defer pool.workers.Done()
+			for task := range pool.tasks {
 				task()
 			}
 		}()
 	}
-	return made
+	return pool
 }
 
 // Close ends the workers once all is hashed that was begun.
@@ -114,16 +114,16 @@ type piece struct {
 
 // pieceAt gives a piece room for its hashes once it is begun. So a file that is said to be very long takes room for what is read of it alone.
 func (j *Job) pieceAt(offset int64) piece {
-	made := piece{offset: offset, length: j.file.Length() - offset}
-	if made.length > pieceBytes {
-		made.length = pieceBytes
+	next := piece{offset: offset, length: j.file.Length() - offset}
+	if next.length > pieceBytes {
+		next.length = pieceBytes
 	}
 	for place, size := range j.file.BlockSizes {
-		room := make([][32]byte, part.CountOfBlocks(made.length, size))
-		made.hashes = append(made.hashes, room)
+		room := make([][32]byte, part.CountOfBlocks(next.length, size))
+		next.hashes = append(next.hashes, room)
 		j.hashes[place] = append(j.hashes[place], room)
 	}
-	return made
+	return next
 }
 
 // hashesOf gives the hashes of all blocks of a size.
@@ -131,11 +131,11 @@ func (j *Job) hashesOf(place int) [][32]byte {
 	if len(j.hashes[place]) == 1 {
 		return j.hashes[place][0]
 	}
-	made := [][32]byte{}
+	hashes := [][32]byte{}
 	for _, hash := range j.hashes[place] {
-		made = append(made, hash...)
+		hashes = append(hashes, hash...)
 	}
-	return made
+	return hashes
 }
 
 func (j *Job) fail(err error) {
@@ -299,7 +299,7 @@ func HashOf(hashes [][32]byte) part.Hash {
 	for place := range hashes {
 		sum.Write(hashes[place][:])
 	}
-	var made part.Hash
-	sum.Sum(made[:0])
-	return made
+	var hash part.Hash
+	sum.Sum(hash[:0])
+	return hash
 }

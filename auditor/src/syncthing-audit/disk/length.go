@@ -23,20 +23,20 @@ func (f *File) isCut() bool { return f.Length() < f.Node.Size }
 
 // cutContents gives contents that no other file has, for one that isn't hashed to its end: nobody knows which files have its bytes.
 func (f *File) cutContents() []part.Content {
-	made := []part.Content{}
+	contents := []part.Content{}
 	for _, size := range f.BlockSizes {
-		made = append(made, part.Content{Size: f.Node.Size, BlockSize: size, Hash: sha256.Sum256([]byte("not read to its end\x00" + f.Stamp + "\x00" + f.path()))})
+		contents = append(contents, part.Content{Size: f.Node.Size, BlockSize: size, Hash: sha256.Sum256([]byte("not read to its end\x00" + f.Stamp + "\x00" + f.path()))})
 	}
-	return made
+	return contents
 }
 
 // CompareBegin compares the begin of a file that isn't hashed to its end, and that has so many blocks: all behind the begin differ, since the record
 // has none there.
 func CompareBegin(recorded, found [][32]byte, blocks int64) *part.Differ {
-	made := Compare(recorded, found)
-	if made == nil {
-		made = &part.Differ{} // nobody has a hash of the first block that differs
+	differ := Compare(recorded, found)
+	if differ == nil {
+		differ = &part.Differ{} // nobody has a hash of the first block that differs
 	}
-	addRange(made, int64(len(found)), blocks-1)
-	return made
+	addRange(differ, int64(len(found)), blocks-1)
+	return differ
 }

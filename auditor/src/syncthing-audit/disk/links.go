@@ -33,11 +33,11 @@ func (l links) add(about os.FileInfo) {
 
 // elsewhere counts the names of files that have links which weren't met.
 func (l links) elsewhere() part.Count {
-	made := part.Count{}
+	count := part.Count{}
 	for _, link := range l {
 		if link.links > link.met {
-			made.Add(link.met, link.met*link.bytes)
+			count.Add(link.met, link.met*link.bytes)
 		}
 	}
-	return made
+	return count
 }

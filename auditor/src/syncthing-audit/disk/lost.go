@@ -33,18 +33,18 @@ func why(err error) string {
 // bytesOfNobody gives so many bytes, whose first block no record of the name has. Of 256 blocks with another first byte one is
 // none of theirs.
 func bytesOfNobody(line *part.Name, size, blockSize int64) []byte {
-	made := bytes.Repeat([]byte("lost\n"), int(size/5)+1)[:size]
-	first := made
+	data := bytes.Repeat([]byte("lost\n"), int(size/5)+1)[:size]
+	first := data
 	if size > blockSize {
-		first = made[:blockSize]
+		first = data[:blockSize]
 	}
 	for next := 0; next < 256; next++ {
-		made[0] = byte(next)
+		data[0] = byte(next)
 		if !isRecorded(line, sha256.Sum256(first)) {
 			break
 		}
 	}
-	return made
+	return data
 }
 
 // isRecorded says whether a record of a name has a first block with this hash.

@@ -57,9 +57,9 @@ type Queue struct {
 
 // NewQueue gives an empty one.
 func NewQueue() *Queue {
-	made := &Queue{}
-	made.changed = sync.NewCond(&made.mutex)
-	return made
+	queue := &Queue{}
+	queue.changed = sync.NewCond(&queue.mutex)
+	return queue
 }
 
 // Reserve waits until there is room for so much, and says whether it is wanted still.

@@ -115,10 +115,10 @@ func bytesOf(info directory.Info) int64 {
 
 // found reads a node, and says why a document has none such.
 func (w *Walker) found(name string, info directory.Info) Found {
-	made := Found{Name: name}
+	found := Found{Name: name}
 	out := func(kind, why string) Found {
-		made.Out = &part.LeftOut{Kind: kind, Why: why, Bytes: info.Size()}
-		return made
+		found.Out = &part.LeftOut{Kind: kind, Why: why, Bytes: info.Size()}
+		return found
 	}
 	if err := limits.CheckName(name); err != nil {
 		return out(part.OddName, err.Error())
@@ -151,13 +151,13 @@ func (w *Walker) found(name string, info directory.Info) Found {
 		if IsDamage(err) {
 			return Found{Name: name, Out: outOf("it", err)}
 		}
-		made.Stamp = stamp
+		found.Stamp = stamp
 	}
 	if w.Stamps {
-		node.Stamp = made.Stamp
+		node.Stamp = found.Stamp
 	}
-	made.Node = node
-	return made
+	found.Node = node
+	return found
 }
 
 // StampOf gives the stamp of what stands under a name. Where the disk fails to give it, that is another one each time: nobody knows that nothing changed.

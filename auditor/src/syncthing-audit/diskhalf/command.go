@@ -34,21 +34,21 @@ func (u *Usage) Error() string { return u.Reason }
 
 // ReadCommand reads the words of a command line. More adds flags that only some program has.
 func ReadCommand(words []string, more func(*flag.FlagSet, *Command)) (*Command, error) {
-	made := &Command{Asked: Asked{Marker: ".stfolder"}}
+	command := &Command{Asked: Asked{Marker: ".stfolder"}}
 	flags := flag.NewFlagSet("disk", flag.ContinueOnError)
 	flags.SetOutput(io.Discard)
 	flags.Usage = func() {}
-	flags.Var((*after)(&made.Asked), "after", "")
-	flags.Var((*blockSizes)(&made.BlockSizes), "block-size", "")
-	flags.StringVar(&made.Names.Prefix, "names", "", "")
-	flags.Var(choice.SliceFlag{Names: &made.Names}, "slice", "")
-	flags.StringVar(&made.Marker, "marker", made.Marker, "")
-	flags.BoolVar(&made.Paths, "paths", false, "")
-	flags.StringVar(&made.Config, "config", "", "")
-	flags.StringVar(&made.Output, "o", "", "")
-	flags.IntVar(&made.Jobs, "jobs", runtime.NumCPU(), "")
+	flags.Var((*after)(&command.Asked), "after", "")
+	flags.Var((*blockSizes)(&command.BlockSizes), "block-size", "")
+	flags.StringVar(&command.Names.Prefix, "names", "", "")
+	flags.Var(choice.SliceFlag{Names: &command.Names}, "slice", "")
+	flags.StringVar(&command.Marker, "marker", command.Marker, "")
+	flags.BoolVar(&command.Paths, "paths", false, "")
+	flags.StringVar(&command.Config, "config", "", "")
+	flags.StringVar(&command.Output, "o", "", "")
+	flags.IntVar(&command.Jobs, "jobs", runtime.NumCPU(), "")
 	if more != nil {
-		more(flags, made)
+		more(flags, command)
 	}
 	for {
 		if err := flags.Parse(words); err != nil {
@@ -57,12 +57,12 @@ func ReadCommand(words []string, more func(*flag.FlagSet, *Command)) (*Command, 
 		if flags.NArg() == 0 {
 			break
 		}
-		if err := made.addFolder(flags.Arg(0)); err != nil {
+		if err := command.addFolder(flags.Arg(0)); err != nil {
 			return nil, err
 		}
 		words = flags.Args()[1:]
 	}
-	return made, made.check()
+	return command, command.check()
 }
 
 // addFolder adds a folder that is given as ID=DIR.

@@ -60,11 +60,11 @@ func readConfiguration(path string) (*configuration, error) {
 	if err != nil {
 		return nil, err
 	}
-	made := &configuration{path: path}
-	if err := xml.Unmarshal(text, made); err != nil {
+	read := &configuration{path: path}
+	if err := xml.Unmarshal(text, read); err != nil {
 		return nil, fmt.Errorf("%s is no config.xml of Syncthing: %w", shell.Quoted(path), err)
 	}
-	return made, nil
+	return read, nil
 }
 
 // tell has a part say what is configured of a folder. Another directory than that which is walked isn't the folder's.
@@ -179,15 +179,15 @@ func (c *configuration) client() (*http.Client, error) {
 
 // dial connects with Syncthing. Without TLS the far end isn't another user's.
 func (c *configuration) dial(address string) (net.Conn, error) {
-	made, err := net.DialTimeout("tcp", address, timeToBeIdle)
+	conn, err := net.DialTimeout("tcp", address, timeToBeIdle)
 	if err != nil || c.GUI.TLS {
-		return made, err
+		return conn, err
 	}
-	if err := checkListener(made, c.path); err != nil {
-		made.Close()
+	if err := checkListener(conn, c.path); err != nil {
+		conn.Close()
 		return nil, err
 	}
-	return made, nil
+	return conn, nil
 }
 
 // pinned is a certificate that the far end has to have.

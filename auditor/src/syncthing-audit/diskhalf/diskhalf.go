@@ -65,27 +65,27 @@ type folder struct {
 
 // Write writes a part. Each name is looked at twice: before any file is hashed, and once its own file is. What changed between is told as moved.
 func Write(to io.Writer, asked Asked, pool *disk.Pool) (*Told, error) {
-	made := &maker{asked: asked, pool: pool}
+	m := &maker{asked: asked, pool: pool}
 	if asked.Config != "" {
 		var err error
-		if made.config, err = readConfiguration(asked.Config); err != nil {
+		if m.config, err = readConfiguration(asked.Config); err != nil {
 			return nil, fmt.Errorf("refused: %w", err)
 		}
 	}
-	sort.Slice(made.asked.Folders, func(a, b int) bool { return made.asked.Folders[a].ID < made.asked.Folders[b].ID })
-	for _, folder := range made.asked.Folders {
-		opened, err := made.open(folder)
+	sort.Slice(m.asked.Folders, func(a, b int) bool { return m.asked.Folders[a].ID < m.asked.Folders[b].ID })
+	for _, folder := range m.asked.Folders {
+		opened, err := m.open(folder)
 		if err != nil {
 			return nil, fmt.Errorf("refused: folder %s: %w", shell.Quoted(folder.ID), err)
 		}
-		made.folders = append(made.folders, opened)
+		m.folders = append(m.folders, opened)
 	}
-	glanced, drop, err := made.glance()
+	glanced, drop, err := m.glance()
 	defer drop()
 	if err != nil {
 		return nil, err
 	}
-	head, err := made.head()
+	head, err := m.head()
 	if err != nil {
 		return nil, err
 	}
@@ -93,10 +93,10 @@ func Write(to io.Writer, asked Asked, pool *disk.Pool) (*Told, error) {
 	if err != nil {
 		return nil, err
 	}
-	if err := made.write(glanced.Compare(made.count(writer.Take))); err != nil {
+	if err := m.write(glanced.Compare(m.count(writer.Take))); err != nil {
 		return nil, err
 	}
-	return &made.told, writer.Close()
+	return &m.told, writer.Close()
 }
 
 // open opens a folder, and reads its .stignore. Where its disk isn't mounted, say, all of its names would be missing.
@@ -111,27 +111,27 @@ func (m *maker) open(asked Folder) (*folder, error) {
 	} else if err != nil {
 		return nil, err
 	}
-	made := &folder{Folder: asked, files: files}
+	opened := &folder{Folder: asked, files: files}
 	place, err := directory.Place(asked.Directory)
 	if err != nil {
 		return nil, err
 	}
-	made.about = part.Folder{ID: asked.ID, Directory: place, Sharing: []part.Sharing{}, Views: []part.View{},
+	opened.about = part.Folder{ID: asked.ID, Directory: place, Sharing: []part.Sharing{}, Views: []part.View{},
 		Ignores: &part.Ignores{Lines: []string{}, FoldCase: stignore.FoldsCase(runtime.GOOS)}}
 	if m.asked.Paths {
-		made.about.Path = files.URI()
+		opened.about.Path = files.URI()
 	}
 	if m.config != nil {
-		if err := m.config.tell(&made.about); err != nil {
+		if err := m.config.tell(&opened.about); err != nil {
 			return nil, err
 		}
 	}
-	made.readPatterns()
-	if made.patterns == nil {
-		m.told.Unknown = append(m.told.Unknown, "folder "+asked.ID+": "+made.about.Ignores.Unknown)
-		made.patterns = &stignore.Patterns{}
+	opened.readPatterns()
+	if opened.patterns == nil {
+		m.told.Unknown = append(m.told.Unknown, "folder "+asked.ID+": "+opened.about.Ignores.Unknown)
+		opened.patterns = &stignore.Patterns{}
 	}
-	return made, nil
+	return opened, nil
 }
 
 // readPatterns reads the folder's .stignore; or says why it isn't known what it means.
@@ -155,9 +155,9 @@ func (m *maker) walker(folder *folder) *disk.Walker {
 
 // glance walks all folders for the first time. What it gives back in the second place takes away what it kept.
 func (m *maker) glance() (*glance.Glance, func(), error) {
-	made, paths := &glance.Glance{}, []string{}
+	taken, paths := &glance.Glance{}, []string{}
 	drop := func() {
-		made.Close()
+		taken.Close()
 		for _, path := range paths {
 			os.Remove(path)
 		}
@@ -165,14 +165,14 @@ func (m *maker) glance() (*glance.Glance, func(), error) {
 	for _, folder := range m.folders {
 		file, err := os.CreateTemp("", "syncthing-audit-disk-")
 		if err != nil {
-			return made, drop, err
+			return taken, drop, err
 		}
-		made.Folders, paths = append(made.Folders, file), append(paths, file.Name())
+		taken.Folders, paths = append(taken.Folders, file), append(paths, file.Name())
 		if err := m.glanceAt(folder, file); err != nil {
-			return made, drop, fmt.Errorf("folder %s: %w", shell.Quoted(folder.ID), err)
+			return taken, drop, fmt.Errorf("folder %s: %w", shell.Quoted(folder.ID), err)
 		}
 	}
-	return made, drop, nil
+	return taken, drop, nil
 }
 
 // glanceAt walks a folder for the first time.
@@ -210,16 +210,16 @@ func (m *maker) head() (*part.Head, error) {
 	if _, err := rand.Read(id); err != nil {
 		return nil, err
 	}
-	made := &part.Head{Device: m.asked.Device, Made: time.Now().UTC().Truncate(time.Second), Names: m.asked.Names,
+	head := &part.Head{Device: m.asked.Device, Made: time.Now().UTC().Truncate(time.Second), Names: m.asked.Names,
 		Half: part.NewHalf(hex.EncodeToString(id), m.asked.After, runtime.GOOS, m.asked.BlockSizes)}
 	for _, folder := range m.folders {
 		if m.config != nil {
 			folder.about.Rest = m.config.rest(folder.ID)
 		}
-		made.Folders = append(made.Folders, folder.about)
+		head.Folders = append(head.Folders, folder.about)
 	}
-	made.Version = made.DueVersion()
-	return made, nil
+	head.Version = head.DueVersion()
+	return head, nil
 }
 
 // count counts what is written.
@@ -247,10 +247,10 @@ func withoutStamp(name *part.Name) *part.Name {
 	if name.Disk == nil || name.Disk.Stamp == "" {
 		return name
 	}
-	made, node := *name, *name.Disk
+	copied, node := *name, *name.Disk
 	node.Stamp = ""
-	made.Disk = &node
-	return &made
+	copied.Disk = &node
+	return &copied
 }
 
 // hiddenName is a name that a part tells by a hash.

@@ -118,13 +118,13 @@ func (w *walking) take(found disk.Found) error {
 // blockSizes gives into which blocks a file is cut: those for its size, and those that were asked for. A file of one block is the same in all of them.
 func (w *walking) blockSizes(size int64) []int64 {
 	usual := bep.BlockSize(size)
-	made := []int64{usual}
+	sizes := []int64{usual}
 	for _, other := range w.asked.BlockSizes {
-		if !slices.Contains(made, other) && (size > usual || size > other) {
-			made = append(made, other)
+		if !slices.Contains(sizes, other) && (size > usual || size > other) {
+			sizes = append(sizes, other)
 		}
 	}
-	return made
+	return sizes
 }
 
 // hide keeps back a name that .stignore ignores until all others are told. Of a name of which nothing can be told it keeps nothing but that.

@@ -11,8 +11,8 @@ import (
 
 // checkListener says why whoever listens at the far end of a connection isn't seen to be the Syncthing of a config.xml: another user's program, where that
 // Syncthing doesn't run, would get its API key. Root may listen for a container's.
-func checkListener(made net.Conn, config string) error {
-	at, is := made.RemoteAddr().(*net.TCPAddr)
+func checkListener(conn net.Conn, config string) error {
+	at, is := conn.RemoteAddr().(*net.TCPAddr)
 	about, err := os.Stat(config)
 	if err != nil || !is {
 		return fmt.Errorf("it isn't seen whose page it is: %v", err)

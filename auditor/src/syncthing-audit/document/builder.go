@@ -64,19 +64,19 @@ type viewed struct {
 
 // NewBuilder begins to fill documents of a folder of at most so many bytes.
 func NewBuilder(folder *join.Folder, withBytes bool, most int) *Builder {
-	made := &Builder{folder: folder, writer: writer{withBytes: withBytes}, room: most - bytesOfEnds}
+	builder := &Builder{folder: folder, writer: writer{withBytes: withBytes}, room: most - bytesOfEnds}
 	for _, from := range folder.Members {
 		next := &member{Member: from, views: make([]viewed, len(from.About.Views))}
-		made.room -= bytesOfMember
+		builder.room -= bytesOfMember
 		for place, of := range from.About.Views {
-			made.room -= bytesOfView
+			builder.room -= bytesOfView
 			if folder.Member(of.Device) >= 0 {
 				next.views[place] = viewed{about: of, number: part.Number(of.Device)}
 			}
 		}
-		made.members = append(made.members, next)
+		builder.members = append(builder.members, next)
 	}
-	return made
+	return builder
 }
 
 // items are a row as JSON, in the places where it goes.
@@ -87,7 +87,7 @@ type items struct {
 
 // Add adds a row. It gives the document before it, if that was full; or why no document has the row.
 func (b *Builder) Add(row *join.Row) (*Document, *part.LeftOut) {
-	made, size := b.encode(row)
+	split, size := b.encode(row)
 	if size > b.room {
 		return nil, &part.LeftOut{Kind: part.Large, Why: "what all devices hold of it is more than a document has room for"}
 	}
@@ -99,7 +99,7 @@ func (b *Builder) Add(row *join.Row) (*Document, *part.LeftOut) {
 		full = b.Take()
 		b.takeSequences(row)
 	}
-	for at, one := range made {
+	for at, one := range split {
 		to := b.members[at]
 		if one.own != nil {
 			to.own.add(one.own)
@@ -121,7 +121,7 @@ func (b *Builder) Add(row *join.Row) (*Document, *part.LeftOut) {
 // encode gives a row as JSON for each member, and a bound for its length in a certified document. Bytes stand as
 // hexadecimal digits there.
 func (b *Builder) encode(row *join.Row) ([]items, int) {
-	made := make([]items, len(row.At))
+	encoded := make([]items, len(row.At))
 	size, greatest := 0, 0
 	b.writer.begin(row.Name)
 	for at, name := range row.At {
@@ -129,8 +129,8 @@ func (b *Builder) encode(row *join.Row) ([]items, int) {
 			continue
 		}
 		if name.Own != nil {
-			made[at].own = b.writer.record(name.Own)
-			length := len(made[at].own) + bytesOfDefaults
+			encoded[at].own = b.writer.record(name.Own)
+			length := len(encoded[at].own) + bytesOfDefaults
 			size += length
 			if length > greatest {
 				greatest = length
@@ -138,12 +138,12 @@ func (b *Builder) encode(row *join.Row) ([]items, int) {
 		}
 		if name.Disk != nil {
 			store, text := b.writer.node(row.At, at)
-			made[at].store = store
+			encoded[at].store = store
 			size += len(store) + bytesOfDefaults + 2*text
 		}
-		size += b.encodeViews(&made[at], at, name.Views)
+		size += b.encodeViews(&encoded[at], at, name.Views)
 	}
-	return made, size + greatest + bytesOfRow
+	return encoded, size + greatest + bytesOfRow
 }
 
 // encodeViews gives the records of a member's views, with a bound for what they take.
@@ -182,9 +182,9 @@ func (b *Builder) takeSequences(row *join.Row) *part.LeftOut {
 
 // Take gives the document as it is, and begins another.
 func (b *Builder) Take() *Document {
-	made := &Document{Folder: b.folder.ID, Own: b.folder.Own, Rows: b.rows, Written: b.write()}
+	document := &Document{Folder: b.folder.ID, Own: b.folder.Own, Rows: b.rows, Written: b.write()}
 	if len(b.rows) > 0 {
-		made.First, made.Last = b.rows[0].Name, b.rows[len(b.rows)-1].Name
+		document.First, document.Last = b.rows[0].Name, b.rows[len(b.rows)-1].Name
 	}
 	for _, member := range b.members {
 		member.own.reset()
@@ -194,7 +194,7 @@ func (b *Builder) Take() *Document {
 		}
 	}
 	b.rows, b.used = nil, 0
-	return made
+	return document
 }
 
 // write gives the document's one line.

@@ -62,9 +62,9 @@ func (w *writer) flag(member string, is bool) {
 
 // take gives what was written, and begins anew.
 func (w *writer) take() []byte {
-	made := append([]byte(nil), w.written...)
+	text := append([]byte(nil), w.written...)
 	w.written = w.written[:0]
-	return made
+	return text
 }
 
 // record gives an entry of an index. A file's block size is the one of the length that the document has.

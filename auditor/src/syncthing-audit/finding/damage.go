@@ -48,7 +48,7 @@ func (d *damages) peek() *Damaged {
 // take gives the next failure.
 func (d *damages) take() *Failure {
 	next := d.peek()
-	made := &Failure{Reason: storeDiffers, Name: string(next.Name), Device: d.folder.Members[next.At[d.at].Member].Number}
+	failure := &Failure{Reason: storeDiffers, Name: string(next.Name), Device: d.folder.Members[next.At[d.at].Member].Number}
 	d.at++
-	return made
+	return failure
 }

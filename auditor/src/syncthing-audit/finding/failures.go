@@ -62,14 +62,14 @@ type byName struct {
 
 // failuresOf goes through the failures of the reason in this place.
 func (f *Folder) failuresOf(place int) *byName {
-	made := &byName{reason: Reasons[place], failed: f.Failures.byReason[place].Read()}
-	if made.reason == notWinner {
-		made.unwon = f.Unwon.Read()
+	sorted := &byName{reason: Reasons[place], failed: f.Failures.byReason[place].Read()}
+	if sorted.reason == notWinner {
+		sorted.unwon = f.Unwon.Read()
 	}
-	if made.reason == storeDiffers {
-		made.damage = f.failuresOfDamage()
+	if sorted.reason == storeDiffers {
+		sorted.damage = f.failuresOfDamage()
 	}
-	return made
+	return sorted
 }
 
 const notWinner = "NotWinner"
@@ -141,26 +141,26 @@ func (n *names) least() (string, bool) {
 
 // take takes all that is told of a name.
 func (n *names) take(name string) *Told {
-	made := &Told{Name: name}
+	told := &Told{Name: name}
 	for place, cursor := range n.failures {
 		for next := cursor.Peek(); next != nil && next.Name == name; next = cursor.Peek() {
-			made.Failures = append(made.Failures, Failure{Reasons[place], next.Name, next.Device})
+			told.Failures = append(told.Failures, Failure{Reasons[place], next.Name, next.Device})
 			cursor.Take()
 		}
 	}
 	if next := n.unwon.Peek(); next != nil && next.Name == name {
-		made.Unwon = next
+		told.Unwon = next
 		n.unwon.Take()
 	}
 	if next := n.permissions.Peek(); next != nil && next.Name == name {
-		made.Permissions = next
+		told.Permissions = next
 		n.permissions.Take()
 	}
 	if next := n.damaged.Peek(); next != nil && string(next.Name) == name {
-		made.Damaged = next
+		told.Damaged = next
 		n.damaged.Take()
 	}
-	return made
+	return told
 }
 
 // Err says why what was found of a folder isn't whole, if so.

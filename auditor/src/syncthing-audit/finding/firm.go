@@ -76,20 +76,20 @@ func (f *Folder) HowFirm() Firm {
 
 // HowFirm says how it stands with all folders: the worst of them.
 func (a *Answer) HowFirm() Firm {
-	made := IsFirm
+	firm := IsFirm
 	for _, folder := range a.Folders {
 		switch folder.HowFirm() {
 		case NotFirm:
 			return NotFirm
 		case NotAsked:
-			made = NotAsked
+			firm = NotAsked
 		case NotKnown:
-			if made == IsFirm {
-				made = NotKnown
+			if firm == IsFirm {
+				firm = NotKnown
 			}
 		}
 	}
-	return made
+	return firm
 }
 
 // EachLoose gives all that keeps a settled folder from being firm to take, in the order in which one document of all would

@@ -19,24 +19,24 @@ func (r *Room) Keep(row *join.Row) *join.Row {
 		return nil
 	}
 	r.taken += len(row.At)
-	made := &join.Row{Name: row.Name, At: make([]*part.Name, len(row.At))}
+	copied := &join.Row{Name: row.Name, At: make([]*part.Name, len(row.At))}
 	for place, name := range row.At {
 		if name != nil {
 			kept := *name
 			kept.Views = heardOf(name)
-			made.At[place] = &kept
+			copied.At[place] = &kept
 		}
 	}
-	return made
+	return copied
 }
 
 // heardOf gives the versions that a device has heard of from others and hasn't itself.
 func heardOf(name *part.Name) []part.Seen {
-	var made []part.Seen
+	var heard []part.Seen
 	for _, seen := range name.Views {
 		if name.Own == nil || !seen.Record.Version.IsAtMost(name.Own.Version) {
-			made = append(made, part.Seen{View: seen.View, Record: &part.Record{Version: seen.Record.Version}})
+			heard = append(heard, part.Seen{View: seen.View, Record: &part.Record{Version: seen.Record.Version}})
 		}
 	}
-	return made
+	return heard
 }

@@ -46,26 +46,26 @@ func (f Firm) CallUnsure() string {
 
 // Unsure gives all that makes a folder unsure, by devices.
 func (f *Folder) Unsure() []Unsure {
-	made := []Unsure{}
+	unsure := []Unsure{}
 	for member, at := range f.Members {
 		if at.Device == nil || at.About == nil {
 			continue
 		}
 		if waits := f.SendsAfterScan(member); waits != nil && waits.Losing() > 0 {
-			made = append(made, Unsure{Member: member, Kind: Waits, Names: waits.Losing(), Waits: waits})
+			unsure = append(unsure, Unsure{Member: member, Kind: Waits, Names: waits.Losing(), Waits: waits})
 		}
 		if why := at.Head.WhyBusy(at.About); why != "" {
-			made = append(made, Unsure{Member: member, Kind: Busy, Why: why})
+			unsure = append(unsure, Unsure{Member: member, Kind: Busy, Why: why})
 		}
 		if at.ToIgnore > 0 {
-			made = append(made, Unsure{Member: member, Kind: ToIgnore, Names: at.ToIgnore})
+			unsure = append(unsure, Unsure{Member: member, Kind: ToIgnore, Names: at.ToIgnore})
 		}
 		if at.Linked != nil && at.Linked.Names > 0 {
-			made = append(made, Unsure{Member: member, Kind: Linked, Names: at.Linked.Names})
+			unsure = append(unsure, Unsure{Member: member, Kind: Linked, Names: at.Linked.Names})
 		}
 		if at.Head.IsOverWireAlone() {
-			made = append(made, Unsure{Member: member, Kind: OverWire, Names: at.Unseen.Standing, Unread: at.Unseen.Unread})
+			unsure = append(unsure, Unsure{Member: member, Kind: OverWire, Names: at.Unseen.Standing, Unread: at.Unseen.Unread})
 		}
 	}
-	return made
+	return unsure
 }

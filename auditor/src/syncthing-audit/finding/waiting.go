@@ -83,13 +83,13 @@ func (w *Waiting) Sent() int64 { return w.count(func(kind string) bool { return 
 
 // count counts the names that wait so.
 func (w *Waiting) count(isSo func(kind string) bool) int64 {
-	made := int64(0)
+	sum := int64(0)
 	for kind, count := range w.Names {
 		if isSo(kind) {
-			made += count
+			sum += count
 		}
 	}
-	return made
+	return sum
 }
 
 // SendsAfterScan gives what waits at a member for a scan that sends what stands there, where that is more than what is new; nothing where none does.

@@ -8,15 +8,15 @@ type noted struct {
 
 // apart gives why devices keep a name otherwise than others have it, though they need nothing of it.
 func (s *state) apart(count int) []noted {
-	var made []noted
+	var found []noted
 	for i := range s.devices {
 		for n := 0; n < count; n++ {
 			if why := s.whyApart(i, n); why != NoReason {
-				made = append(made, noted{i, n, why})
+				found = append(found, noted{i, n, why})
 			}
 		}
 	}
-	return made
+	return found
 }
 
 func (s *state) whyApart(i, n int) Why {

@@ -42,15 +42,15 @@ func (c Command) on(s *state) {
 
 // rested takes steps, always the first that changes something, until nothing changes any more.
 func (s *state) rested() *state {
-	made := s.copied()
-	made.draw = func(int) int { return 0 }
+	state := s.copied()
+	state.draw = func(int) int { return 0 }
 	for step := 0; step < mostSteps; step++ {
-		if !made.takesOne(made.actions()) && !made.takesOne(made.rescans()) {
+		if !state.takesOne(state.actions()) && !state.takesOne(state.rescans()) {
 			break
 		}
 	}
-	made.draw = nil
-	return made
+	state.draw = nil
+	return state
 }
 
 func (s *state) takesOne(actions []action) bool {
@@ -73,11 +73,11 @@ func (l *loader) back(s *state, names []Name, clock int64) []Name {
 	for counter, rank := range l.counters {
 		b.values[Counter{l.numbers[counter.Device], rank}] = counter.Value
 	}
-	made := make([]Name, 0, s.count())
+	next := make([]Name, 0, s.count())
 	for n := 0; n < s.count(); n++ {
-		made = append(made, b.name(s, n, names))
+		next = append(next, b.name(s, n, names))
 	}
-	return made
+	return next
 }
 
 type back struct {
@@ -89,22 +89,22 @@ type back struct {
 
 func (b *back) name(s *state, n int, names []Name) Name {
 	count := len(s.devices)
-	made := Name{Name: b.nameOf(n, names), Own: make([]*Record, count), Views: make([][]*Record, count), Disk: make([]*Node, count)}
+	name := Name{Name: b.nameOf(n, names), Own: make([]*Record, count), Views: make([][]*Record, count), Disk: make([]*Node, count)}
 	for i := range s.devices {
-		made.Views[i] = make([]*Record, count)
-		made.Own[i] = b.record(s.own(i, n))
+		name.Views[i] = make([]*Record, count)
+		name.Own[i] = b.record(s.own(i, n))
 		for j := range s.devices {
 			if j != i {
-				made.Views[i][j] = b.record(s.recordAt(i, j, n))
+				name.Views[i][j] = b.record(s.recordAt(i, j, n))
 			}
 		}
 		if what := s.at(i, n); what.isThere() {
 			node := b.nodeBack(*what)
 			node.Time = b.time(what.time)
-			made.Disk[i] = &node
+			name.Disk[i] = &node
 		}
 	}
-	return made
+	return name
 }
 
 // nameOf gives a name, or one as Syncthing gives it to a conflict copy.
@@ -122,16 +122,16 @@ func (b *back) record(of *record) *Record {
 	if !of.isThere() {
 		return nil
 	}
-	made := &Record{Type: of.kind, Deleted: of.deleted, Flag: of.flag, Time: b.time(of.time), Content: b.content[of.content],
+	record := &Record{Type: of.kind, Deleted: of.deleted, Flag: of.flag, Time: b.time(of.time), Content: b.content[of.content],
 		Target: b.target[of.target], Mode: int(of.mode)}
 	for _, counter := range b.vectors[of.version] {
 		value, is := b.values[counter]
 		if !is {
 			value = uint64(b.clock) + counter.Value - presentTime
 		}
-		made.Version = append(made.Version, Counter{b.numbers[counter.Device], value})
+		record.Version = append(record.Version, Counter{b.numbers[counter.Device], value})
 	}
-	return made
+	return record
 }
 
 func (b *back) time(rank int64) int64 {

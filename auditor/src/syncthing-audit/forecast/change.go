@@ -7,12 +7,12 @@ import (
 
 // Copied gives a world whose disks may be changed while this one stays as it is.
 func (w World) Copied() World {
-	made := World{Devices: w.Devices, Names: make([]Name, len(w.Names))}
+	world := World{Devices: w.Devices, Names: make([]Name, len(w.Names))}
 	for place, name := range w.Names {
 		name.Disk = append([]*Node{}, name.Disk...)
-		made.Names[place] = name
+		world.Names[place] = name
 	}
-	return made
+	return world
 }
 
 // At gives what stands at a name on a device's disk, or nothing.
@@ -40,11 +40,11 @@ func (w *World) Put(device int, name string, what Node) {
 	found := w.find(name)
 	if found == nil {
 		count := len(w.Devices)
-		made := Name{Name: name, Own: make([]*Record, count), Views: make([][]*Record, count), Disk: make([]*Node, count)}
-		for place := range made.Views {
-			made.Views[place] = make([]*Record, count)
+		added := Name{Name: name, Own: make([]*Record, count), Views: make([][]*Record, count), Disk: make([]*Node, count)}
+		for place := range added.Views {
+			added.Views[place] = make([]*Record, count)
 		}
-		w.Names = append(w.Names, made)
+		w.Names = append(w.Names, added)
 		found = &w.Names[len(w.Names)-1]
 	}
 	found.Disk[device] = &what

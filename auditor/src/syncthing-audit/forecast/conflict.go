@@ -7,21 +7,21 @@ func (p *pull) moveAway(n int) {
 	if p.names[n].isCopy || p.device().MaxConflicts == 0 {
 		return
 	}
-	made := p.copyOf(n, what, p.i)
-	p.writeNumber(p.i, made, what)
-	p.scans[made] = true
-	p.dropOldest(n, made)
+	place := p.copyOf(n, what, p.i)
+	p.writeNumber(p.i, place, what)
+	p.scans[place] = true
+	p.dropOldest(n, place)
 }
 
 // dropOldest deletes the oldest copies of a name above those that the device keeps.
-func (p *pull) dropOldest(n, made int) {
+func (p *pull) dropOldest(n, place int) {
 	most := p.device().MaxConflicts
 	if most < 0 {
 		return
 	}
 	var copies []int
 	for other := 0; other < p.count(); other++ {
-		if p.names[other].isCopy && p.names[other].root == n && other != made && p.disk(p.i, other).isThere() {
+		if p.names[other].isCopy && p.names[other].root == n && other != place && p.disk(p.i, other).isThere() {
 			copies = append(copies, other)
 		}
 	}

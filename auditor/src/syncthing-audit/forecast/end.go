@@ -46,15 +46,15 @@ type placed struct {
 
 // numberedEnd gives the end that a state is.
 func (s *state) numberedEnd(count int) numbered {
-	made := numbered{disks: make([][]placed, len(s.devices)), apart: s.apart(count)}
+	end := numbered{disks: make([][]placed, len(s.devices)), apart: s.apart(count)}
 	for i := range s.devices {
 		for n := 0; n < s.count(); n++ {
 			if what := s.at(i, n); what.isThere() {
-				made.disks[i] = append(made.disks[i], s.placedAt(n, what, count))
+				end.disks[i] = append(end.disks[i], s.placedAt(n, what, count))
 			}
 		}
-		sort.SliceStable(made.disks[i], func(a, b int) bool { return made.disks[i][a].isBefore(&made.disks[i][b]) })
-		made.disks[i] = withoutTwins(made.disks[i])
+		sort.SliceStable(end.disks[i], func(a, b int) bool { return end.disks[i][a].isBefore(&end.disks[i][b]) })
+		end.disks[i] = withoutTwins(end.disks[i])
 	}
 	last := s.copied()
 	last.draw = func(int) int { return 0 }
@@ -62,12 +62,12 @@ func (s *state) numberedEnd(count int) numbered {
 		errors := last.copied().pullOn(i)
 		for n := 0; n < s.count(); n++ {
 			if s.need(i, n).isThere() && !(s.need(i, n).deleted && s.devices[i].IgnoreDelete) {
-				made.stuck = append(made.stuck, Stuck{Device: i, Why: errors[n]})
-				made.names = append(made.names, s.rootAmong(n, count))
+				end.stuck = append(end.stuck, Stuck{Device: i, Why: errors[n]})
+				end.names = append(end.names, s.rootAmong(n, count))
 			}
 		}
 	}
-	return made
+	return end
 }
 
 func (s *state) rootAmong(n, count int) int {
@@ -84,13 +84,13 @@ func (s *state) placedAt(n int, what *node, count int) placed {
 
 // withoutTwins takes away copies of a name with the same bytes as the one before.
 func withoutTwins(disk []placed) []placed {
-	made := disk[:0]
+	kept := disk[:0]
 	for at, placed := range disk {
-		if at == 0 || !placed.isCopy || !placed.isTwin(&made[len(made)-1]) {
-			made = append(made, placed)
+		if at == 0 || !placed.isCopy || !placed.isTwin(&kept[len(kept)-1]) {
+			kept = append(kept, placed)
 		}
 	}
-	return made
+	return kept
 }
 
 func (p *placed) isTwin(other *placed) bool {
@@ -114,43 +114,43 @@ func (p *placed) isBefore(other *placed) bool {
 
 // key gives a text that two ends share if the same stands on all disks: kinds, bytes, targets and copies, whatever their times and modes.
 func (n *numbered) key() string {
-	var made []byte
+	var text []byte
 	for _, disk := range n.disks {
-		made = append(made, '|')
+		text = append(text, '|')
 		for _, placed := range disk {
-			made = binary.AppendVarint(made, int64(placed.root))
-			made = binary.AppendVarint(made, int64(placed.what.content))
-			made = binary.AppendVarint(made, int64(placed.what.target))
-			made = append(made, byte(placed.what.kind), byte(truth(placed.isCopy)))
+			text = binary.AppendVarint(text, int64(placed.root))
+			text = binary.AppendVarint(text, int64(placed.what.content))
+			text = binary.AppendVarint(text, int64(placed.what.target))
+			text = append(text, byte(placed.what.kind), byte(truth(placed.isCopy)))
 		}
 	}
-	return string(made)
+	return string(text)
 }
 
 // end gives an end in the words of the world that a loader took.
 func (l *loader) end(from *numbered, names []Name) End {
-	made := End{Disks: make([][]Place, len(from.disks))}
+	end := End{Disks: make([][]Place, len(from.disks))}
 	for i, disk := range from.disks {
 		for _, placed := range disk {
-			made.Disks[i] = append(made.Disks[i], Place{Name: names[placed.root].Name, IsCopy: placed.isCopy, Node: l.nodeBack(placed.what)})
+			end.Disks[i] = append(end.Disks[i], Place{Name: names[placed.root].Name, IsCopy: placed.isCopy, Node: l.nodeBack(placed.what)})
 		}
 	}
 	for at, stuck := range from.stuck {
 		stuck.Name = names[from.names[at]].Name
-		made.Stuck = append(made.Stuck, stuck)
+		end.Stuck = append(end.Stuck, stuck)
 	}
 	for _, noted := range from.apart {
-		made.Apart = append(made.Apart, Stuck{Device: noted.device, Name: names[noted.n].Name, Why: noted.why})
+		end.Apart = append(end.Apart, Stuck{Device: noted.device, Name: names[noted.n].Name, Why: noted.why})
 	}
-	return made
+	return end
 }
 
 func (l *loader) nodeBack(what node) Node {
-	made := Node{Type: what.kind, Mode: int(what.mode), Content: l.content[what.content], Target: l.target[what.target]}
+	node := Node{Type: what.kind, Mode: int(what.mode), Content: l.content[what.content], Target: l.target[what.target]}
 	if what.kind == File {
-		made.Time = l.timeBack(what.time)
+		node.Time = l.timeBack(what.time)
 	}
-	return made
+	return node
 }
 
 // timeBack gives the time of a rank.

@@ -8,18 +8,18 @@ func (s *state) actions() []action { return append(s.starts(), s.exchanges()...)
 
 // starts are the starts of devices, with the scan that comes first.
 func (s *state) starts() []action {
-	var made []action
+	var actions []action
 	for i := range s.devices {
 		if i := i; !s.isOn(i) && s.may&(1<<i) != 0 {
-			made = append(made, func(s *state) { s.start(i) })
+			actions = append(actions, func(s *state) { s.start(i) })
 		}
 	}
-	return made
+	return actions
 }
 
 // exchanges are the steps of devices that run: one tells another what is new, or pulls.
 func (s *state) exchanges() []action {
-	var made []action
+	var actions []action
 	for i := range s.devices {
 		if !s.isOn(i) {
 			continue
@@ -27,14 +27,14 @@ func (s *state) exchanges() []action {
 		i := i
 		for j := range s.devices {
 			if j := j; j != i && s.isOn(j) && !s.devices[i].Apart.Has(j) && s.isBehind(i, j) {
-				made = append(made, func(s *state) { s.send(i, j) })
+				actions = append(actions, func(s *state) { s.send(i, j) })
 			}
 		}
 		if s.needsSomething(i) {
-			made = append(made, func(s *state) { s.pullOn(i) })
+			actions = append(actions, func(s *state) { s.pullOn(i) })
 		}
 	}
-	return made
+	return actions
 }
 
 func (s *state) start(i int) {
@@ -55,7 +55,7 @@ func (s *state) areAllOn() bool { return s.on == s.may }
 
 // outcomes gives the states behind a step, one for each way that what is drawn in it may go.
 func (s *state) outcomes(act action) []*state {
-	var made []*state
+	var states []*state
 	scripts := [][]int{nil}
 	for len(scripts) > 0 {
 		script := scripts[len(scripts)-1]
@@ -77,9 +77,9 @@ func (s *state) outcomes(act action) []*state {
 				scripts = append(scripts, append(append([]int{}, drawn[:at]...), other))
 			}
 		}
-		made = append(made, next)
+		states = append(states, next)
 	}
-	return made
+	return states
 }
 
 // A search tries all orders.
@@ -131,11 +131,11 @@ func (x *search) step(s *state, actions []action) bool {
 
 // rescans are the scans of devices that scanned before: they matter where nothing else goes on.
 func (s *state) rescans() []action {
-	var made []action
+	var actions []action
 	for i := range s.devices {
 		if i := i; s.isOn(i) {
-			made = append(made, func(s *state) { s.scan(i, everything) })
+			actions = append(actions, func(s *state) { s.scan(i, everything) })
 		}
 	}
-	return made
+	return actions
 }

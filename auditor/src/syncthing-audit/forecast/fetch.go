@@ -25,7 +25,7 @@ func (p *pull) takeFiles(queue []int) {
 
 // dependOnOrder gives the files of a queue of which one may take what another would be renamed from, or one is below the other.
 func (p *pull) dependOnOrder(queue []int) map[int]bool {
-	due, takers, made := map[int]bool{}, map[int32]int{}, map[int]bool{}
+	due, takers, names := map[int]bool{}, map[int32]int{}, map[int]bool{}
 	for _, n := range queue {
 		due[n] = true
 		if content := p.wanted(n).content; len(p.buckets[content]) > 0 {
@@ -34,15 +34,15 @@ func (p *pull) dependOnOrder(queue []int) map[int]bool {
 	}
 	for _, n := range queue {
 		if takers[p.wanted(n).content] > 1 {
-			made[n] = true
+			names[n] = true
 		}
 		for above := p.names[n].parent; above >= 0; above = p.names[above].parent {
 			if due[above] {
-				made[n], made[above] = true, true
+				names[n], names[above] = true, true
 			}
 		}
 	}
-	return made
+	return names
 }
 
 func (p *pull) takeFile(n int) Why {

@@ -86,20 +86,20 @@ func New(budget Budget) *Forecaster { return &Forecaster{budget: budget, known: 
 
 // Of gives an answer for each group of names of a world that hang together.
 func (f *Forecaster) Of(world World) []Answer {
-	var made []Answer
+	var answers []Answer
 	for _, group := range world.Groups() {
-		made = append(made, f.OfGroup(group.Devices, group.Names))
+		answers = append(answers, f.OfGroup(group.Devices, group.Names))
 	}
-	return made
+	return answers
 }
 
 // Groups gives a world for each group of names that hang together.
 func (w World) Groups() []World {
-	var made []World
+	var worlds []World
 	for _, names := range split(w.Names) {
-		made = append(made, World{Devices: w.Devices, Names: names})
+		worlds = append(worlds, World{Devices: w.Devices, Names: names})
 	}
-	return made
+	return worlds
 }
 
 // OfGroup gives an answer for names that are taken to hang together. With commands, these are given one after another at each end, and what is told is
@@ -120,11 +120,11 @@ func (f *Forecaster) OfGroup(devices []Device, names []Name, commands ...Command
 		found = f.find(first, len(names), commands)
 		f.known[shape] = found
 	}
-	made := Answer{Names: textsOf(names), IsAll: found.isAll, Orders: found.orders, Endless: found.endless, States: found.states}
+	answer := Answer{Names: textsOf(names), IsAll: found.isAll, Orders: found.orders, Endless: found.endless, States: found.states}
 	for place := range found.ends {
-		made.Ends = append(made.Ends, l.end(&found.ends[place], names))
+		answer.Ends = append(answer.Ends, l.end(&found.ends[place], names))
 	}
-	return made
+	return answer
 }
 
 // Shape gives a text that two groups of names share if they are alike: what becomes of one becomes of the other, by the places of their names.
@@ -135,21 +135,21 @@ func Shape(devices []Device, names []Name) string {
 }
 
 func textsOf(names []Name) []string {
-	made := make([]string, 0, len(names))
+	texts := make([]string, 0, len(names))
 	for place := range names {
-		made = append(made, names[place].Name)
+		texts = append(texts, names[place].Name)
 	}
-	return made
+	return texts
 }
 
 func untriedOf(devices []Device) []int {
-	var made []int
+	var untried []int
 	for place, device := range devices {
 		if device.Release == Untried {
-			made = append(made, place)
+			untried = append(untried, place)
 		}
 	}
-	return made
+	return untried
 }
 
 func sortNames(names []Name) {
@@ -159,28 +159,28 @@ func sortNames(names []Name) {
 // find tries all orders, or walks where there are too many; then again behind each command.
 func (f *Forecaster) find(first *state, count int, commands []Command) *result {
 	starts, all := first.withLists()
-	made := &result{isAll: all}
-	ends := f.search(starts, count, made)
+	found := &result{isAll: all}
+	ends := f.search(starts, count, found)
 	for _, command := range commands {
 		var after []*state
 		for _, end := range ends {
 			after = append(after, end.outcomes(command.on)...)
 		}
-		ends = f.search(after, count, made)
+		ends = f.search(after, count, found)
 	}
 	seen := map[string]bool{}
 	for _, end := range ends {
 		numbered := end.numberedEnd(count)
 		if key := numbered.key(); !seen[key] {
 			seen[key] = true
-			made.ends = append(made.ends, numbered)
+			found.ends = append(found.ends, numbered)
 		}
 	}
-	return made
+	return found
 }
 
 // search gives the ends to which these states come, and counts what it tried.
-func (f *Forecaster) search(starts []*state, count int, made *result) []*state {
+func (f *Forecaster) search(starts []*state, count int, result *result) []*state {
 	if len(starts) == 0 {
 		return nil
 	}
@@ -193,19 +193,19 @@ func (f *Forecaster) search(starts []*state, count int, made *result) []*state {
 	ends, states, done := explore(starts, budget.States)
 	f.tried += states
 	f.done += states * cost
-	made.states += states
+	result.states += states
 	if done {
 		return ends
 	}
-	made.isAll = false
+	result.isAll = false
 	random := rand.New(rand.NewSource(int64(count)))
-	for walks := 0; walks < budget.Walks && (made.orders < mostEndless || made.endless < made.orders); walks++ {
-		made.orders++
+	for walks := 0; walks < budget.Walks && (result.orders < mostEndless || result.endless < result.orders); walks++ {
+		result.orders++
 		f.done += statesOfWalk * cost
 		if end := walk(starts[random.Intn(len(starts))], random); end != nil {
 			ends = append(ends, end)
 		} else {
-			made.endless++
+			result.endless++
 		}
 	}
 	return ends

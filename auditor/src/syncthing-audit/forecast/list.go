@@ -21,15 +21,15 @@ func (v version) first() int {
 
 // without gives the list without a device.
 func (l list) without(j int) list {
-	made := make(list, 0, len(l)+1)
+	rest := make(list, 0, len(l)+1)
 	for _, entry := range l {
 		entry.valid &^= 1 << j
 		entry.invalid &^= 1 << j
 		if entry.valid|entry.invalid != 0 {
-			made = append(made, entry)
+			rest = append(rest, entry)
 		}
 	}
-	return made
+	return rest
 }
 
 // add adds a device's record to a list that is without the device.

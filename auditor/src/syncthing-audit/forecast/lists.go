@@ -5,20 +5,20 @@ const mostStarts = 24
 
 // withLists gives the states that a world may be in, by the order in which devices told their records: nothing says which it was. It matters
 // only where three versions beat one another in a circle. The answer says whether these are all.
-func (s *state) withLists() (made []*state, all bool) {
-	made, all = []*state{s.copied()}, true
+func (s *state) withLists() (states []*state, all bool) {
+	states, all = []*state{s.copied()}, true
 	for i := range s.devices {
 		var next []*state
 		for _, order := range s.ordersAt(i) {
-			for _, state := range made {
+			for _, state := range states {
 				next = append(next, state.filled(i, order))
 			}
 		}
-		if made = distinct(next); len(made) > mostStarts {
-			made, all = made[:mostStarts], false
+		if states = distinct(next); len(states) > mostStarts {
+			states, all = states[:mostStarts], false
 		}
 	}
-	return made, all
+	return states, all
 }
 
 // ordersAt gives the orders of the devices that may make another list at a device: one, unless three versions are known of a name.
@@ -38,7 +38,7 @@ func (s *state) ordersAt(i int) [][]int {
 
 // filled gives the state with the lists of a device as they come by taking the devices in this order.
 func (s *state) filled(i int, order []int) *state {
-	made := s.copied()
+	state := s.copied()
 	for n := range s.names {
 		l := make(list, 0, len(order))
 		for _, j := range order {
@@ -46,42 +46,42 @@ func (s *state) filled(i int, order []int) *state {
 				l = s.add(l, i, j, n, entry)
 			}
 		}
-		made.set(s.listCell(i, n), s.listNumber(l))
+		state.set(s.listCell(i, n), s.listNumber(l))
 	}
-	return made
+	return state
 }
 
 func distinct(states []*state) []*state {
 	seen := map[string]bool{}
-	made := states[:0]
+	kept := states[:0]
 	for _, state := range states {
 		if key := state.key(); !seen[key] {
 			seen[key] = true
-			made = append(made, state)
+			kept = append(kept, state)
 		}
 	}
-	return made
+	return kept
 }
 
 // permutations gives all orders of up to four of these; the last ones of more stay where they are.
 func permutations(places []int) [][]int {
 	const most = 4
 	if len(places) > most {
-		var made [][]int
+		var orders [][]int
 		for _, head := range permutations(places[:most]) {
-			made = append(made, append(head, places[most:]...))
+			orders = append(orders, append(head, places[most:]...))
 		}
-		return made
+		return orders
 	}
 	if len(places) < 2 {
 		return [][]int{append([]int{}, places...)}
 	}
-	var made [][]int
+	var orders [][]int
 	for at := range places {
 		rest := append(append([]int{}, places[:at]...), places[at+1:]...)
 		for _, tail := range permutations(rest) {
-			made = append(made, append([]int{places[at]}, tail...))
+			orders = append(orders, append([]int{places[at]}, tail...))
 		}
 	}
-	return made
+	return orders
 }

@@ -66,19 +66,19 @@ func (l *loader) nameAll(names []Name) {
 		places[names[place].Name] = place
 	}
 	for place := range names {
-		made := name{parent: -1, root: place, isCopy: isConflictCopy(names[place].Name)}
+		added := name{parent: -1, root: place, isCopy: isConflictCopy(names[place].Name)}
 		for above := path.Dir(names[place].Name); above != "."; above = path.Dir(above) {
 			if found, is := places[above]; is {
-				made.parent = found
+				added.parent = found
 				break
 			}
 		}
-		if made.isCopy {
+		if added.isCopy {
 			if found, is := places[rootOf(names[place].Name)]; is {
-				made.root = found
+				added.root = found
 			}
 		}
-		l.names = append(l.names, made)
+		l.names = append(l.names, added)
 	}
 }
 
@@ -164,13 +164,13 @@ func (l *loader) rankCounters(names []Name) {
 }
 
 func (l *loader) versionOf(version []Counter) int32 {
-	made := make([]Counter, 0, len(version))
+	counters := make([]Counter, 0, len(version))
 	for _, counter := range version {
 		if counter.Value > 0 {
-			made = append(made, Counter{l.numbers[counter.Device], l.counters[counter]})
+			counters = append(counters, Counter{l.numbers[counter.Device], l.counters[counter]})
 		}
 	}
-	return l.vectorNumber(made)
+	return l.vectorNumber(counters)
 }
 
 func (l *loader) contentOf(content Content) int32 {

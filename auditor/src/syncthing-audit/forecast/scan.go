@@ -12,14 +12,14 @@ func (s *state) scan(i int, names map[int]bool) bool {
 
 // withParents gives for each name the highest directory above it that the device hasn't recorded, or the name: Syncthing's unifySubs.
 func (s *state) withParents(i int, names map[int]bool) map[int]bool {
-	made := make(map[int]bool, len(names))
+	all := make(map[int]bool, len(names))
 	for n := range names {
 		for above := s.names[n].parent; above >= 0 && !s.own(i, above).isThere(); above = s.names[above].parent {
 			n = above
 		}
-		made[n] = true
+		all[n] = true
 	}
-	return made
+	return all
 }
 
 // isScanned says whether a name is one of these, or below one.
@@ -34,13 +34,13 @@ func (s *state) isScanned(n int, names map[int]bool) bool {
 
 // byContent gives the files that a device recorded, by their bytes.
 func (s *state) byContent(i int) map[int32][]int {
-	made := map[int32][]int{}
+	places := map[int32][]int{}
 	for n := 0; n < s.count(); n++ {
 		if own := s.own(i, n); own.kind == File && !own.deleted && own.flag == Valid && own.content != 0 {
-			made[own.content] = append(made[own.content], n)
+			places[own.content] = append(places[own.content], n)
 		}
 	}
-	return made
+	return places
 }
 
 // globals are the records that prevail at a device, as they were when a step began.

@@ -82,11 +82,11 @@ func (n *Name) EachContent(call func(Content)) {
 type groups []int
 
 func newGroups(count int) groups {
-	made := make(groups, count)
-	for place := range made {
-		made[place] = place
+	g := make(groups, count)
+	for place := range g {
+		g[place] = place
 	}
-	return made
+	return g
 }
 
 func (g groups) root(place int) int {
@@ -106,11 +106,11 @@ func (g groups) of(names []Name) [][]Name {
 		root := g.root(place)
 		by[root] = append(by[root], names[place])
 	}
-	made := make([][]Name, 0, len(by))
+	parts := make([][]Name, 0, len(by))
 	for _, group := range by {
 		sort.Slice(group, func(a, b int) bool { return group[a].Name < group[b].Name })
-		made = append(made, group)
+		parts = append(parts, group)
 	}
-	sort.Slice(made, func(a, b int) bool { return made[a][0].Name < made[b][0].Name })
-	return made
+	sort.Slice(parts, func(a, b int) bool { return parts[a][0].Name < parts[b][0].Name })
+	return parts
 }

@@ -24,39 +24,39 @@ func (l *loader) start(names []Name) *state {
 }
 
 func (l *loader) recordOf(r *Record) int32 {
-	made := record{kind: r.Type, deleted: r.Deleted, flag: r.Flag, version: l.versionOf(r.Version), time: l.time(r.Time),
+	entry := record{kind: r.Type, deleted: r.Deleted, flag: r.Flag, version: l.versionOf(r.Version), time: l.time(r.Time),
 		target: l.targetOf(r.Target), mode: int32(r.Mode)}
 	if !r.Deleted && r.Type == File {
-		made.content = l.contentOf(r.Content)
+		entry.content = l.contentOf(r.Content)
 	}
 	if r.Type == Symlink {
-		made.mode = NoMode
+		entry.mode = NoMode
 		if !r.Deleted {
-			made.time = 0
+			entry.time = 0
 		}
 	}
-	return l.recordNumber(made)
+	return l.recordNumber(entry)
 }
 
 func (l *loader) nodeOf(n *Node) int32 {
-	made := node{kind: n.Type, mode: int32(n.Mode)}
+	standing := node{kind: n.Type, mode: int32(n.Mode)}
 	switch n.Type {
 	case File:
-		made.time, made.content = l.time(n.Time), l.contentOf(n.Content)
+		standing.time, standing.content = l.time(n.Time), l.contentOf(n.Content)
 	case Directory:
-		made.time = l.time(n.Time)
+		standing.time = l.time(n.Time)
 	case Symlink:
-		made.target, made.mode = l.targetOf(n.Target), NoMode
+		standing.target, standing.mode = l.targetOf(n.Target), NoMode
 	}
-	return l.nodeNumber(made)
+	return l.nodeNumber(standing)
 }
 
 // shape gives a text that two worlds share if they are alike: all that the model looks at is the same then.
 func (l *loader) shape(s *state) string {
-	var made []byte
+	var text []byte
 	put := func(numbers ...int64) {
 		for _, number := range numbers {
-			made = binary.AppendVarint(made, number)
+			text = binary.AppendVarint(text, number)
 		}
 	}
 	put(int64(len(l.devices)), int64(len(l.names)), int64(len(l.sizes)), int64(len(l.vectors)), int64(len(l.records)), int64(len(l.nodes)))
@@ -84,7 +84,7 @@ func (l *loader) shape(s *state) string {
 	for _, cell := range s.cells {
 		put(int64(cell))
 	}
-	return string(made)
+	return string(text)
 }
 
 func truth(is bool) int64 {

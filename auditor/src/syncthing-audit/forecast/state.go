@@ -11,9 +11,9 @@ type state struct {
 }
 
 func (s *state) copied() *state {
-	made := *s
-	made.cells = append(make([]int32, 0, len(s.cells)), s.cells...)
-	return &made
+	state := *s
+	state.cells = append(make([]int32, 0, len(s.cells)), s.cells...)
+	return &state
 }
 
 // isSame says whether two states of one machine are equal.
@@ -41,12 +41,12 @@ func (s *state) trimmed() []int32 {
 
 // key gives a text that two states of one machine share if they are equal.
 func (s *state) key() string {
-	made := make([]byte, 4, 4+4*len(s.cells))
-	made[0], made[1], made[2], made[3] = byte(s.on), byte(s.on>>8), byte(s.on>>16), byte(s.on>>24)
+	text := make([]byte, 4, 4+4*len(s.cells))
+	text[0], text[1], text[2], text[3] = byte(s.on), byte(s.on>>8), byte(s.on>>16), byte(s.on>>24)
 	for _, cell := range s.trimmed() {
-		made = append(made, byte(cell), byte(cell>>8), byte(cell>>16))
+		text = append(text, byte(cell), byte(cell>>8), byte(cell>>16))
 	}
-	return string(made)
+	return string(text)
 }
 
 func (s *state) get(cell int) int32 {

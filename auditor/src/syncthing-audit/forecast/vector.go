@@ -49,7 +49,7 @@ func compareVectors(a, b []Counter) int {
 
 // raised gives a vector in which a device counted a change of now.
 func raised(vector []Counter, device uint64) []Counter {
-	made := make([]Counter, 0, len(vector)+1)
+	counters := make([]Counter, 0, len(vector)+1)
 	value := uint64(presentTime)
 	for _, counter := range vector {
 		if counter.Device == device && counter.Value >= value {
@@ -59,36 +59,36 @@ func raised(vector []Counter, device uint64) []Counter {
 	added := false
 	for _, counter := range vector {
 		if !added && counter.Device >= device {
-			made, added = append(made, Counter{device, value}), true
+			counters, added = append(counters, Counter{device, value}), true
 		}
 		if counter.Device != device {
-			made = append(made, counter)
+			counters = append(counters, counter)
 		}
 	}
 	if !added {
-		made = append(made, Counter{device, value})
+		counters = append(counters, Counter{device, value})
 	}
-	return made
+	return counters
 }
 
 // merged gives the greatest counter of each device.
 func merged(a, b []Counter) []Counter {
-	made := make([]Counter, 0, len(a)+len(b))
+	counters := make([]Counter, 0, len(a)+len(b))
 	for len(a) > 0 && len(b) > 0 {
 		switch {
 		case a[0].Device < b[0].Device:
-			made, a = append(made, a[0]), a[1:]
+			counters, a = append(counters, a[0]), a[1:]
 		case b[0].Device < a[0].Device:
-			made, b = append(made, b[0]), b[1:]
+			counters, b = append(counters, b[0]), b[1:]
 		default:
 			counter := a[0]
 			if b[0].Value > counter.Value {
 				counter = b[0]
 			}
-			made, a, b = append(made, counter), a[1:], b[1:]
+			counters, a, b = append(counters, counter), a[1:], b[1:]
 		}
 	}
-	return append(append(made, a...), b...)
+	return append(append(counters, a...), b...)
 }
 
 // without gives a vector with the counter of one device alone.
@@ -113,10 +113,10 @@ func counterOf(vector []Counter, device uint64) uint64 {
 
 // keyOf gives a text that two vectors share if they are equal.
 func keyOf(vector []Counter) string {
-	made := make([]byte, 0, 16*len(vector))
+	text := make([]byte, 0, 16*len(vector))
 	for _, counter := range vector {
-		made = binary.BigEndian.AppendUint64(made, counter.Device)
-		made = binary.BigEndian.AppendUint64(made, counter.Value)
+		text = binary.BigEndian.AppendUint64(text, counter.Device)
+		text = binary.BigEndian.AppendUint64(text, counter.Value)
 	}
-	return string(made)
+	return string(text)
 }

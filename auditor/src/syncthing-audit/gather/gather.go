@@ -44,18 +44,18 @@ type Device struct {
 
 // Head gives the head of the device's part.
 func (d *Device) Head() *part.Head {
-	made := &part.Head{Device: d.ID, Name: d.Name, Runs: d.Runs, Made: time.Now().UTC().Truncate(time.Second),
+	head := &part.Head{Device: d.ID, Name: d.Name, Runs: d.Runs, Made: time.Now().UTC().Truncate(time.Second),
 		Names: d.Names, Folders: []part.Folder{}, Look: d.Look, Index: d.Index, Newer: d.Newer, ToRepair: d.ToRepair, Others: append([]part.Other{}, d.Others...)}
-	made.Version = made.DueVersion()
+	head.Version = head.DueVersion()
 	for _, of := range d.Folders {
 		folder := of.Folder()
 		folder.Rest = d.Rest[folder.ID]
-		made.Folders = append(made.Folders, folder)
+		head.Folders = append(head.Folders, folder)
 	}
 	if !d.Paths {
-		hidePaths(made)
+		hidePaths(head)
 	}
-	return made
+	return head
 }
 
 // Run reads all folders and gives the lines behind the head.

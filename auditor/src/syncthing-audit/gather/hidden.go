@@ -35,18 +35,18 @@ func (m *merge) hideLong(line *part.Name) {
 
 // line gives what a part has of such a name.
 func (h hidden) line() *part.Name {
-	made := &part.Name{Name: h.name.Bytes()}
+	name := &part.Name{Name: h.name.Bytes()}
 	if h.length > 0 {
 		why := fmt.Sprintf("its name has %d bytes: a part tells at most %d", h.length, part.MostNameBytes)
 		if h.length <= part.MostNameBytes {
 			why = "its name begins with bytes that stand before hashes in a part"
 		}
-		made.Out = []part.LeftOut{{Kind: part.OddName, Why: why, Bytes: h.size}}
-		return made
+		name.Out = []part.LeftOut{{Kind: part.OddName, Why: why, Bytes: h.size}}
+		return name
 	}
-	made.Disk = &part.Node{Size: h.size}
-	made.Out = []part.LeftOut{ignored(made)}
-	return made
+	name.Disk = &part.Node{Size: h.size}
+	name.Out = []part.LeftOut{ignored(name)}
+	return name
 }
 
 // sendHidden puts those that were kept back into the queue, in the order of their hashes. It says whether they are wanted.

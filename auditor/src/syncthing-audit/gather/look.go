@@ -22,21 +22,21 @@ func (d *Device) walker(folder Folder) *disk.Walker {
 
 // Glance walks all folders.
 func (d *Device) Glance() (*glance.Glance, error) {
-	made := &glance.Glance{}
+	taken := &glance.Glance{}
 	for _, folder := range d.Folders {
 		file, err := leftover.Unnamed()
 		if err != nil {
-			made.Close()
+			taken.Close()
 			return nil, err
 		}
-		made.Folders = append(made.Folders, file)
+		taken.Folders = append(taken.Folders, file)
 		if err := d.walkInto(file, folder); err != nil {
-			made.Close()
+			taken.Close()
 			about := folder.Folder()
 			return nil, shell.Labelled(err, about.ID, about.Label)
 		}
 	}
-	return made, nil
+	return taken, nil
 }
 
 // walkInto writes the names of a folder and their marks into a file, and goes back to its begin.

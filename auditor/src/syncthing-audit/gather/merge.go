@@ -34,22 +34,22 @@ var errStopped = errors.New("stopped")
 
 // newMerge begins to read a folder.
 func newMerge(of *Device, folder Folder, about *part.Folder, patterns *ignore.Matcher, to *disk.Queue) *merge {
-	made := &merge{device: of, patterns: patterns, to: to, walker: of.walker(folder), folder: about.ID}
-	made.own = pull(func(take func(device.Entry) bool) error { return folder.Own(of.Names, take) })
+	m := &merge{device: of, patterns: patterns, to: to, walker: of.walker(folder), folder: about.ID}
+	m.own = pull(func(take func(device.Entry) bool) error { return folder.Own(of.Names, take) })
 	for _, view := range about.Views {
 		view := view
-		made.views = append(made.views, pull(func(take func(device.Entry) bool) error { return folder.View(view, of.Names, take) }))
+		m.views = append(m.views, pull(func(take func(device.Entry) bool) error { return folder.View(view, of.Names, take) }))
 	}
-	made.nodes = pull(func(take func(disk.Found) bool) error {
-		made.walker.Take = func(found disk.Found) error {
+	m.nodes = pull(func(take func(disk.Found) bool) error {
+		m.walker.Take = func(found disk.Found) error {
 			if !take(found) {
 				return errStopped
 			}
 			return nil
 		}
-		return made.walker.Walk()
+		return m.walker.Walk()
 	})
-	return made
+	return m
 }
 
 // run puts all names into the queue.

@@ -17,28 +17,28 @@ type puller[T any] struct {
 
 // pull begins a reading.
 func pull[T any](read func(take func(T) bool) error) *puller[T] {
-	made := &puller[T]{batches: make(chan []T, 2), stopped: make(chan struct{})}
+	p := &puller[T]{batches: make(chan []T, 2), stopped: make(chan struct{})}
 	go func() {
-		defer close(made.batches)
+		defer close(p.batches)
 		batch := make([]T, 0, batchLength)
 		send := func() bool {
 			select {
-			case made.batches <- batch:
+			case p.batches <- batch:
 				batch = make([]T, 0, batchLength)
 				return true
-			case <-made.stopped:
+			case <-p.stopped:
 				return false
 			}
 		}
-		made.err = read(func(item T) bool {
+		p.err = read(func(item T) bool {
 			batch = append(batch, item)
 			return len(batch) < batchLength || send()
 		})
-		if made.err == nil && len(batch) > 0 {
+		if p.err == nil && len(batch) > 0 {
 			send()
 		}
 	}()
-	return made
+	return p
 }
 
 // peek gives the next thing without taking it; nothing at the end.

@@ -160,9 +160,9 @@ func (c *comparing) name(line part.Line) error {
 	switch {
 	case name.IsIgnored() || name.IsDamaged() || len(name.Moved) > 0 || isUnread:
 	case lost != nil:
-		made := *name
-		made.Out = append(append([]part.LeftOut(nil), name.Out...), *lost)
-		line.Name = &made
+		told := *name
+		told.Out = append(append([]part.LeftOut(nil), name.Out...), *lost)
+		line.Name = &told
 	case name.Disk.Mark() != mark:
 		line.Name = &part.Name{Name: name.Name, Moved: []string{part.MovedDisk}}
 	}

@@ -30,27 +30,27 @@ func Join(wire, disks part.Stream) (*Stream, error) {
 		return nil, fmt.Errorf("the observer looked at %s, and the disks were walked for %s: make both with the same %s", records.Names.Words(), half.Names.Words(),
 			records.Unlike(half.Names))
 	}
-	made := &Stream{wire: part.NewPeeking(wire), disks: part.NewPeeking(disks), folder: -1}
+	stream := &Stream{wire: part.NewPeeking(wire), disks: part.NewPeeking(disks), folder: -1}
 	var err error
-	made.head, err = joinHeads(records, half)
-	return made, err
+	stream.head, err = joinHeads(records, half)
+	return stream, err
 }
 
 // joinHeads gives the head of both halves. What the walk saw isn't unseen any more.
 func joinHeads(records, half *part.Head) (*part.Head, error) {
-	made := *records
-	made.Half = half.Half
+	head := *records
+	head.Half = half.Half
 	wire := *records.Wire
 	wire.Unseen = half.StillUnseen()
-	made.Wire = &wire
-	made.Folders = append([]part.Folder{}, records.Folders...)
+	head.Wire = &wire
+	head.Folders = append([]part.Folder{}, records.Folders...)
 	for _, folder := range half.Folders {
 		if records.Folder(folder.ID) == nil {
 			return nil, fmt.Errorf("the disks have folder %s, at which the observer didn't look: walk only the folder of the observer's command", shell.Quoted(folder.ID))
 		}
 	}
-	for place := range made.Folders {
-		to := &made.Folders[place]
+	for place := range head.Folders {
+		to := &head.Folders[place]
 		from := half.Folder(to.ID)
 		if from == nil {
 			return nil, fmt.Errorf("the observer looked at folder %s, whose directory wasn't walked: walk it, too", shell.Folder(to.ID, to.Label))
@@ -60,7 +60,7 @@ func joinHeads(records, half *part.Head) (*part.Head, error) {
 			return nil, err
 		}
 	}
-	return &made, nil
+	return &head, nil
 }
 
 // addConfigured adds what the device's configuration says of a folder, where that was read. Over the wire only some of it shows.
@@ -156,13 +156,13 @@ func (s *Stream) begin() {
 
 // end gives the end of a folder: of the index by what the observer was told, of the disks by the walk.
 func (s *Stream) end(wire, disks *part.End) *part.End {
-	made := *wire
-	made.Names, made.Bytes, made.Temporary, made.Linked = s.names, disks.Bytes, disks.Temporary, disks.Linked
+	end := *wire
+	end.Names, end.Bytes, end.Temporary, end.Linked = s.names, disks.Bytes, disks.Temporary, disks.Linked
 	if s.head.Names.IsAll() {
 		s.toIgnore.End()
-		made.ToIgnore = s.toIgnore.Names
+		end.ToIgnore = s.toIgnore.Names
 	}
-	return &made
+	return &end
 }
 
 // name takes the lesser of two names, or both where they are one, and gives what is told of it; nothing of what was told already. One of them may be
@@ -183,49 +183,49 @@ func (s *Stream) name(name, other *part.Name) *part.Name {
 
 // join joins what the halves have of a name; one of them may have nothing.
 func (s *Stream) join(wire, disk *part.Name) *part.Name {
-	made := &part.Name{}
+	name := &part.Name{}
 	if disk != nil {
 		if wire == nil && s.told[disk.Name] {
 			return nil
 		}
-		*made = *disk
+		*name = *disk
 	}
 	if wire != nil {
-		made.Name, made.Own = wire.Name, wire.Own
-		made.Out = append(append([]part.LeftOut{}, wire.Out...), made.Out...)
-		made.Moved = union(wire.Moved, made.Moved)
+		name.Name, name.Own = wire.Name, wire.Own
+		name.Out = append(append([]part.LeftOut{}, wire.Out...), name.Out...)
+		name.Moved = union(wire.Moved, name.Moved)
 	}
-	if shell.IsBehindNames(string(made.Name)) { // a hash in place of a name
-		return made
+	if shell.IsBehindNames(string(name.Name)) { // a hash in place of a name
+		return name
 	}
-	made = s.byPatterns(made, wire != nil)
-	if wire == nil && made.IsIgnored() {
-		s.hide(made)
+	name = s.byPatterns(name, wire != nil)
+	if wire == nil && name.IsIgnored() {
+		s.hide(name)
 		return nil
 	}
-	if len(made.Moved) > 0 {
-		return &part.Name{Name: made.Name, Moved: made.Moved}
+	if len(name.Moved) > 0 {
+		return &part.Name{Name: name.Name, Moved: name.Moved}
 	}
-	if made.Disk != nil {
-		s.fit(made)
-		if wire != nil && made.HasOtherBytes() {
-			made.Disk.Differ = wire.Differ
+	if name.Disk != nil {
+		s.fit(name)
+		if wire != nil && name.HasOtherBytes() {
+			name.Disk.Differ = wire.Differ
 		}
 	}
-	if len(made.Out) == 0 && !made.IsAsRecorded(s.head.Folders[s.folder].Window()) {
-		waits := *made
-		return &part.Name{Name: made.Name, Moved: []string{part.MovedUnscanned}, Waits: &waits}
+	if len(name.Out) == 0 && !name.IsAsRecorded(s.head.Folders[s.folder].Window()) {
+		waits := *name
+		return &part.Name{Name: name.Name, Moved: []string{part.MovedUnscanned}, Waits: &waits}
 	}
-	return made
+	return name
 }
 
 // union gives all of both, each once.
 func union(one, other []string) []string {
-	made := append([]string{}, one...)
+	words := append([]string{}, one...)
 	for _, word := range other {
-		if !slices.Contains(made, word) {
-			made = append(made, word)
+		if !slices.Contains(words, word) {
+			words = append(words, word)
 		}
 	}
-	return made
+	return words
 }

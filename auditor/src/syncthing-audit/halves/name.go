@@ -51,13 +51,13 @@ func (s *Stream) hashOf(name string) part.Bytes {
 
 // ignored gives why a name that is ignored is left out: for that alone, and for what else is wrong with its record.
 func ignored(name *part.Name) []part.LeftOut {
-	made := []part.LeftOut{}
+	left := []part.LeftOut{}
 	for _, out := range name.Out {
 		if out.Kind != part.Unknown && out.Kind != part.Ignored {
-			made = append(made, out)
+			left = append(left, out)
 		}
 	}
-	return append(made, part.LeftOut{Kind: part.Ignored, Why: part.WhyIgnored, Bytes: sizeOf(name)})
+	return append(left, part.LeftOut{Kind: part.Ignored, Why: part.WhyIgnored, Bytes: sizeOf(name)})
 }
 
 // sizeOf gives the bytes of a name's file on the disk, or as it is recorded.

@@ -6,14 +6,14 @@ import "syncthing-audit/part"
 // the folder 'default' that Syncthing makes. There is nothing on another device with which such a folder could be in step or not. What its
 // device's index and disk say is compared.
 func (f *Folder) split() []*Folder {
-	made := []*Folder{}
+	folders := []*Folder{}
 	for _, member := range f.Members {
 		if len(member.About.Sharing) > 0 {
 			return []*Folder{f}
 		}
-		made = append(made, &Folder{ID: f.ID, Label: member.About.Label, Members: []Member{member}, Own: member.Head.Device})
+		folders = append(folders, &Folder{ID: f.ID, Label: member.About.Label, Members: []Member{member}, Own: member.Head.Device})
 	}
-	return made
+	return folders
 }
 
 // ByChance is the id of the folder that Syncthing makes on each device. Other ids it draws at random, so devices have one in common only

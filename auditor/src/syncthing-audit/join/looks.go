@@ -45,20 +45,20 @@ func checkTwoLooks(device, other *Device) error {
 
 // outOfOrder gives the members of which one's second look may have begun before another one's first look was over. It can't name that look then.
 func outOfOrder(folder *Folder) []odds {
-	made := []odds{}
+	found := []odds{}
 	for _, member := range folder.Members {
 		for _, other := range folder.Members {
 			if member.Head.Look == nil || other.Head.Look == nil || member.Head.Look.After[other.Head.Device] == other.Head.Look.ID {
 				continue
 			}
-			made = append(made, odds{member.Head.Device, other.Head.Device,
+			found = append(found, odds{member.Head.Device, other.Head.Device,
 				"its second look has no token of the first look of " + other.Label() +
 					", so it may have begun before that was over: make the second look of this one anew, with the tokens of all",
 				"the second look of " + member.Label() + " has no token of its first look, so that one may have begun before this one was over: make the second look " +
 					"of that one anew, with the tokens of all"})
 		}
 	}
-	return made
+	return found
 }
 
 // ErrClocks says that the devices' clocks differ by more than the time between the looks.

@@ -53,33 +53,33 @@ func NewPlanWithout(unreached map[string]string, devices []*Device, wanted []str
 	if err != nil {
 		return nil, err
 	}
-	made := &Plan{Devices: devices, IsByName: len(wanted) > 0, isOut: map[placeOfFolder]bool{}, unreached: unreached, Observers: observers}
-	made.leaveOutAway(wanted)
+	plan := &Plan{Devices: devices, IsByName: len(wanted) > 0, isOut: map[placeOfFolder]bool{}, unreached: unreached, Observers: observers}
+	plan.leaveOutAway(wanted)
 	for _, id := range ids {
-		for _, folder := range made.foldersOf(id) {
-			made.checkOwn(folder)
-			if made.check(folder) {
-				made.Folders = append(made.Folders, folder)
+		for _, folder := range plan.foldersOf(id) {
+			plan.checkOwn(folder)
+			if plan.check(folder) {
+				plan.Folders = append(plan.Folders, folder)
 			}
 		}
 	}
-	has := made.places()
+	has := plan.places()
 	for _, device := range devices {
 		id := device.Head.Device
 		device.Choose(func(folder string) bool { return has[placeOfFolder{folder, id}] })
 	}
-	return made, checkDirectories(made.Folders)
+	return plan, checkDirectories(plan.Folders)
 }
 
 // places gives where folders are audited.
 func (p *Plan) places() map[placeOfFolder]bool {
-	made := map[placeOfFolder]bool{}
+	all := map[placeOfFolder]bool{}
 	for _, folder := range p.Folders {
 		for _, member := range folder.Members {
-			made[placeOfFolder{folder.ID, member.Head.Device}] = true
+			all[placeOfFolder{folder.ID, member.Head.Device}] = true
 		}
 	}
-	return made
+	return all
 }
 
 // checkDevices says whether two parts are one device's, or were made with other names.
@@ -125,16 +125,16 @@ func chosen(devices []*Device, wanted []string) ([]string, error) {
 
 // foldersOf gives the folder of an id with its devices, or each device's own.
 func (p *Plan) foldersOf(id string) []*Folder {
-	made := &Folder{ID: id}
+	folder := &Folder{ID: id}
 	for _, device := range p.Devices {
 		if about := device.Head.Folder(id); about != nil {
-			made.Members = append(made.Members, Member{Device: device.in(about), About: about})
-			if made.Label == "" {
-				made.Label = about.Label
+			folder.Members = append(folder.Members, Member{Device: device.in(about), About: about})
+			if folder.Label == "" {
+				folder.Label = about.Label
 			}
 		}
 	}
-	return made.split()
+	return folder.split()
 }
 
 // check leaves out what can't be audited of a folder, and says whether something of it is audited.

@@ -62,17 +62,17 @@ func (f *Folder) links(device string) int {
 
 // oneWay gives the members of which one shares the folder with another that doesn't share it back.
 func oneWay(folder *Folder) []odds {
-	made := []odds{}
+	found := []odds{}
 	for _, member := range folder.Members {
 		for _, other := range folder.Members {
 			if sharesWith(member.About, other.Head.Device) && !sharesWith(other.About, member.Head.Device) && member.Device != other.Device {
-				made = append(made, odds{other.Head.Device, member.Head.Device,
+				found = append(found, odds{other.Head.Device, member.Head.Device,
 					"it doesn't share the folder with " + member.Label() + ", which shares it with this one",
 					"it shares the folder with " + other.Label() + ", which doesn't share it with this one"})
 			}
 		}
 	}
-	return made
+	return found
 }
 
 // whyAbsent says why there is no part of a device.

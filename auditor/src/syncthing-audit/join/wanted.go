@@ -25,28 +25,28 @@ func CheckWanted(labels map[string]string, wanted []string) error {
 
 // idsWith gives the ids of the folders with this label, rising.
 func idsWith(labels map[string]string, label string) []string {
-	made := []string{}
+	ids := []string{}
 	for id, called := range labels {
 		if called == label {
-			made = append(made, shell.Quoted(id))
+			ids = append(ids, shell.Quoted(id))
 		}
 	}
-	sort.Strings(made)
-	return made
+	sort.Strings(ids)
+	return ids
 }
 
 // idsOf tells all ids with their labels, rising.
 func idsOf(labels map[string]string) string {
-	made := []string{}
+	ids := []string{}
 	for id, label := range labels {
-		made = append(made, shell.Folder(id, label))
+		ids = append(ids, shell.Folder(id, label))
 	}
-	if len(made) == 0 {
+	if len(ids) == 0 {
 		return "there is no folder"
 	}
-	if len(made) == 1 {
-		return "the only one is " + made[0]
+	if len(ids) == 1 {
+		return "the only one is " + ids[0]
 	}
-	sort.Strings(made)
-	return "there are " + strings.Join(made, ", ")
+	sort.Strings(ids)
+	return "there are " + strings.Join(ids, ", ")
 }

@@ -60,11 +60,11 @@ func (m *Member) dropsFromOthers(name string) bool {
 
 // namedByOthers gives a name that a member has in its views alone. Where the member's patterns are known, they may keep it out of the folder there.
 func (m *Member) namedByOthers(name string) *part.Name {
-	made := &part.Name{Name: part.Bytes(name)}
+	told := &part.Name{Name: part.Bytes(name)}
 	if stream, is := m.Stream.(interface{ IsIgnored(name string) bool }); is && stream.IsIgnored(name) {
-		made.Out = []part.LeftOut{{Kind: part.Ignored, Why: part.WhyIgnored}}
+		told.Out = []part.LeftOut{{Kind: part.Ignored, Why: part.WhyIgnored}}
 	}
-	return made
+	return told
 }
 
 // fillDisk gives a name of what isn't seen of its disk what is recorded there. What is seen and isn't as recorded waits for a scan, as at each device
@@ -90,14 +90,14 @@ func (m *Member) fillDisk(name *part.Name) {
 
 // asRecorded gives what is recorded of a name in place of what stands on the disk, which isn't seen.
 func (m *Member) asRecorded(own *part.Record) *part.Node {
-	made := &part.Node{Type: own.Type, ModifiedS: own.ModifiedS, ModifiedNs: own.ModifiedNs, Target: own.Target, Permissions: permissionsOf(own)}
+	node := &part.Node{Type: own.Type, ModifiedS: own.ModifiedS, ModifiedNs: own.ModifiedNs, Target: own.Target, Permissions: permissionsOf(own)}
 	if own.Content == nil {
 		m.Unseen.Standing++
-		return made
+		return node
 	}
 	m.Unseen.Unread++
-	made.Size, made.Contents = own.Content.Size, []part.Content{*own.Content}
-	return made
+	node.Size, node.Contents = own.Content.Size, []part.Content{*own.Content}
+	return node
 }
 
 func permissionsOf(own *part.Record) uint32 {
@@ -112,11 +112,11 @@ func (d *Device) in(folder *part.Folder) *Device {
 	if d.Head.Wire == nil || len(d.Head.Folders) < 2 || d.Head.Wire.WentBackFrom == folder.WentBackFrom {
 		return d
 	}
-	made, head, wire := *d, *d.Head, *d.Head.Wire
+	device, head, wire := *d, *d.Head, *d.Head.Wire
 	wire.WentBackFrom = folder.WentBackFrom
 	head.Wire = &wire
-	made.Head = &head
-	return &made
+	device.Head = &head
+	return &device
 }
 
 // kindWithout gives the kind of what is left out where a device's part is without a folder that another one shares with it.
@@ -141,16 +141,16 @@ func (d *Device) whyUnseen(folder string) string {
 
 // observers gives the devices that made parts over the wire. They share the folders, and keep none of their files.
 func observers(devices []*Device, known []string) map[string]bool {
-	made := map[string]bool{}
+	ids := map[string]bool{}
 	for _, id := range known {
-		made[id] = true
+		ids[id] = true
 	}
 	for _, device := range devices {
 		if device.Head.Wire != nil {
-			made[device.Head.Wire.Observer] = true
+			ids[device.Head.Wire.Observer] = true
 		}
 	}
-	return made
+	return ids
 }
 
 // Observer is a device that shares a folder and keeps no files of it.
@@ -163,7 +163,7 @@ func takeOutObservers(devices []*Device, known []string) []Observer {
 	if len(all) == 0 {
 		return nil
 	}
-	made := []Observer{}
+	taken := []Observer{}
 	for _, device := range devices {
 		for place := range device.Head.Folders {
 			folder := &device.Head.Folders[place]
@@ -171,8 +171,8 @@ func takeOutObservers(devices []*Device, known []string) []Observer {
 			for _, other := range folder.Sharing {
 				if !all[other.Device] {
 					kept = append(kept, other)
-				} else if isNew := slices.IndexFunc(made, func(had Observer) bool { return had.Folder == folder.ID && had.Device == other.Device }) < 0; isNew {
-					made = append(made, Observer{folder.ID, other.Device, other.Name})
+				} else if isNew := slices.IndexFunc(taken, func(had Observer) bool { return had.Folder == folder.ID && had.Device == other.Device }) < 0; isNew {
+					taken = append(taken, Observer{folder.ID, other.Device, other.Name})
 				}
 			}
 			folder.Sharing = kept
@@ -182,7 +182,7 @@ func takeOutObservers(devices []*Device, known []string) []Observer {
 			device.Head.Others[place].Devices = without(device.Head.Others[place].Devices, all)
 		}
 	}
-	return made
+	return taken
 }
 
 // without gives the devices but for these.
@@ -190,11 +190,11 @@ func without(devices []string, out map[string]bool) []string {
 	if len(devices) == 0 {
 		return devices
 	}
-	made := []string{}
+	left := []string{}
 	for _, device := range devices {
 		if !out[device] {
-			made = append(made, device)
+			left = append(left, device)
 		}
 	}
-	return made
+	return left
 }

@@ -40,20 +40,20 @@ func (s *Stream) joinFolders() {
 
 // lack notes a folder that isn't joined, with why. Where the other look was without it since it was away, that is why.
 func (s *Stream) lack(folder *part.Folder, other *part.Head, why error) {
-	made := part.Other{ID: folder.ID, Label: folder.Label, Devices: []string{}, Apart: why.Error()}
+	lacking := part.Other{ID: folder.ID, Label: folder.Label, Devices: []string{}, Apart: why.Error()}
 	if away := other.Other(folder.ID); away != nil && away.Away != "" {
-		made = *away
+		lacking = *away
 	}
 	for _, sharing := range folder.Sharing {
-		made.Devices = append(made.Devices, sharing.Device)
+		lacking.Devices = append(lacking.Devices, sharing.Device)
 	}
 	for place := range s.head.Others {
 		if s.head.Others[place].ID == folder.ID {
-			s.head.Others[place] = made
+			s.head.Others[place] = lacking
 			return
 		}
 	}
-	s.head.Others = append(s.head.Others, made)
+	s.head.Others = append(s.head.Others, lacking)
 }
 
 // next gives the next line of the folders that are joined, without taking it.

@@ -39,12 +39,12 @@ func Join(first, second part.Stream) (*Stream, error) {
 		return nil, fmt.Errorf("the first look is at %s, and the second one at %s: make both with the same %s", one.Names.Words(), other.Names.Words(),
 			one.Unlike(other.Names))
 	}
-	made := &Stream{first: &reading{part.NewPeeking(first)}, second: &reading{part.NewPeeking(second)}, folder: -1}
+	stream := &Stream{first: &reading{part.NewPeeking(first)}, second: &reading{part.NewPeeking(second)}, folder: -1}
 	head := *one
 	head.Look = &part.Look{Home: one.Look.Home, ID: one.Look.ID, After: other.Look.After, At: one.Look.At, Ended: other.Look.At}
-	made.head = &head
-	made.joinFolders()
-	return made, nil
+	stream.head = &head
+	stream.joinFolders()
+	return stream, nil
 }
 
 // joinFolder joins what the heads of two looks say of a folder. Its own greatest sequence is that of the second look. The
@@ -60,20 +60,20 @@ func joinFolder(folder, other *part.Folder) (*part.Folder, error) {
 		!reflect.DeepEqual(folder.Sharing, other.Sharing):
 		return nil, errors.New("its configuration changed between the two looks: begin again")
 	}
-	made := *folder
-	made.Max, made.Paused, made.PausedDevices, made.Rest = other.Max, other.Paused, other.PausedDevices, other.Rest
-	made.Views = append([]part.View{}, folder.Views...)
+	joined := *folder
+	joined.Max, joined.Paused, joined.PausedDevices, joined.Rest = other.Max, other.Paused, other.PausedDevices, other.Rest
+	joined.Views = append([]part.View{}, folder.Views...)
 	for _, view := range other.Views {
-		at := slices.IndexFunc(made.Views, func(had part.View) bool { return had.Device == view.Device })
+		at := slices.IndexFunc(joined.Views, func(had part.View) bool { return had.Device == view.Device })
 		if at < 0 {
-			at = len(made.Views)
-			made.Views = append(made.Views, part.View{Device: view.Device})
+			at = len(joined.Views)
+			joined.Views = append(joined.Views, part.View{Device: view.Device})
 		}
-		if made.Views[at].IndexID == view.IndexID {
-			made.Views[at].Heard = view.Max
+		if joined.Views[at].IndexID == view.IndexID {
+			joined.Views[at].Heard = view.Max
 		}
 	}
-	return &made, nil
+	return &joined, nil
 }
 
 // Head gives the head of both looks.
@@ -138,17 +138,17 @@ func onlyOnce(name *part.Name) *part.Name {
 	if lost := lostBy(name); len(lost) > 0 {
 		return &part.Name{Name: name.Name, Out: lost}
 	}
-	made := &part.Name{Name: name.Name, Moved: name.Moved}
+	told := &part.Name{Name: name.Name, Moved: name.Moved}
 	add := func(is bool, why string) {
-		if is && !slices.Contains(made.Moved, why) {
-			made.Moved = append(made.Moved, why)
+		if is && !slices.Contains(told.Moved, why) {
+			told.Moved = append(told.Moved, why)
 		}
 	}
 	add(name.Own != nil, part.MovedRecord)
 	add(len(name.Views) > 0, part.MovedViews)
 	add(name.Receiving != "", part.MovedReceiving)
-	add(name.Disk != nil || len(made.Moved) == 0, part.MovedDisk)
-	return made
+	add(name.Disk != nil || len(told.Moved) == 0, part.MovedDisk)
+	return told
 }
 
 // lostBy gives what a disk itself fails to give of a name. Nobody's change does that, so such a name isn't in motion.
@@ -168,11 +168,11 @@ func (s *Stream) both(name, other *part.Name) *part.Name {
 		return s.still(name)
 	}
 	if first, second := lostBy(name), lostBy(other); len(first)+len(second) > 0 {
-		made := s.still(name)
-		if made.Moved = nil; !name.IsDamaged() {
-			made.Out = append(append([]part.LeftOut(nil), name.Out...), second...)
+		told := s.still(name)
+		if told.Moved = nil; !name.IsDamaged() {
+			told.Out = append(append([]part.LeftOut(nil), name.Out...), second...)
 		}
-		return made
+		return told
 	}
 	moved := append([]string(nil), name.Moved...)
 	add := func(is bool, why string) {
@@ -199,24 +199,24 @@ func (s *Stream) both(name, other *part.Name) *part.Name {
 
 // waiting gives the record and the disk of a name whose disk is the same at both looks, and isn't as the last record says. It gives nothing of others.
 func (s *Stream) waiting(name, other *part.Name) *part.Name {
-	made := s.still(&part.Name{Name: name.Name, Own: other.Own, Disk: name.Disk})
+	told := s.still(&part.Name{Name: name.Name, Own: other.Own, Disk: name.Disk})
 	isKnown := len(name.Moved)+len(other.Moved)+len(name.Out)+len(other.Out) == 0 && name.Disk.Mark() == other.Disk.Mark()
-	if !isKnown || made.IsAsRecorded(s.head.Folders[s.folder].Window()) {
+	if !isKnown || told.IsAsRecorded(s.head.Folders[s.folder].Window()) {
 		return nil
 	}
-	return made
+	return told
 }
 
 // still gives a name of the first look as both looks have it.
 func (s *Stream) still(name *part.Name) *part.Name {
-	made := *name
-	made.Receiving = ""
-	if made.Disk != nil {
-		node := *made.Disk
+	told := *name
+	told.Receiving = ""
+	if told.Disk != nil {
+		node := *told.Disk
 		node.Stamp = ""
-		made.Disk = &node
+		told.Disk = &node
 	}
-	return &made
+	return &told
 }
 
 // seen is a record in a view, with the index that it is of.
@@ -227,25 +227,25 @@ type seen struct {
 
 // viewsOf gives the records of a name's views, by device.
 func (r *reading) viewsOf(name *part.Name, folder string) map[string]seen {
-	made := map[string]seen{}
+	views := map[string]seen{}
 	for _, view := range name.Views {
 		of := r.Head().Folder(folder).Views[view.View]
-		made[of.Device] = seen{of.IndexID, *view.Record}
+		views[of.Device] = seen{of.IndexID, *view.Record}
 	}
-	return made
+	return views
 }
 
 // isOutAlike says whether both looks leave a name out for the same reasons. Only the first one reads files, so what can't
 // be read is told by it alone.
 func isOutAlike(name, other *part.Name) bool {
 	reasons := func(of *part.Name) [][2]string {
-		made := [][2]string{}
+		texts := [][2]string{}
 		for _, out := range of.Out {
 			if out.Kind != part.Unreadable || of.Disk == nil {
-				made = append(made, [2]string{out.Kind, out.Why})
+				texts = append(texts, [2]string{out.Kind, out.Why})
 			}
 		}
-		return made
+		return texts
 	}
 	return reflect.DeepEqual(reasons(name), reasons(other))
 }

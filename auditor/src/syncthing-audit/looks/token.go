@@ -19,11 +19,11 @@ const bytesOfID = 16
 
 // NewID gives the id of a first look that is over.
 func NewID() (string, error) {
-	made := make([]byte, bytesOfID)
-	if _, err := rand.Read(made); err != nil {
+	id := make([]byte, bytesOfID)
+	if _, err := rand.Read(id); err != nil {
 		return "", err
 	}
-	return hex.EncodeToString(made), nil
+	return hex.EncodeToString(id), nil
 }
 
 // Token gives what a first look leaves behind for the second ones: its device and its id.

@@ -44,14 +44,14 @@ func (p *planner) checked(group *forecast.World, hands []hand, steps [][]advice.
 	if isLoss {
 		return nil
 	}
-	made := map[int]*Plan{}
+	plans := map[int]*Plan{}
 	for at, hand := range hands {
 		mine := *found
 		mine.Steps = steps[at]
-		made[hand.place] = planOf(group, hand, &mine, p.damage)
+		plans[hand.place] = planOf(group, hand, &mine, p.damage)
 	}
-	saveRotten(made, rotten)
-	return made
+	saveRotten(plans, rotten)
+	return plans
 }
 
 // touches gives what is wanted a new time where it stands.
@@ -72,21 +72,21 @@ func copies(world *forecast.World, goal advice.Goal) []advice.Step {
 			from = member
 		}
 	}
-	var made []advice.Step
+	var steps []advice.Step
 	for member, what := range disks {
 		if from >= 0 && (what == nil || !isSameNode(what, goal.Node)) && world.HasRoom(member, goal.Name) {
-			made = append(made, advice.Step{Act: advice.Copy, Device: member, From: from, Name: goal.Name})
+			steps = append(steps, advice.Step{Act: advice.Copy, Device: member, From: from, Name: goal.Name})
 		}
 	}
-	return made
+	return steps
 }
 
 func nodesAt(world *forecast.World, name string) []*forecast.Node {
-	var made []*forecast.Node
+	var nodes []*forecast.Node
 	for member := range world.Devices {
-		made = append(made, world.At(member, name))
+		nodes = append(nodes, world.At(member, name))
 	}
-	return made
+	return nodes
 }
 
 func isSameNode(a, b *forecast.Node) bool { return thingOf(a).isSame(thingOf(b)) }

@@ -182,13 +182,13 @@ func has(things []Thing, thing *Thing) bool {
 
 // all gives them in the order of their devices.
 func (c *choices) all() []Choice {
-	var made []Choice
+	var choices []Choice
 	for member := 0; member < 32; member++ {
 		for _, step := range c.order {
 			if choice := c.found[step]; step.Member == member && choice.Names+choice.Unknown > 0 {
-				made = append(made, *c.found[step])
+				choices = append(choices, *c.found[step])
 			}
 		}
 	}
-	return made
+	return choices
 }

@@ -58,37 +58,37 @@ func recordedOf(name *forecast.Name, told *Name) *forecast.Node {
 // comesTo gives what stands at a name now and in the end on most devices that don't keep it otherwise than others. A device takes rotten bytes of
 // its own to a name that another one gave them: so what it recorded there before isn't what is to stand there.
 func comesTo(name *forecast.Name, told *Name) *forecast.Node {
-	var made *forecast.Node
+	var there *forecast.Node
 	most := 0
 	for place := range told.Ends[0] {
 		thing := &told.Ends[0][place]
 		isKept := slices.IndexFunc(told.Kept, func(kept Kept) bool { return slices.Contains(thing.Members, kept.Member) }) >= 0
 		if node := nodeOf(name, thing); node != nil && !thing.IsCopy && !isKept && len(thing.Members) > most {
-			made, most = node, len(thing.Members)
+			there, most = node, len(thing.Members)
 		}
 	}
-	return made
+	return there
 }
 
 // lastRecorded gives that of some things which is recorded, and after which none of the others was. It gives nothing where a later change was recorded
 // whose bytes are on no disk, or that has none: nobody can tell what is right.
 func lastRecorded(name *forecast.Name, things []Thing) *forecast.Node {
 	var found *forecast.Record
-	var made *forecast.Node
+	var node *forecast.Node
 	for place := range things {
 		for _, own := range name.Own {
 			if own != nil && own.Flag == forecast.Valid && isOf(own, &things[place]) && own.Type != forecast.Directory && (found == nil || found.IsBelow(own)) {
-				found, made = own, nodeOf(name, &things[place])
+				found, node = own, nodeOf(name, &things[place])
 			}
 		}
 	}
 	for _, own := range name.Own {
 		if found != nil && own != nil && own.Flag == forecast.Valid && !own.Deleted && found.IsBelow(own) &&
-			(nodeOf(name, thingOfRecord(own)) == nil || isEmptied(own, thingOf(made))) {
+			(nodeOf(name, thingOfRecord(own)) == nil || isEmptied(own, thingOf(node))) {
 			return nil
 		}
 	}
-	return made
+	return node
 }
 
 func nodeOf(name *forecast.Name, thing *Thing) *forecast.Node {
@@ -103,16 +103,16 @@ func nodeOf(name *forecast.Name, thing *Thing) *forecast.Node {
 // laterOf gives what stands at a name now and at some of its ends, and was modified last: of several ends that is what Syncthing itself keeps of two
 // changes. Nothing stands there at an end in which a deletion came first.
 func laterOf(name *forecast.Name, told *Name) *forecast.Node {
-	var made *forecast.Node
+	var later *forecast.Node
 	for _, end := range told.Ends {
 		for place := range end {
 			node := nodeOf(name, &end[place])
-			if node != nil && !end[place].IsCopy && (made == nil || node.Time > made.Time) {
-				made = node
+			if node != nil && !end[place].IsCopy && (later == nil || node.Time > later.Time) {
+				later = node
 			}
 		}
 	}
-	return made
+	return later
 }
 
 // holdsLost says whether a name is a directory on some devices and not on others, and something below it is lost: that needs the directory first.

@@ -21,23 +21,23 @@ type judge struct {
 }
 
 func newJudge(group *forecast.World, answer *forecast.Answer, damaged map[string][]damage.Kind) *judge {
-	made := &judge{group: group, answer: answer, damage: damaged}
+	j := &judge{group: group, answer: answer, damage: damaged}
 	for place := range answer.Ends {
 		end := &answer.Ends[place]
-		made.ends = append(made.ends, thingsOf(end))
-		made.bytes = append(made.bytes, bytesOf(end))
-		made.sure = append(made.sure, sureBytesOf(made.ends[place]))
-		made.kept = append(made.kept, keptOf(end))
+		j.ends = append(j.ends, thingsOf(end))
+		j.bytes = append(j.bytes, bytesOf(end))
+		j.sure = append(j.sure, sureBytesOf(j.ends[place]))
+		j.kept = append(j.kept, keptOf(end))
 	}
-	return made
+	return j
 }
 
 // thingsOf gives what stands at each name at an end. The same thing on several devices stands once.
 func thingsOf(end *forecast.End) map[string][]Thing {
-	made := map[string][]Thing{}
+	standing := map[string][]Thing{}
 	for member, disk := range end.Disks {
 		for _, place := range disk {
-			things := made[place.Name]
+			things := standing[place.Name]
 			thing := Thing{Type: place.Node.Type, Content: place.Node.Content, Target: part.Bytes(place.Node.Target), Time: place.Node.Time, IsCopy: place.IsCopy}
 			found := false
 			for at := range things {
@@ -49,13 +49,13 @@ func thingsOf(end *forecast.End) map[string][]Thing {
 				thing.Members = []int{member}
 				things = append(things, thing)
 			}
-			made[place.Name] = things
+			standing[place.Name] = things
 		}
 	}
-	for _, things := range made {
+	for _, things := range standing {
 		sort.SliceStable(things, func(a, b int) bool { return things[a].isBefore(&things[b]) })
 	}
-	return made
+	return standing
 }
 
 // isSame says whether two things are one, whatever their times.
@@ -74,53 +74,53 @@ func (t *Thing) isBefore(other *Thing) bool {
 }
 
 func bytesOf(end *forecast.End) map[forecast.Content]bool {
-	made := map[forecast.Content]bool{}
+	contents := map[forecast.Content]bool{}
 	for _, disk := range end.Disks {
 		for _, place := range disk {
-			made[place.Node.Content] = true
+			contents[place.Node.Content] = true
 		}
 	}
-	return made
+	return contents
 }
 
 func keptOf(end *forecast.End) map[string]map[int]forecast.Why {
-	made := map[string]map[int]forecast.Why{}
+	kept := map[string]map[int]forecast.Why{}
 	for _, all := range [][]forecast.Stuck{end.Apart, end.Stuck} {
 		for _, stuck := range all {
-			if made[stuck.Name] == nil {
-				made[stuck.Name] = map[int]forecast.Why{}
+			if kept[stuck.Name] == nil {
+				kept[stuck.Name] = map[int]forecast.Why{}
 			}
-			made[stuck.Name][stuck.Device] = stuck.Why
+			kept[stuck.Name][stuck.Device] = stuck.Why
 		}
 	}
-	return made
+	return kept
 }
 
 // name says what becomes of a name.
 func (j *judge) name(name *forecast.Name) Name {
-	made := Name{Name: part.Bytes(name.Name), IsAll: j.answer.IsAll, Ends: j.endsOf(name), Loses: j.losesOf(name), Kept: j.keptOf(name), Now: thingsNow(name)}
-	made.certain = j.losesWithoutMeeting(name, made.Loses)
-	made.deleted = j.deletedOf(name, made.Ends)
+	told := Name{Name: part.Bytes(name.Name), IsAll: j.answer.IsAll, Ends: j.endsOf(name), Loses: j.losesOf(name), Kept: j.keptOf(name), Now: thingsNow(name)}
+	told.certain = j.losesWithoutMeeting(name, told.Loses)
+	told.deleted = j.deletedOf(name, told.Ends)
 	switch {
-	case len(made.Loses) > 0:
-		made.Fate = Lost
-	case len(made.Ends) > 1:
-		made.Fate = Depends
-	case len(made.Kept) > 0:
-		made.Fate = Stays
+	case len(told.Loses) > 0:
+		told.Fate = Lost
+	case len(told.Ends) > 1:
+		told.Fate = Depends
+	case len(told.Kept) > 0:
+		told.Fate = Stays
 	case j.goesBy(name, byUnscanned):
-		made.Fate = Changed
-	case len(made.Ends[0]) == 0 && isOnSomeDisk(name):
-		made.Fate = Deleted
+		told.Fate = Changed
+	case len(told.Ends[0]) == 0 && isOnSomeDisk(name):
+		told.Fate = Deleted
 	default:
-		made.Fate = ByItself
+		told.Fate = ByItself
 	}
-	return made
+	return told
 }
 
 // endsOf gives the different ends of a name.
 func (j *judge) endsOf(name *forecast.Name) [][]Thing {
-	var made [][]Thing
+	var ends [][]Thing
 	seen := map[string]bool{}
 	for _, end := range j.ends {
 		for _, things := range withMeetings(end[name.Name]) {
@@ -130,11 +130,11 @@ func (j *judge) endsOf(name *forecast.Name) [][]Thing {
 			}
 			if !seen[key] {
 				seen[key] = true
-				made = append(made, things)
+				ends = append(ends, things)
 			}
 		}
 	}
-	return made
+	return ends
 }
 
 // keptOf gives why devices keep a name otherwise than others, at some end: where they end with one thing all of it is well, unless these are other bytes
@@ -155,13 +155,13 @@ func (j *judge) keptOf(name *forecast.Name) []Kept {
 			}
 		}
 	}
-	var made []Kept
+	var all []Kept
 	for member := range name.Disk {
 		if why, is := found[member]; is {
-			made = append(made, Kept{member, why})
+			all = append(all, Kept{member, why})
 		}
 	}
-	return made
+	return all
 }
 
 func hasUnseen(kept map[int]forecast.Why) bool {
@@ -204,7 +204,7 @@ func (j *judge) minority(things []Thing, devices int) []int {
 			most = place
 		}
 	}
-	var made []int
+	var few []int
 	for member := 0; member < devices; member++ {
 		has := false
 		if most >= 0 && len(things[most].Members) >= left {
@@ -215,10 +215,10 @@ func (j *judge) minority(things []Thing, devices int) []int {
 			has = !stands(things, member)
 		}
 		if !has {
-			made = append(made, member)
+			few = append(few, member)
 		}
 	}
-	return made
+	return few
 }
 
 func stands(things []Thing, member int) bool {
@@ -262,9 +262,9 @@ func (j *judge) staysAsItIs(name *forecast.Name, told *Name) bool {
 }
 
 func thingOf(what *forecast.Node) *Thing {
-	made := &Thing{Type: what.Type, Content: what.Content, Target: part.Bytes(what.Target)}
+	thing := &Thing{Type: what.Type, Content: what.Content, Target: part.Bytes(what.Target)}
 	if what.Type == forecast.File {
-		made.Time = what.Time
+		thing.Time = what.Time
 	}
-	return made
+	return thing
 }

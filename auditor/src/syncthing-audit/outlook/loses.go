@@ -18,24 +18,24 @@ const (
 
 // losesOf gives what stands at a name on some disk now and on none at some end, and that nothing recorded replaced.
 func (j *judge) losesOf(name *forecast.Name) []Thing {
-	var made []Thing
+	var lost []Thing
 	for _, thing := range thingsNow(name) {
 		if !j.survives(name.Name, &thing) && j.wayOf(name, &thing) == byNothing {
-			made = append(made, thing)
+			lost = append(lost, thing)
 		}
 	}
-	return made
+	return lost
 }
 
 // deletedOf gives what goes by a recorded deletion: nothing stands at the name at some end.
 func (j *judge) deletedOf(name *forecast.Name, ends [][]Thing) []Thing {
-	var made []Thing
+	var gone []Thing
 	for _, thing := range filesOf(thingsNow(name)) {
 		if slices.IndexFunc(ends, isEmptyEnd) >= 0 && !j.survives(name.Name, &thing) && j.wayOf(name, &thing) == byRecord {
-			made = append(made, thing)
+			gone = append(gone, thing)
 		}
 	}
-	return made
+	return gone
 }
 
 // isEmptyEnd says whether nothing stands at a name but copies.
@@ -55,23 +55,23 @@ func (j *judge) goesBy(name *forecast.Name, by way) bool {
 
 // thingsNow gives what stands at a name now, the same on several devices once.
 func thingsNow(name *forecast.Name) []Thing {
-	var made []Thing
+	var things []Thing
 	for member, what := range name.Disk {
 		if what == nil {
 			continue
 		}
 		thing, found := thingOf(what), false
-		for place := range made {
-			if made[place].isSame(thing) {
-				made[place].Members, found = append(made[place].Members, member), true
+		for place := range things {
+			if things[place].isSame(thing) {
+				things[place].Members, found = append(things[place].Members, member), true
 			}
 		}
 		if !found {
 			thing.Members = []int{member}
-			made = append(made, *thing)
+			things = append(things, *thing)
 		}
 	}
-	return made
+	return things
 }
 
 // survives says whether something stands on some disk at each end, even where conflict copies meet: a file's bytes under any name that hangs together

@@ -11,13 +11,13 @@ import (
 
 // withMeetings gives what stands at a name at an end, and what does where two copies of it met.
 func withMeetings(things []Thing) [][]Thing {
-	made := [][]Thing{things}
+	ends := [][]Thing{things}
 	for at := range things {
 		if mayGoByMeeting(things, at) {
-			made = append(made, append(append([]Thing{}, things[:at]...), things[at+1:]...))
+			ends = append(ends, append(append([]Thing{}, things[:at]...), things[at+1:]...))
 		}
 	}
-	return made
+	return ends
 }
 
 // mayGoByMeeting says whether a thing is a copy, and another copy comes to each device that has it.
@@ -39,24 +39,24 @@ func mayGoByMeeting(things []Thing, at int) bool {
 
 // sureBytesOf gives the bytes at an end that stay there even where copies meet.
 func sureBytesOf(end map[string][]Thing) map[forecast.Content]bool {
-	made := map[forecast.Content]bool{}
+	contents := map[forecast.Content]bool{}
 	for _, things := range end {
 		for at := range things {
 			if !mayGoByMeeting(things, at) {
-				made[things[at].Content] = true
+				contents[things[at].Content] = true
 			}
 		}
 	}
-	return made
+	return contents
 }
 
 // losesWithoutMeeting gives what is lost of a name where no copies meet, too.
 func (j *judge) losesWithoutMeeting(name *forecast.Name, loses []Thing) []Thing {
-	var made []Thing
+	var lost []Thing
 	for place := range loses {
 		if !j.staysIn(j.bytes, name.Name, &loses[place], func([]Thing, int) bool { return true }) {
-			made = append(made, loses[place])
+			lost = append(lost, loses[place])
 		}
 	}
-	return made
+	return lost
 }

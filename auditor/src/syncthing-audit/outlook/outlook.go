@@ -96,18 +96,18 @@ func NewForeteller(budget forecast.Budget, present int64) *Foreteller {
 
 // Of gives what becomes of the names of a folder's rows, and what to do about those that need a hand.
 func (f *Foreteller) Of(rows *read.Rows) *Outlook {
-	made := &teller{rows: rows, planner: f.planner, choices: newChoices(f.forecaster, rows.Damage), outlook: &Outlook{Count: map[Fate]int64{}}, unknown: map[read.Why]int64{},
+	t := &teller{rows: rows, planner: f.planner, choices: newChoices(f.forecaster, rows.Damage), outlook: &Outlook{Count: map[Fate]int64{}}, unknown: map[read.Why]int64{},
 		kept: map[Kept]int64{}}
 	for _, group := range rows.World().Groups() {
-		made.group(group, f.forecaster)
+		t.group(group, f.forecaster)
 	}
-	made.plan()
+	t.plan()
 	for why, count := range rows.Count {
-		made.outlook.Count[Unknown] += count
-		made.outlook.Names += count
-		made.unknown[why] += count
+		t.outlook.Count[Unknown] += count
+		t.outlook.Names += count
+		t.unknown[why] += count
 	}
-	return made.end()
+	return t.end()
 }
 
 type teller struct {
@@ -152,13 +152,13 @@ func (t *teller) group(group forecast.World, forecaster *forecast.Forecaster) {
 		t.addUnknown(&group, why)
 		return
 	}
-	made := toldGroup{group: group}
-	made.judge = newJudge(&made.group, &answer, t.rows.Damage)
+	told := toldGroup{group: group}
+	told.judge = newJudge(&told.group, &answer, t.rows.Damage)
 	for place := range group.Names {
-		made.names = append(made.names, made.judge.name(&group.Names[place]))
+		told.names = append(told.names, told.judge.name(&group.Names[place]))
 	}
-	t.choices.take(&group, made.names, made.judge)
-	t.groups = append(t.groups, made)
+	t.choices.take(&group, told.names, told.judge)
+	t.groups = append(t.groups, told)
 }
 
 // whyUnknown gives why nothing is foretold of names that hang together, by what is known of them.
@@ -217,7 +217,7 @@ func (t *teller) add(told Name) {
 
 // end sorts what was told.
 func (t *teller) end() *Outlook {
-	made := t.outlook
+	outlook := t.outlook
 	for why, count := range t.unknown {
 		group := Group{Why: string(why), Names: count}
 		for _, all := range t.rows.All {
@@ -225,20 +225,20 @@ func (t *teller) end() *Outlook {
 				group.Members = all.Members
 			}
 		}
-		made.Unknown = append(made.Unknown, group)
+		outlook.Unknown = append(outlook.Unknown, group)
 	}
 	for kept, count := range t.kept {
-		made.Kept = append(made.Kept, Group{Why: WhyKept[kept.Why], Members: []int{kept.Member}, Names: count})
+		outlook.Kept = append(outlook.Kept, Group{Why: WhyKept[kept.Why], Members: []int{kept.Member}, Names: count})
 	}
-	for _, groups := range [][]Group{made.Unknown, made.Kept} {
+	for _, groups := range [][]Group{outlook.Unknown, outlook.Kept} {
 		sort.Slice(groups, func(a, b int) bool { return groups[a].isBefore(&groups[b]) })
 	}
-	sort.SliceStable(made.Listed, func(a, b int) bool { return made.Listed[a].isBefore(&made.Listed[b]) })
-	made.Plans, made.Choices = plansOf(made.Listed), t.choices.all()
-	if len(made.Listed) > MostListed {
-		made.Listed = made.Listed[:MostListed]
+	sort.SliceStable(outlook.Listed, func(a, b int) bool { return outlook.Listed[a].isBefore(&outlook.Listed[b]) })
+	outlook.Plans, outlook.Choices = plansOf(outlook.Listed), t.choices.all()
+	if len(outlook.Listed) > MostListed {
+		outlook.Listed = outlook.Listed[:MostListed]
 	}
-	return made
+	return outlook
 }
 
 func (g *Group) isBefore(other *Group) bool {

@@ -139,13 +139,13 @@ func (p *planner) planAll(group *forecast.World, world forecast.World, goals []a
 
 // lostAnyway gives the bytes that are lost if nobody does anything.
 func lostAnyway(told []Name) map[forecast.Content]bool {
-	made := map[forecast.Content]bool{}
+	contents := map[forecast.Content]bool{}
 	for place := range told {
 		for _, thing := range told[place].Loses {
-			made[thing.Content] = true
+			contents[thing.Content] = true
 		}
 	}
-	return made
+	return contents
 }
 
 // plannedAbove gives the directory above a name that is copied with all below it.
@@ -219,18 +219,18 @@ func best(plans []advice.Plan) *advice.Plan {
 
 // savesOf saves things that are lost else, and what may be right where the record may be the damage. An empty file has nothing to save.
 func savesOf(name *forecast.Name, things []Thing, kinds []damage.Kind) []Step {
-	var made []Step
+	var steps []Step
 	for place := range things {
 		if !things[place].isEmpty() {
-			made = append(made, Step{Act: Save, Member: things[place].Members[0]})
+			steps = append(steps, Step{Act: Save, Member: things[place].Members[0]})
 		}
 	}
 	for member, kind := range kinds {
 		if kind.MayBeOfRecord() && !isAmong(things, thingOf(name.Disk[member])) {
-			made = append(made, Step{Act: Save, Member: member})
+			steps = append(steps, Step{Act: Save, Member: member})
 		}
 	}
-	return made
+	return steps
 }
 
 func isAmong(things []Thing, thing *Thing) bool {
@@ -246,40 +246,40 @@ func (t *Thing) isEmpty() bool { return t.Type == forecast.File && t.Content.Siz
 
 // filesOf leaves directories out: what is below them are names, too.
 func filesOf(things []Thing) []Thing {
-	var made []Thing
+	var files []Thing
 	for _, thing := range things {
 		if thing.Type != forecast.Directory {
-			made = append(made, thing)
+			files = append(files, thing)
 		}
 	}
-	return made
+	return files
 }
 
 var acts = map[advice.Act]Act{advice.Touch: Touch, advice.Copy: Copy, advice.Delete: Delete}
 
 // planOf gives a plan of a name in which what is lost on the way is saved first.
 func planOf(group *forecast.World, hand hand, found *advice.Plan, damaged map[string][]damage.Kind) *Plan {
-	name, made, judge := &group.Names[hand.place], &Plan{IsAll: found.Answer.IsAll}, newJudge(group, &found.Answer, damaged)
+	name, plan, judge := &group.Names[hand.place], &Plan{IsAll: found.Answer.IsAll}, newJudge(group, &found.Answer, damaged)
 	for _, thing := range thingsNow(name) {
 		if thing.isSame(thingOf(hand.goal.Node)) {
 			thing := thing
-			made.Goal = &thing
+			plan.Goal = &thing
 		}
 		if !thing.isEmpty() && !judge.survives(name.Name, &thing) && judge.wayOf(name, &thing) != byRecord {
-			made.Steps = append(made.Steps, Step{Act: Save, Member: thing.Members[0]})
+			plan.Steps = append(plan.Steps, Step{Act: Save, Member: thing.Members[0]})
 		}
 		if judge.isCopyAtAll(name.Name, &thing) {
-			made.Copies = append(made.Copies, thing.Members...)
+			plan.Copies = append(plan.Copies, thing.Members...)
 		}
 	}
 	for _, step := range found.Steps {
-		if step.Act != advice.Touch && !made.does(Save, step.Device) && hasBelow(group, step.Device, name.Name) {
-			made.Steps = append([]Step{{Act: Save, Member: step.Device}}, made.Steps...)
+		if step.Act != advice.Touch && !plan.does(Save, step.Device) && hasBelow(group, step.Device, name.Name) {
+			plan.Steps = append([]Step{{Act: Save, Member: step.Device}}, plan.Steps...)
 		}
-		made.Steps = append(made.Steps, Step{acts[step.Act], step.Device, step.From, step.Act == advice.Copy && name.Disk[step.Device] != nil && !made.does(Delete, step.Device)})
+		plan.Steps = append(plan.Steps, Step{acts[step.Act], step.Device, step.From, step.Act == advice.Copy && name.Disk[step.Device] != nil && !plan.does(Delete, step.Device)})
 	}
-	sort.Ints(made.Copies)
-	return made
+	sort.Ints(plan.Copies)
+	return plan
 }
 
 // does says whether a plan has this step on a device.
@@ -319,7 +319,7 @@ func (j *judge) isCopyAtAll(name string, thing *Thing) bool {
 // plansOf brings names with the same plan together, in their order. Directories come first, those above others before these: nothing is copied below one that
 // isn't there.
 func plansOf(listed []Name) []Plan {
-	places, ofName, made := map[string]int{}, map[string]int{}, []Plan{}
+	places, ofName, plans := map[string]int{}, map[string]int{}, []Plan{}
 	for place := range listed {
 		plan := listed[place].Plan
 		if plan == nil || len(plan.Steps) == 0 {
@@ -331,27 +331,27 @@ func plansOf(listed []Name) []Plan {
 		}
 		at, is := places[key]
 		if !is {
-			at = len(made)
+			at = len(plans)
 			places[key] = at
-			made = append(made, *plan)
-			made[at].Below = 0
+			plans = append(plans, *plan)
+			plans[at].Below = 0
 		}
-		made[at].Count++
-		made[at].Below += plan.Below
+		plans[at].Count++
+		plans[at].Below += plan.Below
 		ofName[string(listed[place].Name)] = at
-		if len(made[at].Names) < MostListed {
-			made[at].Names = append(made[at].Names, listed[place].Name)
+		if len(plans[at].Names) < MostListed {
+			plans[at].Names = append(plans[at].Names, listed[place].Name)
 		}
 	}
 	for place := range listed {
 		if plan := listed[place].Plan; plan != nil && plan.by != "" {
 			if at, is := ofName[plan.by]; is {
-				made[at].Below++
+				plans[at].Below++
 			}
 		}
 	}
-	sort.SliceStable(made, func(a, b int) bool { return made[a].depthOf(made[a].Names[0]) < made[b].depthOf(made[b].Names[0]) })
-	return made
+	sort.SliceStable(plans, func(a, b int) bool { return plans[a].depthOf(plans[a].Names[0]) < plans[b].depthOf(plans[b].Names[0]) })
+	return plans
 }
 
 // depthOf says how far below the folder's root a name stands whose directory is copied. All other names are deeper than any directory.

@@ -102,18 +102,18 @@ func (r *repair) find() {
 
 // order gives the places of the names: directories, and then what is in most danger.
 func (r *repair) order() []int {
-	var made []int
+	var places []int
 	for place := range r.group.Names {
-		made = append(made, place)
+		places = append(places, place)
 	}
-	sort.SliceStable(made, func(a, b int) bool {
-		one, other := isDirectory(&r.group.Names[made[a]]), isDirectory(&r.group.Names[made[b]])
+	sort.SliceStable(places, func(a, b int) bool {
+		one, other := isDirectory(&r.group.Names[places[a]]), isDirectory(&r.group.Names[places[b]])
 		if one != other || one {
 			return one && !other
 		}
-		return r.told[made[a]].isBefore(&r.told[made[b]])
+		return r.told[places[a]].isBefore(&r.told[places[b]])
 	})
-	return made
+	return places
 }
 
 // isDirectory says whether a name is a directory by some record.
@@ -128,17 +128,17 @@ func isDirectory(name *forecast.Name) bool {
 
 // add adds the steps of a name on a device. What stands in place of a directory is taken away before.
 func (r *repair) add(name string, member, from int, what, due *forecast.Node) {
-	made := []advice.Step{{Act: advice.Copy, Device: member, From: from, Name: name}}
+	steps := []advice.Step{{Act: advice.Copy, Device: member, From: from, Name: name}}
 	if due.Type == forecast.Directory {
-		r.copied = append(r.copied, made[0])
+		r.copied = append(r.copied, steps[0])
 		if what != nil {
-			made = append([]advice.Step{{Act: advice.Delete, Device: member, Name: name}}, made...)
+			steps = append([]advice.Step{{Act: advice.Delete, Device: member, Name: name}}, steps...)
 		}
 	}
-	for _, step := range made {
+	for _, step := range steps {
 		step.On(&r.world, 0)
 	}
-	r.steps = append(r.steps, made...)
+	r.steps = append(r.steps, steps...)
 }
 
 // hasDirectoryAbove says whether something can be copied to a name on a device as things are after the steps so far.

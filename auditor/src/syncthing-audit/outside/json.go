@@ -11,13 +11,13 @@ import (
 
 // PrintJSON prints a value as JSON on one line. Who reads it with a program has each character as it was. On a terminal none is obeyed.
 func PrintJSON(to io.Writer, value interface{}) error {
-	var made strings.Builder
-	encoder := json.NewEncoder(&made)
+	var text strings.Builder
+	encoder := json.NewEncoder(&text)
 	encoder.SetEscapeHTML(false)
 	if err := encoder.Encode(value); err != nil {
 		return err
 	}
-	_, err := io.WriteString(to, escaped(made.String(), true, units))
+	_, err := io.WriteString(to, escaped(text.String(), true, units))
 	return err
 }
 

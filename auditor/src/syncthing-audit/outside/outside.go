@@ -36,16 +36,16 @@ func Escaped(text string) string { return escaped(text, false, octets) }
 
 // wordsOf gives words as they are printed. Numbers have nothing to escape.
 func wordsOf(words []interface{}) []interface{} {
-	made := make([]interface{}, len(words))
+	clean := make([]interface{}, len(words))
 	for place, given := range words {
 		switch value := given.(type) {
 		case bool, int, int64, uint64, float64:
-			made[place] = value
+			clean[place] = value
 		default:
-			made[place] = word{value}
+			clean[place] = word{value}
 		}
 	}
-	return made
+	return clean
 }
 
 // word is what is printed in place of a value: the same, escaped.
@@ -58,19 +58,19 @@ func (w word) Format(to fmt.State, verb rune) {
 
 // directive gives what stood in the format.
 func directive(state fmt.State, verb rune) string {
-	made := "%"
+	text := "%"
 	for _, flag := range "+-# 0" {
 		if state.Flag(int(flag)) {
-			made += string(flag)
+			text += string(flag)
 		}
 	}
 	if width, has := state.Width(); has {
-		made += fmt.Sprint(width)
+		text += fmt.Sprint(width)
 	}
 	if precision, has := state.Precision(); has {
-		made += fmt.Sprint(".", precision)
+		text += fmt.Sprint(".", precision)
 	}
-	return made + string(verb)
+	return text + string(verb)
 }
 
 // escaped gives a text in which what isn't printable is written otherwise. The program's own text keeps its newlines.
@@ -78,17 +78,17 @@ func escaped(text string, isOwn bool, otherwise func(*strings.Builder, string)) 
 	if isPrintable(text, isOwn) {
 		return text
 	}
-	var made strings.Builder
+	var clean strings.Builder
 	for text != "" {
 		letter, length := utf8.DecodeRuneInString(text)
 		if mayPrint(letter, length, isOwn) {
-			made.WriteString(text[:length])
+			clean.WriteString(text[:length])
 		} else {
-			otherwise(&made, text[:length])
+			otherwise(&clean, text[:length])
 		}
 		text = text[length:]
 	}
-	return made.String()
+	return clean.String()
 }
 
 func isPrintable(text string, isOwn bool) bool {

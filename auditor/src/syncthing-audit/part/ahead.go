@@ -18,14 +18,14 @@ type ahead struct {
 
 // NewAhead begins to read a part.
 func NewAhead(reader *Reader) *Ahead {
-	made := &Ahead{reader: reader, lines: make(chan ahead, linesAhead), stopped: make(chan struct{})}
+	a := &Ahead{reader: reader, lines: make(chan ahead, linesAhead), stopped: make(chan struct{})}
 	go func() {
-		defer close(made.lines)
+		defer close(a.lines)
 		for {
 			line, err := reader.Next()
 			select {
-			case made.lines <- ahead{line, err}:
-			case <-made.stopped:
+			case a.lines <- ahead{line, err}:
+			case <-a.stopped:
 				return
 			}
 			if err != nil {
@@ -33,7 +33,7 @@ func NewAhead(reader *Reader) *Ahead {
 			}
 		}
 	}()
-	return made
+	return a
 }
 
 // Head gives the part's head.

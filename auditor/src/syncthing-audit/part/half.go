@@ -38,13 +38,13 @@ func (h *Half) IsWindows() bool { return h.System == systemOfWindows }
 
 // NewHalf gives the mark of a part of disks alone.
 func NewHalf(id, after, system string, blockSizes []int64) *Half {
-	made := &Half{ID: id, After: after, System: system, BlockSizes: append([]int64{}, blockSizes...), Resolution: 1}
-	if made.IsWindows() {
-		made.Resolution, made.NoModes = 100, true
+	half := &Half{ID: id, After: after, System: system, BlockSizes: append([]int64{}, blockSizes...), Resolution: 1}
+	if half.IsWindows() {
+		half.Resolution, half.NoModes = 100, true
 	}
-	slices.Sort(made.BlockSizes)
-	made.BlockSizes = slices.Compact(made.BlockSizes)
-	return made
+	slices.Sort(half.BlockSizes)
+	half.BlockSizes = slices.Compact(half.BlockSizes)
+	return half
 }
 
 // StillUnseen gives what isn't seen of a device over the wire and on its disks together, rising. What Syncthing's configuration says may have been told
@@ -54,17 +54,17 @@ func (h *Head) StillUnseen() []string {
 	for _, folder := range h.Folders {
 		isConfigured = isConfigured && folder.Rest != nil
 	}
-	made := []string{}
+	unseen := []string{}
 	if !isConfigured {
-		made = append(made, UnseenKind)
+		unseen = append(unseen, UnseenKind)
 	}
 	if h.Half.NoModes {
-		made = append(made, UnseenPermissions)
+		unseen = append(unseen, UnseenPermissions)
 	}
 	if !isConfigured {
-		made = append(made, UnseenScans)
+		unseen = append(unseen, UnseenScans)
 	}
-	return made
+	return unseen
 }
 
 // isLookID says whether this is an id that is drawn at random.

@@ -24,9 +24,9 @@ func HiddenLongName(folder, name string) Hidden { return hiddenOf("long", folder
 
 func hiddenOf(kind, folder, name string) Hidden {
 	sum := sha256.Sum256([]byte(kind + "\x00" + folder + "\x00" + name))
-	var made Hidden
-	copy(made[:], sum[:])
-	return made
+	var hidden Hidden
+	copy(hidden[:], sum[:])
+	return hidden
 }
 
 // IsLongName says whether a part has a hash in place of a name, since it is too long, or one that would stand behind the hashes.

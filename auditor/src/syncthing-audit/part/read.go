@@ -40,18 +40,18 @@ func NewReader(from io.Reader) (*Reader, error) {
 	if err != nil {
 		return nil, noPart(err)
 	}
-	made := &Reader{lines: bufio.NewReaderSize(unzipped, 1<<16)}
-	if err := made.read(&made.head, mostHeadBytes); err != nil {
+	reader := &Reader{lines: bufio.NewReaderSize(unzipped, 1<<16)}
+	if err := reader.read(&reader.head, mostHeadBytes); err != nil {
 		if err == io.EOF {
 			err = errors.New("it is empty")
 		}
 		return nil, noPart(err)
 	}
-	if err := checkHead(&made.head); err != nil {
+	if err := checkHead(&reader.head); err != nil {
 		return nil, err
 	}
-	made.rules.head = &made.head
-	return made, nil
+	reader.rules.head = &reader.head
+	return reader, nil
 }
 
 // Head gives the part's head.

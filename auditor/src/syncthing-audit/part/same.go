@@ -10,15 +10,15 @@ func shortened(name *Name) *Name {
 	if name.Own == nil || len(name.Views) == 0 {
 		return name
 	}
-	made := *name
-	made.Views = make([]Seen, len(name.Views))
+	copied := *name
+	copied.Views = make([]Seen, len(name.Views))
 	for place, seen := range name.Views {
-		made.Views[place] = seen
+		copied.Views[place] = seen
 		if isSame(name.Own, seen.Record) {
-			made.Views[place] = Seen{View: seen.View, Same: seen.Record.Sequence}
+			copied.Views[place] = Seen{View: seen.View, Same: seen.Record.Sequence}
 		}
 	}
-	return &made
+	return &copied
 }
 
 // isSame says whether two records are one but for their sequences.

@@ -59,12 +59,12 @@ var AlwaysUnseen = []string{"directories", UnseenKind, UnseenPermissions, Unseen
 
 // NewWire gives the mark of a part that an observer makes.
 func NewWire(observer string, isOfRecords bool) *Wire {
-	made := &Wire{Observer: observer, Unseen: append([]string{}, AlwaysUnseen...)}
+	wire := &Wire{Observer: observer, Unseen: append([]string{}, AlwaysUnseen...)}
 	if isOfRecords {
-		made.Unseen = append(made.Unseen, UnseenBytes)
-		sort.Strings(made.Unseen)
+		wire.Unseen = append(wire.Unseen, UnseenBytes)
+		sort.Strings(wire.Unseen)
 	}
-	return made
+	return wire
 }
 
 // IsOverWire says whether an observer made the part.

@@ -22,11 +22,11 @@ func NewWriter(to io.Writer, head *Head) (*Writer, error) {
 	if err := checkMany(head); err != nil {
 		return nil, fmt.Errorf("refused: %w", err)
 	}
-	made := &Writer{buffered: bufio.NewWriterSize(to, 1<<16)}
-	made.zipped, _ = gzip.NewWriterLevel(made.buffered, gzip.BestSpeed)
-	made.encoder = json.NewEncoder(&made.line)
-	made.encoder.SetEscapeHTML(false)
-	length, err := made.encode(head)
+	writer := &Writer{buffered: bufio.NewWriterSize(to, 1<<16)}
+	writer.zipped, _ = gzip.NewWriterLevel(writer.buffered, gzip.BestSpeed)
+	writer.encoder = json.NewEncoder(&writer.line)
+	writer.encoder.SetEscapeHTML(false)
+	length, err := writer.encode(head)
 	switch {
 	case err != nil:
 		return nil, err
@@ -34,7 +34,7 @@ func NewWriter(to io.Writer, head *Head) (*Writer, error) {
 		return nil, fmt.Errorf("refused: what a part says of its folders and devices takes %d bytes here, and a part has at most %d for that: "+
 			"--folder chooses folders", length, mostHeadBytes)
 	}
-	return made, made.write()
+	return writer, writer.write()
 }
 
 // Take writes a line. Of a name whose records are too long for one, as those of very many views may be, the part says that they are left out.

@@ -28,16 +28,16 @@ type Loss struct {
 }
 
 func (n naming) choice(choice *outlook.Choice) Choice {
-	made := Choice{Act: string(choice.Act), Device: n[choice.Member], Names: choice.Names, Alike: choice.Alike, Loses: []Loss{}, Lost: choice.Lost,
+	told := Choice{Act: string(choice.Act), Device: n[choice.Member], Names: choice.Names, Alike: choice.Alike, Loses: []Loss{}, Lost: choice.Lost,
 		Unknown: choice.Unknown, AllOrders: choice.IsAll}
 	for _, loss := range choice.Loses {
-		made.Loses = append(made.Loses, Loss{Text(loss.Name), n.things(loss.Loses)})
+		told.Loses = append(told.Loses, Loss{Text(loss.Name), n.things(loss.Loses)})
 	}
 	for _, loss := range choice.Goes {
-		made.Goes = append(made.Goes, Loss{Text(loss.Name), n.things(loss.Loses)})
+		told.Goes = append(told.Goes, Loss{Text(loss.Name), n.things(loss.Loses)})
 	}
-	made.Gone = choice.Gone
-	return made
+	told.Gone = choice.Gone
+	return told
 }
 
 // choices prints what may be chosen for the whole folder on devices, and what each does as things stand now. Where steps are to be taken before, these

@@ -109,23 +109,23 @@ func isAt(end []Thing, thing *Thing) bool {
 
 // GoesFrom gives the devices from which a file or a symlink goes at some end, where nothing comes in its place there and no copy of it is kept.
 func (f *Fate) GoesFrom() []string {
-	var made []string
+	var devices []string
 	for place := range f.Now {
 		thing := &f.Now[place]
 		for _, end := range f.Ends {
 			if thing.Type == "directory" || isAt(end, thing) {
 				continue
 			}
-			left := without(thing.Devices, made)
+			left := without(thing.Devices, devices)
 			for _, other := range end {
 				if !other.Copy {
 					left = without(left, other.Devices)
 				}
 			}
-			made = append(made, left...)
+			devices = append(devices, left...)
 		}
 	}
-	return made
+	return devices
 }
 
 // isSame says whether two things are alike, wherever they stand.
@@ -153,17 +153,17 @@ func (f *Fate) reasons(called Naming) string {
 }
 
 func without(devices, those []string) []string {
-	var made []string
+	var rest []string
 	for _, device := range devices {
 		is := false
 		for _, other := range those {
 			is = is || device == other
 		}
 		if !is {
-			made = append(made, device)
+			rest = append(rest, device)
 		}
 	}
-	return made
+	return rest
 }
 
 // WhyUnknown says why it isn't known what becomes of a name, and what would make it known.

@@ -75,56 +75,56 @@ func OutlookOf(from *outlook.Outlook, devices []string) *Outlook {
 		return nil
 	}
 	ids := naming(devices)
-	made := &Outlook{Names: from.Names, Right: from.Count[outlook.ByItself], Deleted: from.Count[outlook.Deleted], Changed: from.Count[outlook.Changed],
+	told := &Outlook{Names: from.Names, Right: from.Count[outlook.ByItself], Deleted: from.Count[outlook.Deleted], Changed: from.Count[outlook.Changed],
 		Lost: from.Count[outlook.Lost], Depends: from.Count[outlook.Depends], Stays: from.Count[outlook.Stays], NotKnown: from.Count[outlook.Unknown],
 		Walked: from.Walked, WhyNot: ids.whys(from.Unknown), WhyStays: ids.whys(from.Kept), Fates: []Fate{},
 		MoreNames: from.Names - int64(len(from.Listed)), Plans: []Plan{}}
 	for _, plan := range from.Plans {
-		made.Plans = append(made.Plans, ids.plan(&plan))
+		told.Plans = append(told.Plans, ids.plan(&plan))
 	}
 	for place := range from.Choices {
-		made.Choices = append(made.Choices, ids.choice(&from.Choices[place]))
+		told.Choices = append(told.Choices, ids.choice(&from.Choices[place]))
 	}
 	for _, name := range from.Listed {
-		made.Fates = append(made.Fates, ids.fate(&name))
+		told.Fates = append(told.Fates, ids.fate(&name))
 	}
-	return made
+	return told
 }
 
 // naming has the devices' ids, in their order.
 type naming []string
 
 func (n naming) all(members []int) []string {
-	var made []string
+	var texts []string
 	for _, member := range members {
-		made = append(made, n[member])
+		texts = append(texts, n[member])
 	}
-	return made
+	return texts
 }
 
 func (n naming) whys(groups []outlook.Group) []Why {
-	made := []Why{}
+	reasons := []Why{}
 	for _, group := range groups {
-		made = append(made, Why{group.Why, n.all(group.Members), group.Names})
+		reasons = append(reasons, Why{group.Why, n.all(group.Members), group.Names})
 	}
-	return made
+	return reasons
 }
 
 func (n naming) fate(name *outlook.Name) Fate {
-	made := Fate{Name: Text(name.Name), Fate: string(name.Fate), Why: string(name.Why), AllOrders: name.IsAll, Loses: n.things(name.Loses), Now: n.things(name.Now)}
+	fate := Fate{Name: Text(name.Name), Fate: string(name.Fate), Why: string(name.Why), AllOrders: name.IsAll, Loses: n.things(name.Loses), Now: n.things(name.Now)}
 	for _, kept := range name.Kept {
-		made.Kept = append(made.Kept, Kept{n[kept.Member], outlook.WhyKept[kept.Why]})
+		fate.Kept = append(fate.Kept, Kept{n[kept.Member], outlook.WhyKept[kept.Why]})
 	}
 	for _, end := range name.Ends {
-		made.Ends = append(made.Ends, append([]Thing{}, n.things(end)...))
+		fate.Ends = append(fate.Ends, append([]Thing{}, n.things(end)...))
 	}
-	return made
+	return fate
 }
 
 var wordsOfTypes = map[forecast.Type]string{forecast.File: "file", forecast.Directory: "directory", forecast.Symlink: "symlink"}
 
 func (n naming) things(things []outlook.Thing) []Thing {
-	var made []Thing
+	var all []Thing
 	for _, thing := range things {
 		told := Thing{Devices: n.all(thing.Members), Type: wordsOfTypes[thing.Type], Copy: thing.IsCopy}
 		switch thing.Type {
@@ -139,7 +139,7 @@ func (n naming) things(things []outlook.Thing) []Thing {
 			target := thing.Target
 			told.Target = &target
 		}
-		made = append(made, told)
+		all = append(all, told)
 	}
-	return made
+	return all
 }

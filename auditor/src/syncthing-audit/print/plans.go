@@ -29,18 +29,18 @@ type Step struct {
 }
 
 func (n naming) plan(plan *outlook.Plan) Plan {
-	made := Plan{Names: append([]Text{}, plan.Names...), Count: plan.Count, Below: plan.Below, Copies: n.all(plan.Copies), AllOrders: plan.IsAll}
+	said := Plan{Names: append([]Text{}, plan.Names...), Count: plan.Count, Below: plan.Below, Copies: n.all(plan.Copies), AllOrders: plan.IsAll}
 	for _, step := range plan.Steps {
 		told := Step{Act: string(step.Act), Device: n[step.Member]}
 		if step.Act == outlook.Copy {
 			told.From, told.Over = n[step.From], step.Over
 		}
-		made.Steps = append(made.Steps, told)
+		said.Steps = append(said.Steps, told)
 	}
 	if plan.Goal != nil {
-		made.Goal = &n.things([]outlook.Thing{*plan.Goal})[0]
+		said.Goal = &n.things([]outlook.Thing{*plan.Goal})[0]
 	}
-	return made
+	return said
 }
 
 // plans prints what to do, from the top. What no step puts right comes before the start: that would send it, or lose it.

@@ -25,29 +25,29 @@ type device struct {
 
 // newDevice makes a home with a certificate and an empty index, and a folder's directory.
 func newDevice(room string) (*device, error) {
-	made := &device{home: filepath.Join(room, "home"), files: filepath.Join(room, "files")}
-	for _, path := range []string{made.home, filepath.Join(made.files, ".stfolder")} {
+	added := &device{home: filepath.Join(room, "home"), files: filepath.Join(room, "files")}
+	for _, path := range []string{added.home, filepath.Join(added.files, ".stfolder")} {
 		if err := os.MkdirAll(path, 0o755); err != nil {
 			return nil, err
 		}
 	}
-	certificate, err := tlsutil.NewCertificate(filepath.Join(made.home, "cert.pem"), filepath.Join(made.home, "key.pem"), "syncthing", 1)
+	certificate, err := tlsutil.NewCertificate(filepath.Join(added.home, "cert.pem"), filepath.Join(added.home, "key.pem"), "syncthing", 1)
 	if err != nil {
 		return nil, err
 	}
-	made.id = protocol.NewDeviceID(certificate.Certificate[0])
-	if made.backend, err = backend.Open(filepath.Join(made.home, "index-v0.14.0.db"), backend.TuningAuto); err != nil {
+	added.id = protocol.NewDeviceID(certificate.Certificate[0])
+	if added.backend, err = backend.Open(filepath.Join(added.home, "index-v0.14.0.db"), backend.TuningAuto); err != nil {
 		return nil, err
 	}
-	index, err := db.NewLowlevel(made.backend, events.NoopLogger)
+	index, err := db.NewLowlevel(added.backend, events.NoopLogger)
 	if err != nil {
 		return nil, err
 	}
 	if err := db.UpdateSchema(index); err != nil {
 		return nil, err
 	}
-	made.set, err = db.NewFileSet(folderID, index)
-	return made, err
+	added.set, err = db.NewFileSet(folderID, index)
+	return added, err
 }
 
 // configure writes the configuration: the folder shared with all devices.

@@ -85,11 +85,11 @@ func put(devices []*device, name string, size int64, random *rand.Rand) (protoco
 	}
 	blockSize := protocol.BlockSize(size)
 	blocks, err := scanner.Blocks(context.Background(), bytes.NewReader(data), blockSize, size, nil, true)
-	made := protocol.FileInfo{Name: name, Size: size, Permissions: 0o644, ModifiedS: modified.Unix(), ModifiedBy: devices[0].id.Short(),
+	fileInfo := protocol.FileInfo{Name: name, Size: size, Permissions: 0o644, ModifiedS: modified.Unix(), ModifiedBy: devices[0].id.Short(),
 		Version: protocol.Vector{}.Update(devices[0].id.Short()), Blocks: blocks, BlocksHash: protocol.BlocksHash(blocks)}
-	adapt.SetNumber(&made.ModifiedNs, modified.Nanosecond())
-	adapt.SetNumber(&made.RawBlockSize, blockSize)
-	return made, err
+	adapt.SetNumber(&fileInfo.ModifiedNs, modified.Nanosecond())
+	adapt.SetNumber(&fileInfo.RawBlockSize, blockSize)
+	return fileInfo, err
 }
 
 // record puts entries into each device's own index and into what each knows of the others.

@@ -82,10 +82,10 @@ func nameLine(number int, size int64, by uint64, views int) *part.Name {
 	content := part.Content{Size: size, BlockSize: int64(protocol.BlockSize(size)), Hash: sha256.Sum256([]byte(nameOf(number)))}
 	record := part.Record{ModifiedS: 1700000000, ModifiedNs: 123456789, ModifiedBy: by, Version: part.Version{{by, 1700000000}},
 		Sequence: int64(number) + 1, Content: &content, Permissions: &permissions}
-	made := &part.Name{Name: part.Bytes(nameOf(number)), Own: &record, Disk: &part.Node{ModifiedS: record.ModifiedS,
+	name := &part.Name{Name: part.Bytes(nameOf(number)), Own: &record, Disk: &part.Node{ModifiedS: record.ModifiedS,
 		ModifiedNs: record.ModifiedNs, Size: size, Contents: []part.Content{content}, Permissions: permissions}}
 	for view := 0; view < views; view++ {
-		made.Views = append(made.Views, part.Seen{View: view, Record: &record})
+		name.Views = append(name.Views, part.Seen{View: view, Record: &record})
 	}
-	return made
+	return name
 }

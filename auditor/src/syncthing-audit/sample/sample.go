@@ -20,19 +20,19 @@ type plan struct {
 }
 
 func main() {
-	made := plan{}
-	flag.IntVar(&made.devices, "devices", 2, "how many devices")
-	flag.IntVar(&made.files, "files", 800, "how many files")
-	flag.Int64Var(&made.bytes, "bytes", 4<<20, "the bytes of each file")
-	flag.BoolVar(&made.parts, "parts", false, "parts alone: no homes, no files")
-	flag.StringVar(&made.each, "each", "", "of parts: what each name is on the last device: rotten, permissions, concurrent, unscanned, long")
+	asked := plan{}
+	flag.IntVar(&asked.devices, "devices", 2, "how many devices")
+	flag.IntVar(&asked.files, "files", 800, "how many files")
+	flag.Int64Var(&asked.bytes, "bytes", 4<<20, "the bytes of each file")
+	flag.BoolVar(&asked.parts, "parts", false, "parts alone: no homes, no files")
+	flag.StringVar(&asked.each, "each", "", "of parts: what each name is on the last device: rotten, permissions, concurrent, unscanned, long")
 	flag.Parse()
-	if flag.NArg() != 1 || made.each != "" && (!made.parts || faults[made.each] == nil) {
+	if flag.NArg() != 1 || asked.each != "" && (!asked.parts || faults[asked.each] == nil) {
 		fmt.Fprintln(os.Stderr, "usage: sample [--devices N] [--files N] [--bytes N] [--parts [--each FAULT]] DIR")
 		os.Exit(3)
 	}
-	made.room = flag.Arg(0)
-	if err := made.make(); err != nil {
+	asked.room = flag.Arg(0)
+	if err := asked.make(); err != nil {
 		fmt.Fprintln(os.Stderr, "sample:", err)
 		os.Exit(1)
 	}

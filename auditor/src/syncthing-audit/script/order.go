@@ -35,7 +35,7 @@ func newOrder() *order { return &order{latest{}, latest{}, latest{}} }
 
 // stepsOf gives the steps of plans, from the top, each in its round.
 func stepsOf(plans []print.Plan) []step {
-	var made []step
+	var steps []step
 	order := newOrder()
 	for at := range plans {
 		plan := &plans[at]
@@ -44,11 +44,11 @@ func stepsOf(plans []print.Plan) []step {
 				next := step{act: outlook.Act(told.Act), device: told.Device, from: told.From, over: told.Over, name: string(name), plan: plan}
 				next.round = order.roundOf(&next)
 				order.note(&next)
-				made = append(made, next)
+				steps = append(steps, next)
 			}
 		}
 	}
-	return made
+	return steps
 }
 
 // changes says whether a step changes what stands at its name.
@@ -67,13 +67,13 @@ func (o *order) roundOf(next *step) int {
 	return round
 }
 
-func (o *order) note(made *step) {
-	o.steps.note(made.device, made.name, made.round)
-	if made.changes() {
-		o.change.note(made.device, made.name, made.round)
+func (o *order) note(step *step) {
+	o.steps.note(step.device, step.name, step.round)
+	if step.changes() {
+		o.change.note(step.device, step.name, step.round)
 	}
-	if made.act == outlook.Copy {
-		o.read.note(made.from, made.name, made.round)
+	if step.act == outlook.Copy {
+		o.read.note(step.from, step.name, step.round)
 	}
 }
 

@@ -39,11 +39,11 @@ func Of(told *summary.Summary, now time.Time) []File {
 			all.take(folder, &steps[place])
 		}
 	}
-	var made []File
+	var files []File
 	for _, at := range all.places() {
-		made = append(made, File{all.nameOf(at), all.text(at)})
+		files = append(files, File{all.nameOf(at), all.text(at)})
 	}
-	return made
+	return files
 }
 
 // of says of which device a script is, and of which round.
@@ -160,17 +160,17 @@ func (w *writing) all(devices []string) string {
 
 // places gives of which devices and rounds there are scripts, in the order in which they are run.
 func (w *writing) places() []of {
-	var made []of
+	var all []of
 	for at := range w.scripts {
-		made = append(made, at)
+		all = append(all, at)
 	}
-	sort.Slice(made, func(a, b int) bool {
-		if made[a].round != made[b].round {
-			return made[a].round < made[b].round
+	sort.Slice(all, func(a, b int) bool {
+		if all[a].round != all[b].round {
+			return all[a].round < all[b].round
 		}
-		return w.nameOf(made[a]) < w.nameOf(made[b])
+		return w.nameOf(all[a]) < w.nameOf(all[b])
 	})
-	return made
+	return all
 }
 
 // nameOf gives a script's name: its round, and the device's name as far as it can stand there, with the beginning of its id.

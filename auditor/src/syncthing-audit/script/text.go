@@ -12,8 +12,8 @@ import (
 // text gives a script as a whole.
 func (w *writing) text(at of) string {
 	script := w.scripts[at]
-	var made strings.Builder
-	line := func(format string, values ...any) { fmt.Fprintf(&made, format+"\n", values...) }
+	var text strings.Builder
+	line := func(format string, values ...any) { fmt.Fprintf(&text, format+"\n", values...) }
 	line("#!/bin/sh")
 	line("# Steps on %s, of an audit at %s.", w.called(at.device), w.audit)
 	line("#")
@@ -33,7 +33,7 @@ func (w *writing) text(at of) string {
 	}
 	line("audit=%s", w.audit)
 	line("")
-	made.WriteString(prelude)
+	text.WriteString(prelude)
 	line("")
 	line("check_all")
 	for place, folder := range script.folders {
@@ -43,10 +43,10 @@ func (w *writing) text(at of) string {
 		line("check_source \"$source_%d\" %s", place+1, shell.Exact(w.sourceOf(source)))
 	}
 	line("prepare")
-	made.WriteString(script.steps.String())
+	text.WriteString(script.steps.String())
 	line("")
 	line("printf '%%s\\n' %s", shell.Exact(w.next(at)))
-	return made.String()
+	return text.String()
 }
 
 func folderOf(folder *summary.Folder) string { return shell.Folder(folder.ID, folder.Label) }
@@ -57,29 +57,29 @@ func (w *writing) sourceOf(source source) string {
 
 // notes say in what order scripts are run, and what none of them does.
 func (w *writing) notes(at of) []string {
-	var made []string
+	var lines []string
 	if w.rounds > 1 {
-		made = append(made, fmt.Sprintf("Run all scripts whose names begin with 1- on their devices, then those with 2-, and so on up to %d-. This one is of round %d.", w.rounds, at.round))
+		lines = append(lines, fmt.Sprintf("Run all scripts whose names begin with 1- on their devices, then those with 2-, and so on up to %d-. This one is of round %d.", w.rounds, at.round))
 	}
 	if w.hidden > 0 {
-		made = append(made, print.Counted(w.hidden, "more name needs", "more names need")+" such steps, and no script has them: audit again after these.")
+		lines = append(lines, print.Counted(w.hidden, "more name needs", "more names need")+" such steps, and no script has them: audit again after these.")
 	}
-	return append(made, w.rest()...)
+	return append(lines, w.rest()...)
 }
 
 // rest says what is to be done beside the scripts, before Syncthing starts.
 func (w *writing) rest() []string {
-	var made []string
+	var lines []string
 	if w.first > 0 {
-		made = append(made, "The answer begins with what is to be done before Syncthing starts: "+print.Counted(int64(w.first), "line.", "lines."))
+		lines = append(lines, "The answer begins with what is to be done before Syncthing starts: "+print.Counted(int64(w.first), "line.", "lines."))
 	}
 	if w.without > 0 {
-		made = append(made, "The answer's entries say what to do before Syncthing starts, for "+print.Counted(w.without, "name that no script puts right.", "names that no script puts right."))
+		lines = append(lines, "The answer's entries say what to do before Syncthing starts, for "+print.Counted(w.without, "name that no script puts right.", "names that no script puts right."))
 	}
 	if w.unknown > 0 {
-		made = append(made, "It isn't known what a start does to "+print.Counted(w.unknown, "name: see to it first.", "names: see to them first."))
+		lines = append(lines, "It isn't known what a start does to "+print.Counted(w.unknown, "name: see to it first.", "names: see to them first."))
 	}
-	return made
+	return lines
 }
 
 // next says what comes after a script.

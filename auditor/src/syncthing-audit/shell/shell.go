@@ -46,22 +46,22 @@ func Exact(text string) string {
 	if text == "" {
 		return "''"
 	}
-	var made strings.Builder
+	var quoted strings.Builder
 	for text != "" {
 		end := strings.IndexAny(text, `'\`)
 		if end < 0 {
 			end = len(text)
 		}
 		if end > 0 {
-			made.WriteString("'" + text[:end] + "'")
+			quoted.WriteString("'" + text[:end] + "'")
 		}
 		if end < len(text) {
-			made.WriteString(`\` + text[end:end+1])
+			quoted.WriteString(`\` + text[end:end+1])
 			end++
 		}
 		text = text[end:]
 	}
-	return made.String()
+	return quoted.String()
 }
 
 // HasOneForReading says whether a text has a name that is given for reading.
@@ -72,19 +72,19 @@ const notToBeTyped = "[not-for-typing:"
 
 // escaped gives a name for reading.
 func escaped(name string) string {
-	var made strings.Builder
+	var text strings.Builder
 	for name != "" {
 		character, length := utf8.DecodeRuneInString(name)
 		if strings.ContainsRune(`'\`, character) || !CanBeTyped(name[:length]) {
 			for _, octet := range []byte(name[:length]) {
-				fmt.Fprintf(&made, `\x%02x`, octet)
+				fmt.Fprintf(&text, `\x%02x`, octet)
 			}
 		} else {
-			made.WriteString(name[:length])
+			text.WriteString(name[:length])
 		}
 		name = name[length:]
 	}
-	return made.String()
+	return text.String()
 }
 
 // Word gives a word of a command, where one that begins with a dash is an option.
@@ -97,24 +97,24 @@ func Word(text string) string {
 
 // Words gives a command.
 func Words(words []string) string {
-	made := []string{}
+	quoted := []string{}
 	for _, word := range words {
-		made = append(made, Word(word))
+		quoted = append(quoted, Word(word))
 	}
-	return strings.Join(made, " ")
+	return strings.Join(quoted, " ")
 }
 
 // ExactWords gives a command for a shell alone.
 func ExactWords(words []string) string {
-	made := []string{}
+	quoted := []string{}
 	for _, text := range words {
 		if CanBeTyped(text) {
-			made = append(made, Word(text))
+			quoted = append(quoted, Word(text))
 		} else {
-			made = append(made, Exact(text))
+			quoted = append(quoted, Exact(text))
 		}
 	}
-	return strings.Join(made, " ")
+	return strings.Join(quoted, " ")
 }
 
 // isPlain says whether a text needs no quotes. One that begins with a dash does.

@@ -73,12 +73,12 @@ type Cursor[T any] struct {
 
 // Read begins to go through the list, to which nothing is added meanwhile.
 func (l *List[T]) Read() *Cursor[T] {
-	made := &Cursor[T]{list: l}
+	cursor := &Cursor[T]{list: l}
 	if l.file != nil && l.err == nil {
 		l.fail(l.written.Flush())
-		made.decoder = json.NewDecoder(bufio.NewReader(io.NewSectionReader(l.file, 0, 1<<62)))
+		cursor.decoder = json.NewDecoder(bufio.NewReader(io.NewSectionReader(l.file, 0, 1<<62)))
 	}
-	return made
+	return cursor
 }
 
 // Peek gives the next thing without taking it; nothing at the end, and after an error.

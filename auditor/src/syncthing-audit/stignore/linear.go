@@ -27,20 +27,20 @@ func (l *linear) fits(name string) bool {
 }
 
 // expression translates a pattern up to the end of the braces it stands in, and gives what comes behind that.
-func expression(pattern string, depth int) (made, rest string, err error) {
+func expression(pattern string, depth int) (text, rest string, err error) {
 	for pattern != "" {
 		letter, length := utf8.DecodeRuneInString(pattern)
 		next := pattern[length:]
 		switch {
 		case letter == '*' && strings.HasPrefix(next, "*"):
-			made, next = made+`.*`, next[1:]
+			text, next = text+`.*`, next[1:]
 		case letter == '*':
-			made += `[^/]*`
+			text += `[^/]*`
 		case letter == '?':
-			made += `[^/]`
+			text += `[^/]`
 		case letter == '\\' && next != "":
 			_, length = utf8.DecodeRuneInString(next)
-			made, next = made+regexp.QuoteMeta(next[:length]), next[length:]
+			text, next = text+regexp.QuoteMeta(next[:length]), next[length:]
 		case letter == '\\':
 			return "", "", errors.New("it ends with a backslash")
 		case letter == '[':
@@ -48,26 +48,26 @@ func expression(pattern string, depth int) (made, rest string, err error) {
 			if err != nil {
 				return "", "", err
 			}
-			made, next = made+class, behind
+			text, next = text+class, behind
 		case letter == '{':
 			inner, behind, err := expression(next, depth+1)
 			if err != nil {
 				return "", "", err
 			}
-			made, next = made+"(?:"+inner+")", behind
+			text, next = text+"(?:"+inner+")", behind
 		case letter == '}' && depth > 0:
-			return made, next, nil
+			return text, next, nil
 		case letter == ',' && depth > 0:
-			made += "|"
+			text += "|"
 		default:
-			made += regexp.QuoteMeta(pattern[:length])
+			text += regexp.QuoteMeta(pattern[:length])
 		}
 		pattern = next
 	}
 	if depth > 0 {
 		return "", "", errors.New("a brace isn't closed")
 	}
-	return made, "", nil
+	return text, "", nil
 }
 
 // classOf translates a class behind its bracket: a range of letters, or a list.
@@ -83,11 +83,11 @@ func classOf(pattern string) (class, rest string, err error) {
 	if letters := []rune(inside); len(letters) == 3 && letters[1] == '-' {
 		return "[" + not + quoted(letters[0]) + "-" + quoted(letters[2]) + "]", rest, nil
 	}
-	made := ""
+	letters := ""
 	for _, letter := range inside {
-		made += quoted(letter)
+		letters += quoted(letter)
 	}
-	return "[" + not + made + "]", rest, nil
+	return "[" + not + letters + "]", rest, nil
 }
 
 // quoted gives a letter as it stands in a class.

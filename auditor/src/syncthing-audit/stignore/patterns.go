@@ -53,7 +53,7 @@ func checkWild(lines []string) error {
 
 // Parse reads the lines of a .stignore whose includes are in their places. On some systems patterns don't heed case.
 func Parse(lines []string, foldCase bool) (*Patterns, error) {
-	made := &Patterns{}
+	patterns := &Patterns{}
 	if err := checkWild(lines); err != nil {
 		return nil, err
 	}
@@ -70,23 +70,23 @@ func Parse(lines []string, foldCase bool) (*Patterns, error) {
 			written = append(written, line+"/**")
 		}
 		for _, text := range written {
-			if err := made.add(text, foldCase); err != nil {
+			if err := patterns.add(text, foldCase); err != nil {
 				return nil, fmt.Errorf("it has the pattern %q, which is none: %w", line, err)
 			}
 		}
 	}
-	made.takes = made.takesIgnored()
-	return made, nil
+	patterns.takes = patterns.takesIgnored()
+	return patterns, nil
 }
 
 // add adds a pattern: as it stands, and where it isn't bound to the folder's own directory, for each directory below it.
 func (p *Patterns) add(line string, foldCase bool) error {
-	made := pattern{isIgnored: true, foldsCase: foldCase}
-	text := made.takePrefixes(norm.NFC.String(line))
+	added := pattern{isIgnored: true, foldsCase: foldCase}
+	text := added.takePrefixes(norm.NFC.String(line))
 	if text == "" {
 		return fmt.Errorf("it is empty")
 	}
-	if made.foldsCase {
+	if added.foldsCase {
 		text = strings.ToLower(text)
 	}
 	texts := []string{text, "**/" + text}
@@ -97,7 +97,7 @@ func (p *Patterns) add(line string, foldCase bool) error {
 		texts = []string{text, text[len("**/"):]}
 	}
 	for _, next := range texts {
-		pattern := made
+		pattern := added
 		var err error
 		pattern.text = next
 		text := strings.TrimPrefix(next, "/")
@@ -157,11 +157,11 @@ const mostSteps = 1e7
 
 // steps says how many these are.
 func (p *pattern) steps(name string) float64 {
-	made := 1.0
-	for star := 1; star <= p.stars && made <= mostSteps; star++ {
-		made *= float64(len(name)+star) / float64(star)
+	count := 1.0
+	for star := 1; star <= p.stars && count <= mostSteps; star++ {
+		count *= float64(len(name)+star) / float64(star)
 	}
-	return made
+	return count
 }
 
 // fits says whether a pattern fits a name, as Syncthing's package has it. It panics at a few patterns with names of several bytes a letter, and Syncthing with

@@ -58,28 +58,28 @@ func (a *actions) isToMakeSafe(device string) bool {
 
 // toMakeSafe gives the devices on which something of the name is to be made safe before Syncthing starts or scans there.
 func (f *File) toMakeSafe() []string {
-	made := []string{}
+	devices := []string{}
 	if f.foretold.is(outlook.Lost) && f.foretold.plan != nil {
 		for _, step := range f.foretold.plan.Steps {
-			made = addOnce(made, step.Device)
+			devices = addOnce(devices, step.Device)
 		}
 	}
 	for place := range f.Faults {
 		if f.losesAt(&f.Faults[place]) {
-			made = addOnce(made, f.Faults[place].Device)
+			devices = addOnce(devices, f.Faults[place].Device)
 		}
 	}
 	for _, device := range f.goesFrom() {
-		made = addOnce(made, device)
+		devices = addOnce(devices, device)
 	}
 	if f.isModeFirst() {
 		for place := range f.Permissions {
 			if f.Permissions[place].isStray() {
-				made = addOnce(made, f.Permissions[place].Device)
+				devices = addOnce(devices, f.Permissions[place].Device)
 			}
 		}
 	}
-	return made
+	return devices
 }
 
 // mayLose says whether bytes of the name may be lost by a scan, or by what others fetch.
@@ -108,17 +108,17 @@ func (f *Fault) mayBeMissing() bool {
 
 // toStart gives the devices on which Syncthing is to run or to scan for this name, and those from which others take it.
 func (f *File) toStart() []string {
-	made := []string{}
+	devices := []string{}
 	for place := range f.Faults {
 		fault := &f.Faults[place]
-		made = addOnce(made, fault.Device)
+		devices = addOnce(devices, fault.Device)
 		if fault.isToStart() {
 			for _, device := range f.Have {
-				made = addOnce(made, device)
+				devices = addOnce(devices, device)
 			}
 		}
 	}
-	return made
+	return devices
 }
 
 // isToStart says whether for a fault devices are told to connect: the one at fault, and those that have what is due.

@@ -21,9 +21,9 @@ func (l labels) of(id string) string {
 
 // rising gives devices in the order of their names.
 func (l labels) rising(ids []string) []string {
-	made := append([]string{}, ids...)
-	sort.SliceStable(made, func(a, b int) bool { return l.of(made[a]) < l.of(made[b]) })
-	return made
+	sorted := append([]string{}, ids...)
+	sort.SliceStable(sorted, func(a, b int) bool { return l.of(sorted[a]) < l.of(sorted[b]) })
+	return sorted
 }
 
 // all gives several names, rising.
@@ -52,35 +52,35 @@ const (
 // adviceOf says what to do about a name, each thing once: first what saves bytes, then the steps for it or, where it isn't known what becomes of it, what
 // is to be saved; then what each fault asks for beside that, and at last what starts Syncthing. It foretells nothing: package outlook does.
 func adviceOf(file *File, named labels) []string {
-	made := append(file.waitsAdvice(named), file.bestAdvice(named)...)
-	made = append(made, file.mounted(named)...)
+	advice := append(file.waitsAdvice(named), file.bestAdvice(named)...)
+	advice = append(advice, file.mounted(named)...)
 	if from := file.goesFrom(); len(from) > 0 {
-		made = append(made, "copy elsewhere before Syncthing starts on any of these devices what is to stay of what stands on "+named.all(from)+": "+file.say("it goes", "they go")+" there")
+		advice = append(advice, "copy elsewhere before Syncthing starts on any of these devices what is to stay of what stands on "+named.all(from)+": "+file.say("it goes", "they go")+" there")
 	}
 	if !file.foretold.isKnown() {
-		made = append(made, file.toSave(named)...)
+		advice = append(advice, file.toSave(named)...)
 	} else if told := file.stepsFor(named); told != "" {
-		made = append(made, told)
+		advice = append(advice, told)
 	}
 	if file.isModeFirst() {
-		made = append(made, permissionsAdvice(file, named))
+		advice = append(advice, permissionsAdvice(file, named))
 	}
 	for _, isOfDisk := range []bool{true, false} {
 		for place := range file.Faults {
 			if fault := &file.Faults[place]; fault.isOfDisk() == isOfDisk {
 				if told := adviceOfFault(fault, file, named); told != "" {
-					made = addOnce(made, told)
+					advice = addOnce(advice, told)
 				}
 			}
 		}
 	}
 	if len(file.Permissions) > 0 && !file.isModeFirst() && !file.foretold.hasGoal() {
-		made = append(made, permissionsAdvice(file, named))
+		advice = append(advice, permissionsAdvice(file, named))
 	}
-	if told := file.toRun(len(made) == 0); told != "" {
-		made = append(made, told)
+	if told := file.toRun(len(advice) == 0); told != "" {
+		advice = append(advice, told)
 	}
-	return made
+	return advice
 }
 
 // stepsFor says what is to be done so that the name comes to the end that is wanted. It says nothing where Syncthing alone puts it right.
@@ -370,13 +370,13 @@ func (f *File) holders(named labels) string {
 
 // safeHolders gives the devices that have what is due, and on which nothing is to be made safe first.
 func (f *File) safeHolders() []string {
-	made := []string{}
+	holders := []string{}
 	for _, device := range f.Have {
 		if !f.others.isToMakeSafe(device) {
-			made = append(made, device)
+			holders = append(holders, device)
 		}
 	}
-	return made
+	return holders
 }
 
 // oneOf names devices of which one does.

@@ -7,7 +7,7 @@ import (
 
 // sameOtherBytes gives the devices that have the same bytes in place of those that are recorded, where several do.
 func sameOtherBytes(faults []Fault) [][]string {
-	made := [][]string{}
+	groups := [][]string{}
 	isTold := map[string]bool{}
 	for place := range faults {
 		fault := &faults[place]
@@ -22,10 +22,10 @@ func sameOtherBytes(faults []Fault) [][]string {
 			}
 		}
 		if len(same) > 1 {
-			made = append(made, same)
+			groups = append(groups, same)
 		}
 	}
-	return made
+	return groups
 }
 
 // haveSame says whether one file's bytes are another's: of one size, and in blocks of one size of one hash.

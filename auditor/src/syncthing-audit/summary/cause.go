@@ -93,14 +93,14 @@ func recorded(record *part.Record) *State {
 	if record == nil {
 		return nil
 	}
-	made := &State{Type: typeOf(record.Type), Deleted: record.Deleted, Target: record.Target}
+	state := &State{Type: typeOf(record.Type), Deleted: record.Deleted, Target: record.Target}
 	if record.Deleted || record.Type != int(protocol.FileInfoTypeSymlink) {
-		made.Modified = timeOf(record.ModifiedS, record.ModifiedNs)
+		state.Modified = timeOf(record.ModifiedS, record.ModifiedNs)
 	}
 	if record.Content != nil {
-		made.Size = record.Content.Size
+		state.Size = record.Content.Size
 	}
-	return made
+	return state
 }
 
 // found gives the state on a disk.
@@ -112,8 +112,8 @@ func found(node *part.Node) *State {
 }
 
 func timeOf(seconds int64, nanoseconds int) *time.Time {
-	made := time.Unix(seconds, int64(nanoseconds))
-	return &made
+	at := time.Unix(seconds, int64(nanoseconds))
+	return &at
 }
 
 // onDisk gives how a device's disk differs from its own record; nothing where it doesn't.
@@ -154,21 +154,21 @@ func blocksOf(at *part.Name) *Blocks {
 		return nil
 	}
 	differ, content := at.Disk.Differ, at.Own.Content
-	made := &Blocks{Count: differ.Count, Size: content.BlockSize, Ranges: append([][2]int64{}, differ.Ranges...), Unlisted: differ.Unlisted()}
+	blocks := &Blocks{Count: differ.Count, Size: content.BlockSize, Ranges: append([][2]int64{}, differ.Ranges...), Unlisted: differ.Unlisted()}
 	if content.BlockSize > 0 {
 		most := content.Size
 		if at.Disk.Size > most {
 			most = at.Disk.Size
 		}
-		made.Of = part.CountOfBlocks(most, content.BlockSize)
+		blocks.Of = part.CountOfBlocks(most, content.BlockSize)
 	}
 	if differ.First.Recorded != nil {
-		made.Recorded = differ.First.Recorded.String()
+		blocks.Recorded = differ.First.Recorded.String()
 	}
 	if differ.First.Found != nil {
-		made.Found = differ.First.Found.String()
+		blocks.Found = differ.First.Found.String()
 	}
-	return made
+	return blocks
 }
 
 // isCutOtherwise says whether a device has the winner's bytes on its disk and in its record, cut into blocks otherwise.

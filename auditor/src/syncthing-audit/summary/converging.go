@@ -15,11 +15,11 @@ func hindranceOf(from *finding.Folder) *Hindrance {
 	if first == nil || !from.HasFailures() {
 		return nil
 	}
-	made := &Hindrance{Reason: first.Reason, Name: Text(first.Name)}
+	hindrance := &Hindrance{Reason: first.Reason, Name: Text(first.Name)}
 	for _, member := range from.Members {
 		if member.Number == first.Device {
-			made.Device = member.Head.Device
+			hindrance.Device = member.Head.Device
 		}
 	}
-	return made
+	return hindrance
 }

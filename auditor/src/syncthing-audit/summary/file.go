@@ -60,27 +60,27 @@ type Mode struct {
 
 // fileOf gives what is to be told of a name.
 func fileOf(folder *finding.Folder, told *finding.Told) *File {
-	made := &File{Name: Text(told.Name), Faults: []Fault{}, Have: []string{}, Follows: []Follow{}, Permissions: []Mode{}, areWide: areWide(folder),
+	file := &File{Name: Text(told.Name), Faults: []Fault{}, Have: []string{}, Follows: []Follow{}, Permissions: []Mode{}, areWide: areWide(folder),
 		takers: membersWhere(folder, isTaker), runs: runsOf(folder),
 		isOdd: !norm.NFC.IsNormalString(told.Name)}
-	row, read := folder.Rows[told.Name], &reader{folder: folder, row: folder.Rows[told.Name], file: made, reasons: map[int][]string{}}
+	row, read := folder.Rows[told.Name], &reader{folder: folder, row: folder.Rows[told.Name], file: file, reasons: map[int][]string{}}
 	switch {
 	case told.Unwon != nil:
-		addUnwon(made, folder, told.Unwon)
+		addUnwon(file, folder, told.Unwon)
 	case len(told.Failures) > 0:
 		read.read(told.Failures)
 	}
 	if told.Damaged != nil {
-		made.addDamage(folder, told.Damaged)
+		file.addDamage(folder, told.Damaged)
 	}
 	if told.Permissions != nil {
-		made.Permissions = modesOf(folder, told.Permissions)
+		file.Permissions = modesOf(folder, told.Permissions)
 	}
 	if row != nil {
-		made.hasDetails = true
-		made.Size = sizeOf(row, read.winner)
+		file.hasDetails = true
+		file.Size = sizeOf(row, read.winner)
 	}
-	return made
+	return file
 }
 
 // sizeOf gives how many bytes what is due has. Where nothing is due, or its deletion, it is the most that a device has or records.
@@ -124,16 +124,16 @@ func isWide(member join.Member) bool { return member.About != nil && member.Abou
 
 // areWide gives the devices of which that is so; nothing where there is none.
 func areWide(folder *finding.Folder) map[string]bool {
-	var made map[string]bool
+	var wide map[string]bool
 	for _, member := range folder.Members {
 		if isWide(member) {
-			if made == nil {
-				made = map[string]bool{}
+			if wide == nil {
+				wide = map[string]bool{}
 			}
-			made[member.Head.Device] = true
+			wide[member.Head.Device] = true
 		}
 	}
-	return made
+	return wide
 }
 
 // isTaker says whether scans look at owners or attributes, and the device takes what others record.
@@ -141,22 +141,22 @@ func isTaker(member join.Member) bool { return isWide(member) && kindOf(member) 
 
 // membersWhere gives the devices of which something is so; nothing where there is none.
 func membersWhere(folder *finding.Folder, is func(join.Member) bool) []string {
-	var made []string
+	var devices []string
 	for _, member := range folder.Members {
 		if is(member) {
-			made = append(made, member.Head.Device)
+			devices = append(devices, member.Head.Device)
 		}
 	}
-	return made
+	return devices
 }
 
 // runsOf gives the version of Syncthing on each device.
 func runsOf(folder *finding.Folder) map[string]string {
-	made := map[string]string{}
+	versions := map[string]string{}
 	for _, member := range folder.Members {
-		made[member.Head.Device] = member.Head.Runs
+		versions[member.Head.Device] = member.Head.Runs
 	}
-	return made
+	return versions
 }
 
 // reader reads what is wrong with a name that has a winner.
@@ -295,23 +295,23 @@ func (r *reader) addFaults(member int) {
 // add adds a fault with what is known of it.
 func (r *reader) add(member int, cause Cause) {
 	one := r.folder.Members[member]
-	made := Fault{Device: one.Head.Device, Cause: cause, Kind: kindOf(one), Due: recorded(r.winner), Reasons: r.reasons[member],
+	fault := Fault{Device: one.Head.Device, Cause: cause, Kind: kindOf(one), Due: recorded(r.winner), Reasons: r.reasons[member],
 		isWide: isWide(one), isOverWire: one.Head.IsOverWireAlone()}
 	if at := r.at(member); at != nil {
-		made.Recorded, made.Found = recorded(at.Own), found(at.Disk)
+		fault.Recorded, fault.Found = recorded(at.Own), found(at.Disk)
 		if cause == OtherBytes || cause == Changed {
-			made.Blocks, made.Damage = blocksOf(at), damage.Of(at.Own, at.Disk)
+			fault.Blocks, fault.Damage = blocksOf(at), damage.Of(at.Own, at.Disk)
 		}
 		if at.Disk != nil {
-			made.contents = at.Disk.Contents
+			fault.contents = at.Disk.Contents
 		}
-		made.sources = r.sourcesOf(member)
-		made.isTied = cause == Behind && r.isTied(at)
-		made.isSameBytes = cause == LocalChange && hasBytesOf(at.Own, r.winner)
+		fault.sources = r.sourcesOf(member)
+		fault.isTied = cause == Behind && r.isTied(at)
+		fault.isSameBytes = cause == LocalChange && hasBytesOf(at.Own, r.winner)
 	}
-	made.isUntold = cause == Behind && !made.isTied && r.isUntold(member)
-	made.Deletion = cause == Behind && made.Due != nil && made.Due.Deleted ||
-		(cause == LocalChange || cause == Conflicting) && made.Recorded != nil && made.Recorded.Deleted
-	made.ends = endsOf(&made, r.at(member), r.winner)
-	r.file.Faults = append(r.file.Faults, made)
+	fault.isUntold = cause == Behind && !fault.isTied && r.isUntold(member)
+	fault.Deletion = cause == Behind && fault.Due != nil && fault.Due.Deleted ||
+		(cause == LocalChange || cause == Conflicting) && fault.Recorded != nil && fault.Recorded.Deleted
+	fault.ends = endsOf(&fault, r.at(member), r.winner)
+	r.file.Faults = append(r.file.Faults, fault)
 }

@@ -27,20 +27,20 @@ const (
 
 // firstOf gives what comes before all entries.
 func (s *Summary) firstOf(named labels) []First {
-	made := []First{}
-	made = append(made, s.firstScans(named)...)
+	lines := []First{}
+	lines = append(lines, s.firstScans(named)...)
 	for _, device := range s.Devices {
-		made = append(made, s.firstWaiting(device.ID, named)...)
+		lines = append(lines, s.firstWaiting(device.ID, named)...)
 	}
 	for _, device := range s.Devices {
-		made = append(made, s.firstDamaged(device.ID, named)...)
+		lines = append(lines, s.firstDamaged(device.ID, named)...)
 	}
 	for _, device := range s.Devices {
 		if s.actions.isReverted(device.ID) {
-			made = append(made, s.firstReverted(device.ID, named))
+			lines = append(lines, s.firstReverted(device.ID, named))
 		}
 	}
-	return append(made, s.firstStarts(named)...)
+	return append(lines, s.firstStarts(named)...)
 }
 
 // firstReverted tells what 'Revert Local Changes' takes away on a device. It is of the whole folder, and keeps no copy of what was changed.
@@ -85,7 +85,7 @@ func (m *Member) isScanning() bool {
 // firstStarts tells on which devices something is to be made safe before Syncthing starts, where another entry tells or implies a start there. Of names
 // that weren't asked for nobody knows what a start does.
 func (s *Summary) firstStarts(named labels) []First {
-	unseen, first, made := []string{}, []string{}, []First{}
+	unseen, first, lines := []string{}, []string{}, []First{}
 	for _, device := range s.Devices {
 		switch {
 		case s.actions.isFirst(device.ID):
@@ -95,14 +95,14 @@ func (s *Summary) firstStarts(named labels) []First {
 		}
 	}
 	if len(first) > 0 {
-		made = append(made, First{Why: isMadeSafe, Devices: first, Text: "first, on " + named.all(first) +
+		lines = append(lines, First{Why: isMadeSafe, Devices: first, Text: "first, on " + named.all(first) +
 			": do what the steps and the entries below say to do before Syncthing starts or scans there. As it starts, it scans all folders"})
 	}
 	if len(unseen) > 0 {
-		made = append(made, First{Why: isNotAsked, Devices: unseen, Text: "before a start, on " + named.all(unseen) +
+		lines = append(lines, First{Why: isNotAsked, Devices: unseen, Text: "before a start, on " + named.all(unseen) +
 			": names that weren't asked for may be missing there. As Syncthing starts, it scans all folders, and takes them for deleted"})
 	}
-	return made
+	return lines
 }
 
 // first prints what comes before all entries, above them.

@@ -30,14 +30,14 @@ func foreteller(folder *Folder, named labels) func(name string) *foretold {
 	}
 	planOf, isListed := told.PlansByName(), told.MoreNames == 0
 	return func(name string) *foretold {
-		made := &foretold{fate: fates[name], plan: planOf(name), choices: choices, devices: devicesIn(folder), hasSteps: len(told.Plans) > 0}
+		fate := &foretold{fate: fates[name], plan: planOf(name), choices: choices, devices: devicesIn(folder), hasSteps: len(told.Plans) > 0}
 		switch {
-		case made.fate == nil && isListed && len(told.WhyNot) == 0:
-			made.why = "it isn't among the names of which something is foretold"
-		case made.fate == nil || made.is(outlook.Unknown):
-			made.why, made.fate = told.WhyUnknown(made.fate, named.all), nil
+		case fate.fate == nil && isListed && len(told.WhyNot) == 0:
+			fate.why = "it isn't among the names of which something is foretold"
+		case fate.fate == nil || fate.is(outlook.Unknown):
+			fate.why, fate.fate = told.WhyUnknown(fate.fate, named.all), nil
 		}
-		return made
+		return fate
 	}
 }
 

@@ -67,9 +67,9 @@ func (f *folding) keyOf(file *File) string {
 
 // asMany gives a name as it is told for many.
 func (f *File) asMany() *File {
-	made := *f
-	made.isMany = true
-	return &made
+	file := *f
+	file.isMany = true
+	return &file
 }
 
 // shorten keeps of each fault only its device, kind and reasons. It is for a name whose details weren't kept: so it can be
@@ -171,26 +171,26 @@ func (f *folding) end() ([]*File, []*Group) {
 func (a *alike) groupOf(named labels) *Group {
 	first := a.first[0]
 	many := first.asMany()
-	made := a.group
-	made.Cause, made.Devices, made.First, made.Have, made.Modes = Permissions, []string{}, []Text{}, first.Have, first.Permissions
-	made.Foretold, made.Advice = many.tell(named), adviceOf(many, named)
+	group := a.group
+	group.Cause, group.Devices, group.First, group.Have, group.Modes = Permissions, []string{}, []Text{}, first.Have, first.Permissions
+	group.Foretold, group.Advice = many.tell(named), adviceOf(many, named)
 	if len(first.Faults) > 0 {
-		made.Cause = first.Faults[0].Cause
-		made.Deleted = made.Cause == Behind && first.Faults[0].Deletion
+		group.Cause = first.Faults[0].Cause
+		group.Deleted = group.Cause == Behind && first.Faults[0].Deletion
 	}
-	made.of, made.isOfAnotherTime = many, first.isOfAnotherTime
+	group.of, group.isOfAnotherTime = many, first.isOfAnotherTime
 	for _, fault := range first.Faults {
-		made.Devices = append(made.Devices, fault.Device)
+		group.Devices = append(group.Devices, fault.Device)
 	}
 	for _, file := range a.first[:firstNames] {
-		made.First = append(made.First, file.Name)
+		group.First = append(group.First, file.Name)
 	}
-	return &made
+	return &group
 }
 
 // modesOf gives the permissions of a name.
 func modesOf(folder *finding.Folder, permissions *finding.Permissions) []Mode {
-	made := []Mode{}
+	modes := []Mode{}
 	for member, bits := range permissions.At {
 		if !bits.Has && !bits.OnDisk {
 			continue
@@ -202,7 +202,7 @@ func modesOf(folder *finding.Folder, permissions *finding.Permissions) []Mode {
 		if bits.OnDisk {
 			mode.Disk = fmt.Sprintf("%04o", bits.Disk)
 		}
-		made = append(made, mode)
+		modes = append(modes, mode)
 	}
-	return made
+	return modes
 }

@@ -54,15 +54,15 @@ func liveOf(from *finding.Folder) *Live {
 	if from.Live == nil {
 		return nil
 	}
-	made := &Live{isOfParts: from.Live.OfParts, Moving: from.Live.Moving, waits: from.Live.Waits, unseen: map[string]int64{}, Names: []Moving{}, Unheard: []Unheard{}}
+	live := &Live{isOfParts: from.Live.OfParts, Moving: from.Live.Moving, waits: from.Live.Waits, unseen: map[string]int64{}, Names: []Moving{}, Unheard: []Unheard{}}
 	if from.Live.Timed {
 		seconds := math.Round(from.Live.Seconds*1000) / 1000
-		made.Seconds = &seconds
+		live.Seconds = &seconds
 	}
 	for member := range from.Members {
 		if waits := from.SendsAfterScan(member); waits != nil {
 			for kind, count := range waits.Names {
-				made.unseen[kind] += count
+				live.unseen[kind] += count
 			}
 		}
 	}
@@ -79,12 +79,12 @@ func liveOf(from *finding.Folder) *Live {
 			}
 			next.Devices = append(next.Devices, moved)
 		}
-		made.Names = append(made.Names, next)
+		live.Names = append(live.Names, next)
 	}
 	for _, unheard := range from.Live.Unheard {
-		made.Unheard = append(made.Unheard, Unheard{id(unheard.Member), id(unheard.Of), unheard.Names})
+		live.Unheard = append(live.Unheard, Unheard{id(unheard.Member), id(unheard.Of), unheard.Names})
 	}
-	return made
+	return live
 }
 
 // inMotion says how many names are in motion, and how they wait where a scan sends something else than what is recorded.

@@ -52,14 +52,14 @@ func seeDamage(fault *Fault, file *File, named labels) string {
 
 // firstDamaged says of a device how many files look damaged there, where a scan would send that.
 func (s *Summary) firstDamaged(device string, named labels) []First {
-	made := []First{}
+	lines := []First{}
 	if count := s.actions.grown[device]; count > 0 {
-		made = append(made, First{isLonger, []string{device}, count, "first, on " + named.of(device) + ": " + counted(count, "file has", "files have") +
+		lines = append(lines, First{isLonger, []string{device}, count, "first, on " + named.of(device) + ": " + counted(count, "file has", "files have") +
 			" more bytes than recorded, or other ones than recorded zeros, under the recorded time. Keep a copy outside the folder before Syncthing starts or scans there"})
 	}
 	if count := s.actions.damaged[device]; count > 0 {
-		made = append(made, First{isDamaged, []string{device}, count, "first, on " + named.of(device) + ": " + counted(count, "file looks", "files look") +
+		lines = append(lines, First{isDamaged, []string{device}, count, "first, on " + named.of(device) + ": " + counted(count, "file looks", "files look") +
 			" damaged, not edited. Copy back what is to stay, as said below, before Syncthing starts or scans there: a scan sends the damage on"})
 	}
-	return made
+	return lines
 }

@@ -25,21 +25,21 @@ type LooseAt struct {
 
 // looseOf gives how many names keep a folder in step from being firm, and the first of them.
 func looseOf(from *finding.Folder) (int64, []Loose) {
-	made := []Loose{}
+	names := []Loose{}
 	if from.HasFailures() || from.HowFirm() != finding.NotFirm {
-		return 0, made
+		return 0, names
 	}
 	from.Loose.Each(func(loose *finding.Loose) {
-		if len(made) == finding.MostListed {
+		if len(names) == finding.MostListed {
 			return
 		}
 		next := Loose{Name: Text(loose.Name), Devices: []LooseAt{}}
 		for _, at := range loose.At {
 			next.Devices = append(next.Devices, LooseAt{from.Members[at.Member].Head.Device, at.Reason, at.IsOlder})
 		}
-		made = append(made, next)
+		names = append(names, next)
 	})
-	return from.Loose.Len(), made
+	return from.Loose.Len(), names
 }
 
 // mostLoose is how many names that keep a folder from being firm are told.

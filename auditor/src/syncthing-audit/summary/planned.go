@@ -9,9 +9,9 @@ import (
 type planned map[string]bool // whether it is a directory that comes back with all below it
 
 func plannedIn(of *outlook.Outlook) planned {
-	made := planned{}
+	all := planned{}
 	if of == nil {
-		return made
+		return all
 	}
 	for place := range of.Plans {
 		plan := &of.Plans[place]
@@ -19,10 +19,10 @@ func plannedIn(of *outlook.Outlook) planned {
 			continue
 		}
 		for _, name := range plan.Names {
-			made[string(name)] = plan.Below > 0
+			all[string(name)] = plan.Below > 0
 		}
 	}
-	return made
+	return all
 }
 
 // has says whether there are steps for a name, or for a directory above it that comes back with all below it.

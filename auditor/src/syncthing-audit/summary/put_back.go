@@ -8,17 +8,17 @@ import (
 
 // sourcesOf gives the other devices on whose disks the very bytes stand that a member recorded, at their time: whatever these devices recorded.
 func (r *reader) sourcesOf(member int) []string {
-	made := []string{}
+	sources := []string{}
 	own := r.at(member).Own
 	if own == nil || own.Content == nil {
-		return made
+		return sources
 	}
 	for other, at := range r.row.At {
 		if other != member && at != nil && isAsRecorded(at.Disk, own) {
-			made = append(made, r.folder.Members[other].Head.Device)
+			sources = append(sources, r.folder.Members[other].Head.Device)
 		}
 	}
-	return made
+	return sources
 }
 
 // isAsRecorded says whether the file that a record says stands on a disk, with its time.

@@ -73,13 +73,13 @@ func (s *State) isDirectory() bool { return s != nil && !s.Deleted && s.Type == 
 
 // directoriesAbove gives the directories above a name, the uppermost first.
 func directoriesAbove(name string) []string {
-	made := []string{}
+	directories := []string{}
 	for place, letter := range name {
 		if letter == '/' {
-			made = append(made, name[:place])
+			directories = append(directories, name[:place])
 		}
 	}
-	return made
+	return directories
 }
 
 // hasBytesOf says whether a record is of a file with the bytes of another one's, which isn't deleted.

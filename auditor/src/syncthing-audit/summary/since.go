@@ -72,21 +72,21 @@ func (p *printer) news(since *history.Since) {
 // placesOf gives the faults of each name at each device as one, with all their reasons and since when the first of them is found.
 func placesOf(faults []history.Told) []history.Told {
 	type place struct{ folder, name, device string }
-	made, at := []history.Told{}, map[place]int{}
+	places, at := []history.Told{}, map[place]int{}
 	for _, fault := range faults {
 		of := place{fault.Folder, string(fault.Name), fault.Device}
 		known, is := at[of]
 		if !is {
-			at[of] = len(made)
-			made = append(made, fault)
+			at[of] = len(places)
+			places = append(places, fault)
 			continue
 		}
-		made[known].Reason += ", " + fault.Reason
-		if fault.First.Before(made[known].First) {
-			made[known].First = fault.First
+		places[known].Reason += ", " + fault.Reason
+		if fault.First.Before(places[known].First) {
+			places[known].First = fault.First
 		}
 	}
-	return made
+	return places
 }
 
 // read says how old the oldest reading is.

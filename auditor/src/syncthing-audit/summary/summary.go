@@ -132,18 +132,18 @@ type Member struct {
 }
 
 func memberOf(member join.Member) Member {
-	made := Member{Device: member.Head.Device, Kind: kindOf(member), OverWire: overWireOf(member)}
+	told := Member{Device: member.Head.Device, Kind: kindOf(member), OverWire: overWireOf(member)}
 	if member.About != nil {
-		made.Path, made.Indexed, made.Paused, made.PausedDevices = member.About.Path, member.About.Indexed, member.About.Paused, member.About.PausedDevices
-		made.Writers, made.Window, made.Near = member.About.Writers, member.About.TimeWindow, member.Near
+		told.Path, told.Indexed, told.Paused, told.PausedDevices = member.About.Path, member.About.Indexed, member.About.Paused, member.About.PausedDevices
+		told.Writers, told.Window, told.Near = member.About.Writers, member.About.TimeWindow, member.Near
 		if member.About.Rest != nil {
-			made.Rest = member.About.Rest.State
+			told.Rest = member.About.Rest.State
 		}
 	}
 	if member.Temporary != nil && member.Temporary.Names > 0 {
-		made.Temporary = &Count{member.Temporary.Names, member.Temporary.Bytes}
+		told.Temporary = &Count{member.Temporary.Names, member.Temporary.Bytes}
 	}
-	return made
+	return told
 }
 
 // Copy is a conflict copy that lies about.
@@ -199,35 +199,35 @@ var notCompared = []string{"owners", "extended attributes", "old versions"}
 
 // Of gives the summary of an answer.
 func Of(answer *finding.Answer) *Summary {
-	made := &Summary{Version: Version, Verdict: verdictOf(answer), Firm: answer.HowFirm(), Devices: []Device{}, Folders: []*Folder{}, LeftOut: []LeftOut{},
+	summary := &Summary{Version: Version, Verdict: verdictOf(answer), Firm: answer.HowFirm(), Devices: []Device{}, Folders: []*Folder{}, LeftOut: []LeftOut{},
 		NotAsked: notAsked(answer), NotTold: notTold(answer), NotCompared: notCompared, isByName: answer.IsByName, byNames: answer.ByNames}
 	asked := askedOf(answer)
 	for _, device := range answer.Devices {
 		names := asked[device.ID]
-		made.Devices = append(made.Devices, Device{device.ID, device.Name, device.Made, device.From, device.Runs, Text(names.Prefix), sliceOf(names), device.Index, device.Newer, device.ToRepair, device.IsUnsigned, names})
+		summary.Devices = append(summary.Devices, Device{device.ID, device.Name, device.Made, device.From, device.Runs, Text(names.Prefix), sliceOf(names), device.Index, device.Newer, device.ToRepair, device.IsUnsigned, names})
 	}
-	named := made.labels()
-	made.actions = &actions{safe: map[string][]int{}, damaged: map[string]int64{}, waits: map[string]*waiting{}, grown: map[string]int64{}, added: map[string]int64{},
+	named := summary.labels()
+	summary.actions = &actions{safe: map[string][]int{}, damaged: map[string]int64{}, waits: map[string]*waiting{}, grown: map[string]int64{}, added: map[string]int64{},
 		changed: map[string]int64{}, taken: map[string][]int{}, reverts: map[string][]int{}, started: map[string][]int{}}
 	names := []*folding{}
 	for _, folder := range answer.Folders {
-		all := &folding{named: named, to: made.actions, alike: map[string]*alike{}, lacking: map[lacked]int64{}}
-		made.Folders, names = append(made.Folders, folderOf(answer, folder, all)), append(names, all)
+		all := &folding{named: named, to: summary.actions, alike: map[string]*alike{}, lacking: map[lacked]int64{}}
+		summary.Folders, names = append(summary.Folders, folderOf(answer, folder, all)), append(names, all)
 	}
-	for place, folder := range made.Folders { // what is told of one name depends on what is told of all others
+	for place, folder := range summary.Folders { // what is told of one name depends on what is told of all others
 		folder.Files, folder.Groups = names[place].end()
 	}
 	for _, observer := range answer.Observers {
-		made.Observers = append(made.Observers, Observer{observer.Folder, observer.Device, observer.Name})
+		summary.Observers = append(summary.Observers, Observer{observer.Folder, observer.Device, observer.Name})
 	}
-	made.First = made.firstOf(named)
+	summary.First = summary.firstOf(named)
 	for _, refusal := range answer.LeftOut {
-		made.LeftOut = append(made.LeftOut, LeftOut{refusal.Folder, refusal.Device, refusal.Kind, refusal.Why, refusal.Label})
+		summary.LeftOut = append(summary.LeftOut, LeftOut{refusal.Folder, refusal.Device, refusal.Kind, refusal.Why, refusal.Label})
 	}
 	for _, refusal := range answer.Earlier {
-		made.Earlier = append(made.Earlier, LeftOut{refusal.Folder, refusal.Device, refusal.Kind, refusal.Why, refusal.Label})
+		summary.Earlier = append(summary.Earlier, LeftOut{refusal.Folder, refusal.Device, refusal.Kind, refusal.Why, refusal.Label})
 	}
-	return made
+	return summary
 }
 
 // lengthOfShort is how much of an id tells devices of one name apart.
@@ -239,20 +239,20 @@ func (s *Summary) labels() labels {
 	for _, device := range s.Devices {
 		count[device.Name]++
 	}
-	made := labels{}
+	named := labels{}
 	for _, device := range s.Devices {
 		short := device.ID
 		if len(short) > lengthOfShort {
 			short = short[:lengthOfShort]
 		}
-		made[device.ID] = shell.Printable(device.Name)
+		named[device.ID] = shell.Printable(device.Name)
 		if device.Name == "" {
-			made[device.ID] = short
+			named[device.ID] = short
 		} else if count[device.Name] > 1 {
-			made[device.ID] += " (" + short + ")"
+			named[device.ID] += " (" + short + ")"
 		}
 	}
-	return made
+	return named
 }
 
 func verdictOf(answer *finding.Answer) string {
@@ -268,19 +268,19 @@ func verdictOf(answer *finding.Answer) string {
 
 // folderOf gives the summary of a folder, but for what is told of its names, which it puts there.
 func folderOf(answer *finding.Answer, from *finding.Folder, all *folding) *Folder {
-	made := &Folder{ID: from.ID, Label: from.Label, Own: from.Own != "", isApart: answer.IsApart(from), Verdict: InStep, Names: from.Names, Deleted: from.Deleted, Going: from.Deleting, Bytes: from.Bytes,
+	folder := &Folder{ID: from.ID, Label: from.Label, Own: from.Own != "", isApart: answer.IsApart(from), Verdict: InStep, Names: from.Names, Deleted: from.Deleted, Going: from.Deleting, Bytes: from.Bytes,
 		Devices: []Member{}, Files: []*File{}, Groups: []*Group{}, Copies: []Copy{}, LeftOut: []Names{}, Ignored: Count(from.Outside), MoreOut: Count(from.Unlisted.LeftOut), More: Count(from.Unlisted.Conflicts)}
 	switch {
 	case from.HasFailures():
-		made.Verdict = NotInStep
+		folder.Verdict = NotInStep
 	case answer.IsPart(from):
-		made.Verdict = AsFar
+		folder.Verdict = AsFar
 	}
 	for _, member := range from.Members {
-		made.Devices = append(made.Devices, memberOf(member))
+		folder.Devices = append(folder.Devices, memberOf(member))
 	}
-	made.Outlook = print.OutlookOf(from.Outlook, devicesIn(made))
-	foretell := foreteller(made, all.named)
+	folder.Outlook = print.OutlookOf(from.Outlook, devicesIn(folder))
+	foretell := foreteller(folder, all.named)
 	without := &withoutSteps{planned: plannedIn(from.Outlook)}
 	from.EachName(func(told *finding.Told) {
 		file := fileOf(from, told)
@@ -289,27 +289,27 @@ func folderOf(answer *finding.Answer, from *finding.Folder, all *folding) *Folde
 		all.take(file)
 		without.note(file)
 	})
-	made.Wrong, made.modes = all.wrong, all.modes
+	folder.Wrong, folder.modes = all.wrong, all.modes
 	all.to.noteWaiting(from)
 	for _, conflict := range from.Conflicts {
-		made.Copies = append(made.Copies, Copy{Text(conflict.Name), conflict.Bytes})
+		folder.Copies = append(folder.Copies, Copy{Text(conflict.Name), conflict.Bytes})
 	}
 	for _, left := range from.LeftOut {
-		made.LeftOut = append(made.LeftOut, namesOf(from, left))
+		folder.LeftOut = append(folder.LeftOut, namesOf(from, left))
 	}
-	made.Live = liveOf(from)
-	made.Firm = from.HowFirm()
-	made.Loose, made.NotFirm = looseOf(from)
-	made.Unsure = unsureOf(from)
-	made.Converging, made.Hindrance = answer.HowConverging(from), hindranceOf(from)
-	if made.Converging == finding.Converges {
-		made.Pairs = from.Convergence.Pairs
+	folder.Live = liveOf(from)
+	folder.Firm = from.HowFirm()
+	folder.Loose, folder.NotFirm = looseOf(from)
+	folder.Unsure = unsureOf(from)
+	folder.Converging, folder.Hindrance = answer.HowConverging(from), hindranceOf(from)
+	if folder.Converging == finding.Converges {
+		folder.Pairs = from.Convergence.Pairs
 	}
-	if made.Outlook != nil {
-		made.Outlook.WithoutSteps, made.Outlook.FirstWithout = without.count, without.first
+	if folder.Outlook != nil {
+		folder.Outlook.WithoutSteps, folder.Outlook.FirstWithout = without.count, without.first
 	}
-	made.lacksOutlook = answer.IsSum && from.Outlook == nil && made.Verdict == NotInStep
-	return made
+	folder.lacksOutlook = answer.IsSum && from.Outlook == nil && folder.Verdict == NotInStep
+	return folder
 }
 
 func devicesIn(folder *Folder) []string {
@@ -322,24 +322,24 @@ func devicesIn(folder *Folder) []string {
 
 // namesOf gives what was left out.
 func namesOf(folder *finding.Folder, left *finding.LeftOut) Names {
-	made := Names{Name: Text(left.Name), Below: left.Below, Names: left.Names, Bytes: left.Bytes, Why: []WhyLeft{}}
+	names := Names{Name: Text(left.Name), Below: left.Below, Names: left.Names, Bytes: left.Bytes, Why: []WhyLeft{}}
 	for _, why := range left.Why {
 		device := ""
 		if why.Member >= 0 {
 			device = folder.Members[why.Member].Head.Device
 		}
-		made.Why = append(made.Why, WhyLeft{device, why.Kind, why.Why})
+		names.Why = append(names.Why, WhyLeft{device, why.Kind, why.Why})
 	}
-	return made
+	return names
 }
 
 // askedOf gives, for each device, which names were read of it.
 func askedOf(answer *finding.Answer) map[string]choice.Names {
-	made := map[string]choice.Names{}
+	asked := map[string]choice.Names{}
 	for _, folder := range answer.Folders {
 		for _, member := range folder.Members {
-			made[member.Head.Device] = member.Head.Names
+			asked[member.Head.Device] = member.Head.Names
 		}
 	}
-	return made
+	return asked
 }

@@ -175,11 +175,11 @@ func isOfNobody(file *File) bool {
 }
 
 func devicesOf(follows []Follow) []string {
-	made := []string{}
+	devices := []string{}
 	for _, follow := range follows {
-		made = addOnce(made, follow.Device)
+		devices = addOnce(devices, follow.Device)
 	}
-	return made
+	return devices
 }
 
 // wordsOf say what is wrong.

@@ -82,11 +82,11 @@ func (p *printer) together(folder *Folder, all []*File) {
 
 // faultsAt gives the faults of all names at this place, as of one device.
 func faultsAt(all []*File, place int) []*Fault {
-	made := []*Fault{}
+	faults := []*Fault{}
 	for _, file := range all {
-		made = append(made, &file.Faults[place])
+		faults = append(faults, &file.Faults[place])
 	}
-	return made
+	return faults
 }
 
 // differingInAll says how many blocks differ in all names, where these have other bytes on a disk.

@@ -18,24 +18,24 @@ type NotAsked struct {
 
 // notAsked gives the folders of these devices that weren't asked for.
 func notAsked(answer *finding.Answer) []NotAsked {
-	made := []NotAsked{}
+	folders := []NotAsked{}
 	for _, device := range answer.Devices {
 		for _, unasked := range device.Unasked {
-			made = append(made, NotAsked{unasked.ID, unasked.Label, device.ID, unasked.InPart})
+			folders = append(folders, NotAsked{unasked.ID, unasked.Label, device.ID, unasked.InPart})
 		}
 	}
-	return made
+	return folders
 }
 
 // notTold gives the devices whose parts don't say which folders they haven't.
 func notTold(answer *finding.Answer) []string {
-	made := []string{}
+	devices := []string{}
 	for _, device := range answer.Devices {
 		if device.IsSilent {
-			made = append(made, device.ID)
+			devices = append(devices, device.ID)
 		}
 	}
-	return made
+	return devices
 }
 
 // otherNames prints which names weren't audited, where some weren't asked for: all parts have the same.

@@ -15,11 +15,11 @@ type Unsure struct {
 
 // unsureOf gives what may change a folder in step.
 func unsureOf(from *finding.Folder) []Unsure {
-	made := []Unsure{}
+	things := []Unsure{}
 	for _, unsure := range from.Unsure() {
-		made = append(made, Unsure{from.Members[unsure.Member].Head.Device, unsure.Kind, whyUnsure(unsure), unsure.Names})
+		things = append(things, Unsure{from.Members[unsure.Member].Head.Device, unsure.Kind, whyUnsure(unsure), unsure.Names})
 	}
-	return made
+	return things
 }
 
 // whyUnsure says in words what may change a folder.

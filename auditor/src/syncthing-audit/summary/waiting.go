@@ -128,14 +128,14 @@ func (f *File) waitsAdvice(named labels) []string {
 
 // actsOn gives the devices on which something is done for the name: where Syncthing is stopped for that, it starts again.
 func (f *File) actsOn() []string {
-	made := f.toStart()
+	devices := f.toStart()
 	for place := range f.Faults {
-		made = addOnce(made, f.Faults[place].Device)
+		devices = addOnce(devices, f.Faults[place].Device)
 	}
 	for _, mode := range f.Permissions {
-		made = addOnce(made, mode.Device)
+		devices = addOnce(devices, mode.Device)
 	}
-	return made
+	return devices
 }
 
 // rankOf gives the place of the first of a name's kinds of waiting: what looks most like damage is told first.
@@ -151,9 +151,9 @@ func (m *Moving) rankOf() int {
 
 // worst gives the names in motion, those that look most like damage first.
 func (l *Live) worst() []Moving {
-	made := append([]Moving{}, l.Names...)
-	sort.SliceStable(made, func(one, other int) bool { return made[one].rankOf() < made[other].rankOf() })
-	return made
+	names := append([]Moving{}, l.Names...)
+	sort.SliceStable(names, func(one, other int) bool { return names[one].rankOf() < names[other].rankOf() })
+	return names
 }
 
 // wordsOf says how a name waits for a scan on a device, and where what is recorded stands.

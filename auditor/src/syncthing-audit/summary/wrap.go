@@ -10,7 +10,7 @@ var quoted = regexp.MustCompile(`^(?:\\['\\]|'[^']+')+`)
 // wordsOfText gives the words between which a text may go on on another line. What is quoted is one of them, whatever spaces it has: who copies it from a
 // terminal gets it whole. An apostrophe within a word begins nothing.
 func wordsOfText(text string) []string {
-	made, begun, isBegin := []string{}, 0, true
+	words, begun, isBegin := []string{}, 0, true
 	for at := 0; at < len(text); at++ {
 		if length := len(quoted.FindString(text[at:])); isBegin && length > 0 {
 			at, isBegin = at+length-1, false
@@ -18,10 +18,10 @@ func wordsOfText(text string) []string {
 		}
 		isBegin = text[at] == ' ' || text[at] == '('
 		if text[at] == ' ' {
-			made, begun = append(made, text[begun:at]), at+1
+			words, begun = append(words, text[begun:at]), at+1
 		}
 	}
-	return append(made, text[begun:])
+	return append(words, text[begun:])
 }
 
 // widthOfText is how long a line of running text grows, about.

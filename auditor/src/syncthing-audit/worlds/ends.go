@@ -10,16 +10,16 @@ import (
 
 // Texts gives ends as texts to compare, each once, rising.
 func Texts(ends []End) []string {
-	made := map[string]bool{}
+	all := map[string]bool{}
 	for _, end := range ends {
 		text, err := json.Marshal(end.spread())
 		if err != nil {
 			panic(err)
 		}
-		made[string(text)] = true
+		all[string(text)] = true
 	}
-	texts := make([]string, 0, len(made))
-	for text := range made {
+	texts := make([]string, 0, len(all))
+	for text := range all {
 		texts = append(texts, text)
 	}
 	sort.Strings(texts)
@@ -28,13 +28,13 @@ func Texts(ends []End) []string {
 
 // spread gives an end with an entry for each device.
 func (e End) spread() End {
-	made := End{}
+	end := End{}
 	for devices, names := range e {
 		for _, device := range strings.Split(devices, ", ") {
-			made[device] = names
+			end[device] = names
 		}
 	}
-	return made
+	return end
 }
 
 // Foretold gives the ends that the forecast has of a world, and whether it tried all orders.
@@ -49,20 +49,20 @@ func (w *World) Foretold(release forecast.Release) ([]End, bool, error) {
 		names = append(names, name)
 	}
 	sort.Strings(names)
-	var made []End
+	var ends []End
 	for _, end := range answer.Ends {
 		foretold := End{}
 		for place, name := range names {
 			foretold[name] = namesOf(end.Disks[place])
 		}
-		made = append(made, foretold)
+		ends = append(ends, foretold)
 	}
-	return made, answer.IsAll, nil
+	return ends, answer.IsAll, nil
 }
 
 // namesOf gives what stands on a disk.
 func namesOf(places []forecast.Place) map[string]interface{} {
-	made := map[string]interface{}{}
+	names := map[string]interface{}{}
 	copies := map[string]map[string]bool{}
 	for _, place := range places {
 		root, isCopy := place.Name, place.IsCopy
@@ -70,7 +70,7 @@ func namesOf(places []forecast.Place) map[string]interface{} {
 			root, isCopy = rootOf(root), true
 		}
 		if !isCopy {
-			made[root] = wordsOf(&place.Node)
+			names[root] = wordsOf(&place.Node)
 			continue
 		}
 		if copies[root] == nil {
@@ -84,9 +84,9 @@ func namesOf(places []forecast.Place) map[string]interface{} {
 			words = append(words, word)
 		}
 		sort.Strings(words)
-		made["copies of "+root] = words
+		names["copies of "+root] = words
 	}
-	return made
+	return names
 }
 
 // rootOf gives what a conflict copy is a copy of.

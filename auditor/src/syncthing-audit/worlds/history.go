@@ -49,24 +49,24 @@ func (w *World) Play(release forecast.Release) (forecast.World, error) {
 
 // device gives a device, which at first sends and receives.
 func (w *World) device(name string, number uint64, release forecast.Release) (forecast.Device, error) {
-	made := forecast.Device{Release: release, Number: number, MaxConflicts: 10}
+	device := forecast.Device{Release: release, Number: number, MaxConflicts: 10}
 	for option, value := range w.Options[name] {
 		switch option {
 		case "maxConflicts":
 			most, err := strconv.Atoi(value)
 			if err != nil {
-				return made, err
+				return device, err
 			}
-			made.MaxConflicts = most
+			device.MaxConflicts = most
 		case "ignorePerms":
-			made.IgnorePermissions = value == "true"
+			device.IgnorePermissions = value == "true"
 		case "ignoreDelete":
-			made.IgnoreDelete = value == "true"
+			device.IgnoreDelete = value == "true"
 		default:
-			return made, fmt.Errorf("no option %q", option)
+			return device, fmt.Errorf("no option %q", option)
 		}
 	}
-	return made, nil
+	return device, nil
 }
 
 func (p *player) take(step []interface{}) error {

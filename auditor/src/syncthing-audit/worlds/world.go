@@ -47,6 +47,6 @@ func Read(path string) (*World, error) {
 	if err != nil {
 		return nil, err
 	}
-	made := &World{}
-	return made, json.Unmarshal(text, made)
+	world := &World{}
+	return world, json.Unmarshal(text, world)
 }
