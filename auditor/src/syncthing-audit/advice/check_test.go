@@ -20,8 +20,7 @@ type plainly struct {
 
 // plainlyOf gives nothing where a step needs what a step before it took away: no list of steps is such.
 func plainlyOf(search Search, world forecast.World, goals []Goal, steps []Step) *plainly {
-	told, so := &plainly{isThere: true, lost: contents{}, anyway: contents{}}, world.Copied()
-	onDisks(&world).lostIn(search.answer(world).Ends, told.anyway)
+	told, so := &plainly{isThere: true, anyway: lostPlainly(world, search.answer(world).Ends)}, world.Copied()
 	var onTheWay []contents
 	for _, step := range steps {
 		from := map[Act]int{Touch: step.Device, Copy: step.From}
@@ -35,14 +34,12 @@ func plainlyOf(search Search, world forecast.World, goals []Goal, steps []Step) 
 			told.isThere = false
 			return told
 		}
-		left := contents{}
-		onDisks(&world).lostIn(search.answer(so).Ends, left)
-		onTheWay = append(onTheWay, left)
+		onTheWay = append(onTheWay, lostPlainly(world, search.answer(so).Ends))
 		step.On(&so, present)
 	}
 	answer := search.answer(so)
 	told.isKnown = len(answer.Ends) > 0 && answer.Endless == 0
-	onDisks(&world).lostIn(answer.Ends, told.lost)
+	told.lost = lostPlainly(world, answer.Ends)
 	for _, goal := range goals {
 		for place := range answer.Ends {
 			if !goal.isReached(&answer.Ends[place]) {
@@ -52,9 +49,37 @@ func plainlyOf(search Search, world forecast.World, goals []Goal, steps []Step) 
 		}
 	}
 	for _, left := range onTheWay {
-		told.isUnsafe = told.isUnsafe || !left.isWithin(told.lost, told.anyway)
+		for content := range left {
+			told.isUnsafe = told.isUnsafe || !told.lost[content] && !told.anyway[content]
+		}
 	}
 	return told
+}
+
+// lostPlainly gives the bytes of a world's disks that some end has nowhere.
+func lostPlainly(world forecast.World, ends []forecast.End) contents {
+	lost := contents{}
+	for _, name := range world.Names {
+		for _, what := range name.Disk {
+			for place := range ends {
+				if what != nil && what.Content.Size > 0 && !hasBytes(&ends[place], what.Content) {
+					lost[what.Content] = true
+				}
+			}
+		}
+	}
+	return lost
+}
+
+func hasBytes(end *forecast.End, content forecast.Content) bool {
+	for _, disk := range end.Disks {
+		for _, place := range disk {
+			if place.Node.Content == content {
+				return true
+			}
+		}
+	}
+	return false
 }
 
 // costs are the bytes that the steps lose, and nobody else.

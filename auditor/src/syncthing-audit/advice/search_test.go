@@ -1,0 +1,111 @@
+package advice
+
+import (
+	"fmt"
+	"reflect"
+	"sort"
+	"testing"
+
+	"syncthing-audit/forecast"
+)
+
+// candidates are the steps that may serve a goal: a new time for it where it stands, copies of it from the first device that has it, and the deletion of
+// what stands there instead.
+func candidates(world forecast.World, goal Goal) []Step {
+	var found []Step
+	first := -1
+	for device := range world.Devices {
+		if goal.Node != nil && reflect.DeepEqual(contentAt(world, device), goal.Node.Content) {
+			found = append(found, Step{Touch, device, 0, "a"})
+			if first < 0 {
+				first = device
+			}
+		}
+	}
+	for device := range world.Devices {
+		if what := world.At(device, "a"); goal.Node == nil || what == nil || what.Content != goal.Node.Content {
+			if first >= 0 {
+				found = append(found, Step{Copy, device, first, "a"})
+			}
+			if what != nil {
+				found = append(found, Step{Delete, device, 0, "a"})
+			}
+		}
+	}
+	return found
+}
+
+func contentAt(world forecast.World, device int) interface{} {
+	if what := world.At(device, "a"); what != nil {
+		return what.Content
+	}
+	return nil
+}
+
+// plansPlainly gives the choices of so many steps that are a plan in some order, each as a text.
+func plansPlainly(search Search, world forecast.World, goal Goal, count int) []string {
+	var found []string
+	choose(candidates(world, goal), count, func(steps []Step) {
+		isPlan := false
+		permute(append([]Step{}, steps...), func(order []Step) bool {
+			due := plainlyOf(search, world, []Goal{goal}, order)
+			isPlan = due != nil && due.isThere && due.isKnown && len(due.missed) == 0 && !due.isUnsafe
+			return !isPlan
+		})
+		if isPlan {
+			found = append(found, textOf(steps))
+		}
+	})
+	sort.Strings(found)
+	return found
+}
+
+// textOf names steps whatever their order.
+func textOf(steps []Step) string {
+	var each []string
+	for _, step := range steps {
+		each = append(each, fmt.Sprint(step))
+	}
+	sort.Strings(each)
+	return fmt.Sprint(each)
+}
+
+// The plans of a goal are all choices of as few steps as serve, in an order in which one may stop; those that lose least come first.
+func TestPlansAreAllShortestOnes(t *testing.T) {
+	search := Search{forecast.New(forecast.Usual), present}
+	counts, isSorted := map[int]int{}, 0
+	for _, kinds := range [][]forecast.Kind{{both, both}, {both, both, both}, {sends, both, receive}} {
+		for draw := 0; draw < 64; draw += 5 {
+			disks := make([]*forecast.Node, len(kinds))
+			for place := range disks {
+				disks[place] = []*forecast.Node{node("old", 5), node("rot", 5), node(fmt.Sprint("new ", place), int64(60+draw%7*place)), nil}[draw>>(2*place)&3]
+			}
+			world := world(devices(kinds...), disks...)
+			goal := Goal{"a", disks[draw%len(disks)]}
+			plans := search.Plans(world, goal)
+			var told, due []string
+			count := 0
+			for ; count <= MostSteps && due == nil; count++ {
+				due = plansPlainly(search, world, goal, count)
+			}
+			for place, plan := range plans {
+				told = append(told, textOf(plan.Steps))
+				if place > 0 && len(plans[place-1].Lost) > len(plan.Lost) {
+					t.Errorf("%v, %+v: a plan that loses less comes later", kinds, goal)
+				}
+				if place > 0 && len(plans[place-1].Lost) < len(plan.Lost) {
+					isSorted++
+				}
+			}
+			if sort.Strings(told); !reflect.DeepEqual(told, due) {
+				t.Errorf("%v, draw %d, %+v: %v, not %v", kinds, draw, goal, told, due)
+			}
+			if len(plans) > 0 {
+				counts[count-1]++
+			}
+		}
+	}
+	if counts[0] == 0 || counts[1] == 0 || counts[2] == 0 || isSorted == 0 {
+		t.Errorf("plans by their steps: %v, %d of them lose more than others", counts, isSorted)
+	}
+}
