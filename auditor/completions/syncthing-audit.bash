@@ -1,19 +1,20 @@
 # Completion of syncthing-audit for bash: source this file, or put it into share/bash-completion/completions as
 # 'syncthing-audit'.
+# The program's flags.txt makes this file (go run syncthing-audit/flags/write): change it there.
 
 # The flags of each command.
 _syncthing_audit_flags() {
   case $1 in
-    part) echo '--observer --home --data --map --folder --names --slice --jobs --about --begin --end --tokens --heed-input --rescan --still --strict --leave-out --sign --paths -o --help' ;;
-    run) echo '--observer --data --map --folder --names --slice --jobs --strict --leave-out --lines --json --script --syncaudit --still --rescan --remote-program --paths --dry-run --history --help' ;;
-    check) echo '--observer --home --data --map --folder --names --slice --jobs --strict --leave-out --bytes --allowed-signers --lines --json --script --syncaudit --history --help' ;;
-    observe) echo '--init --home --folder --names --slice --jobs --records --budget --every --passwords --listen --disk --still --into --history --strict --leave-out --lines --json --script --syncaudit --help' ;;
-    disk) echo '--after --block-size --names --slice --jobs --config --marker --paths --sign -o --help' ;;
-    export) echo '--observer --home --data --map --folder --names --slice --jobs --strict --leave-out --bytes --allowed-signers --into --help' ;;
-    report) echo '--observer --home --data --map --folder --names --slice --jobs --strict --leave-out --allowed-signers --syncaudit --history --html --watch --help' ;;
-    watch) echo '--jobs --still --syncaudit --help' ;;
+    part) echo '--home --observer --data --map --folder --names --slice -o --about --begin --end --heed-input --tokens --rescan --still --sign --paths --strict --leave-out --jobs --help' ;;
+    check) echo '--home --observer --data --map --folder --names --slice --allowed-signers --strict --leave-out --lines --json --script --history --bytes --syncaudit --jobs --help' ;;
+    run) echo '--observer --data --map --folder --names --slice --rescan --still --remote-program --dry-run --paths --strict --leave-out --lines --json --script --history --syncaudit --jobs --help' ;;
+    observe) echo '--home --init --records --budget --passwords --every --listen --disk --folder --names --slice --still --strict --leave-out --lines --json --script --history --into --syncaudit --jobs --help' ;;
+    disk) echo '--after --block-size --config --marker --names --slice -o --sign --paths --jobs --help' ;;
+    watch) echo '--still --syncaudit --jobs --help' ;;
+    report) echo '--home --observer --data --map --folder --names --slice --allowed-signers --strict --leave-out --html --watch --history --syncaudit --jobs --help' ;;
+    export) echo '--home --observer --data --map --folder --names --slice --allowed-signers --strict --leave-out --bytes --into --jobs --help' ;;
     sum) echo '--lines --json --script --help' ;;
-    find) echo '--history --folder --jobs --help' ;;
+    find) echo '--folder --history --jobs --help' ;;
   esac
 }
 
@@ -31,22 +32,24 @@ _syncthing_audit() {
   local command=${COMP_WORDS[1]}
   COMPREPLY=()
   if [ "$COMP_CWORD" = 1 ]; then
-    mapfile -t COMPREPLY < <(compgen -W 'part check run observe watch report disk export sum find --about --help --version' -- "$word")
+    mapfile -t COMPREPLY < <(compgen -W 'part check run observe disk watch report export sum find --about --help --version' -- "$word")
     return
   fi
   case $before in
-    --home | --data | --into | --script | --history) mapfile -t COMPREPLY < <(compgen -d -- "$word") ;;
-    --syncaudit | --tokens | --passwords | --sign | --allowed-signers | --disk | --config | --html | --watch | -o) mapfile -t COMPREPLY < <(compgen -f -- "$word") ;;
+    --home | --data | --script | --history | --into) mapfile -t COMPREPLY < <(compgen -d -- "$word") ;;
+    --passwords | --disk | --config | -o | --tokens | --sign | --allowed-signers | --html | --watch | --syncaudit) mapfile -t COMPREPLY < <(compgen -f -- "$word") ;;
     --leave-out) mapfile -t COMPREPLY < <(_syncthing_audit_kinds "$word") ;;
-    --map | --folder | --names | --slice | --jobs | --still | --remote-program | --budget | --every | --listen | --observer | --after | --block-size | --marker) ;;
+    --budget | --every | --observer | --listen | --after | --block-size | --marker | --map | --folder | --names | --slice | --still | --remote-program | --jobs) ;;
     *)
       if [[ $word == -* ]]; then
         mapfile -t COMPREPLY < <(compgen -W "$(_syncthing_audit_flags "$command")" -- "$word")
-      elif [ "$command" = sum ] || [ "$command" = find ] || [ "$command" = run ]; then
-        mapfile -t COMPREPLY < <(compgen -d -- "$word")
-      elif [ "$command" = check ] || [ "$command" = report ] || [ "$command" = export ]; then
-        mapfile -t COMPREPLY < <(compgen -f -X '!*.part' -- "$word"; compgen -d -- "$word")
+        return
       fi
+      case $command in
+        run | sum | find) mapfile -t COMPREPLY < <(compgen -d -- "$word") ;;
+        check | report | export) mapfile -t COMPREPLY < <(compgen -f -X '!*.part' -- "$word"; compgen -d -- "$word") ;;
+        watch) mapfile -t COMPREPLY < <(compgen -f -- "$word") ;;
+      esac
       ;;
   esac
 }

@@ -16,8 +16,7 @@ audit_flags() {
 
 # The kinds of --leave-out.
 audit_kinds() {
-  sed -n '/^leaves out these kinds/,/^\.TP/p' "$page" | sed 's/.*between: //' | tr -c 'a-z\n' '\n' |
-    grep -xE 'ignored|unreadable|changing|special|names|targets|records|rescan|large|absent|encrypted|unshared|moment|unknown'
+  sed -n '/^leaves out these kinds/,/^\.RE/s/^\.IP //p' "$page"
 }
 
 expect "the man page of syncthing-audit has other commands: $(audit_commands | paste -sd ' ')" \

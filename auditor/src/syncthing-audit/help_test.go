@@ -7,31 +7,26 @@ import (
 	"sort"
 	"strings"
 	"testing"
+
+	"syncthing-audit/flags"
+	"syncthing-audit/part"
 )
 
 // inTable gives the flags of a command, rising.
 func inTable(command string) string {
-	all := strings.Fields(flagsOfCommands[command])
-	sort.Strings(all)
-	return strings.Join(all, " ")
+	names := []string{}
+	for _, flag := range commandLine.OfCommand(command) {
+		names = append(names, flag.Name)
+	}
+	sort.Strings(names)
+	return strings.Join(names, " ")
 }
 
-// The help of a command has its flags alone, as completions offer them, and how it is called; it is the same by each way to ask for it.
+var flagOfHelp = regexp.MustCompile(`(?m)^  (--?[a-z-]+) `)
+
+// The help of a command has its flags alone, and how it is called; it is the same by each way to ask for it.
 func TestTheHelpOfACommand(t *testing.T) {
-	bash, err := os.ReadFile("../../completions/syncthing-audit.bash")
-	if err != nil {
-		t.Fatal(err)
-	}
 	for command := range commands {
-		offered := regexp.MustCompile(`(?m)^    ` + command + `\) echo '(.*) --help' ;;$`).FindStringSubmatch(string(bash))
-		if offered == nil {
-			t.Fatalf("bash completes no flags of %s", command)
-		}
-		words := strings.Fields(offered[1])
-		sort.Strings(words)
-		if strings.Join(words, " ") != inTable(command) {
-			t.Errorf("%s has %s, and bash offers %v", command, inTable(command), words)
-		}
 		text := helpOf(command)
 		told := []string{}
 		for _, one := range flagOfHelp.FindAllStringSubmatch(text, -1) {
@@ -63,15 +58,59 @@ func TestTheHelpOfACommand(t *testing.T) {
 	}
 }
 
-// A command takes each flag of its help.
+// A command takes the flags of its help, and no other one.
 func TestACommandTakesTheFlagsOfItsHelp(t *testing.T) {
 	for command := range commands {
-		for _, one := range strings.Fields(flagsOfCommands[command]) {
+		for _, flag := range commandLine.Flags {
 			var log strings.Builder
-			run([]string{command, one + "=\x00"}, io.Discard, &log) // nothing is done of that
-			if strings.Contains(log.String(), "has no flag") || strings.Contains(log.String(), "there is no flag") {
-				t.Errorf("the help of %s has %s: %s", command, one, log.String())
+			words := []string{command, flag.Name}
+			if flag.Word != "" {
+				words = append(words, valueOf(flag.Name))
 			}
+			if commandLine.IsOf("--jobs", command) {
+				words = append(words, "--jobs", "0") // nothing is done of that
+			}
+			run(words, io.Discard, &log)
+			told := insteadOf[command+" "+flag.Name]
+			takes := !strings.Contains(log.String(), command+" has no flag "+flag.Name+"\n") && (told == "" || !strings.Contains(log.String(), told))
+			if isTold := strings.Contains(" "+inTable(command)+" ", " "+flag.Name+" "); takes != isTold {
+				t.Errorf("%s takes %s: %t, and its help has it: %t: %s", command, flag.Name, takes, isTold, log.String())
+			}
+		}
+	}
+}
+
+// valueOf gives a word that a flag takes.
+func valueOf(flag string) string {
+	values := map[string]string{"--slice": "1/2", "--leave-out": "absent", "--budget": "1GB", "--every": "1d", "--jobs": "1", "--still": "1", "--block-size": "131072", "--map": "/a=/b",
+		"--listen": "tcp://:0"}
+	if values[flag] != "" {
+		return values[flag]
+	}
+	return "x"
+}
+
+// The commands and kinds of flags.txt are those of the program, and each flag is of commands that are there.
+func TestTheCommandsOfFlags(t *testing.T) {
+	if got, due := strings.Join(commandLine.NamesOfKinds(), " "), strings.Join(part.Kinds, " "); got != due {
+		t.Errorf("the kinds %s in place of %s", got, due)
+	}
+	for _, command := range commandLine.Commands {
+		if commands[command.Name] == nil {
+			t.Errorf("there is no command %s", command.Name)
+		}
+	}
+	if len(commandLine.Commands) != len(commands) {
+		t.Errorf("%d commands in place of %d", len(commandLine.Commands), len(commands))
+	}
+	for _, flag := range commandLine.Flags {
+		for _, of := range flag.Of {
+			if commands[of] == nil {
+				t.Errorf("%s is of the command %s, which isn't there", flag.Name, of)
+			}
+		}
+		if (flag.Word == "") != (flag.Takes == flags.Nothing) || flag.Short == "" || flag.Help == "" || flag.Manual == "" || len(flag.Of) == 0 {
+			t.Errorf("%s lacks something: %+v", flag.Name, flag)
 		}
 	}
 }

@@ -22,34 +22,6 @@ func flagsOf(text string) map[string]bool {
 	return made
 }
 
-// The completions offer no flag that isn't there. That they offer those of the man page is tested beside them, without Go.
-func TestCompletions(t *testing.T) {
-	inHelp := flagsOf(usage)
-	inHelp["--help"] = true
-	fish := regexp.MustCompile(`(?m)^set.*$|-l ([a-z-]+)`)
-	for _, name := range []string{"syncthing-audit.bash", "_syncthing-audit", "syncthing-audit.fish"} {
-		text, err := os.ReadFile("../../completions/" + name)
-		if err != nil {
-			t.Fatal(err)
-		}
-		made := string(text)
-		if strings.HasSuffix(name, ".fish") {
-			made = fish.ReplaceAllString(made, "--$1")
-		} else {
-			made = strings.ReplaceAll(made, "(--)", "")
-		}
-		offered := flagsOf(made)
-		if len(offered) < 10 {
-			t.Errorf("%s offers %d flags", name, len(offered))
-		}
-		for one := range offered {
-			if !inHelp[one] {
-				t.Errorf("%s offers %s, which the help hasn't", name, one)
-			}
-		}
-	}
-}
-
 // The man page has each flag of the help and each kind, and no other flag.
 func TestManual(t *testing.T) {
 	page, err := os.ReadFile("../../syncthing-audit.1")

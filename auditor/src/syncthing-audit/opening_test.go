@@ -30,7 +30,7 @@ func TestFilesAreOpenedInOnePlace(t *testing.T) {
 		if mayOpen[path] == "" {
 			t.Errorf("%s opens a file to be read otherwise than by the package regular", path)
 		}
-	}, "sample/", "overwire/", "worlds/", "forecast/cmd/")
+	}, "sample/", "overwire/", "worlds/", "forecast/cmd/", "flags/render/")
 	if opened < 5 {
 		t.Errorf("%d calls that open were found", opened)
 	}

@@ -196,10 +196,42 @@ func readOptions(name string, words []string, flagsOf func(*flag.FlagSet, *optio
 		read.hasJobs = read.hasJobs || one.Name == "jobs"
 		read.hasStill = read.hasStill || one.Name == "still"
 	})
+	if err := checkFlags(name, flags); err != nil {
+		return options{}, err
+	}
 	if read.jobs < 1 {
 		return options{}, &wrongUsage{"--jobs is at least 1"}
 	}
 	return read, becomeOwner(read.homes)
+}
+
+const isOfAll = "'sum' is of all that was exported: --folder, --names and --slice are for 'export'"
+
+// insteadOf says what to do in place of a flag that a command hasn't.
+var insteadOf = map[string]string{
+	"run --home":   "'run' has the devices' places without --home: 'laptop:' or 'laptop:DIR' by ssh, a directory on this machine",
+	"sum --folder": isOfAll,
+	"sum --names":  isOfAll,
+	"sum --slice":  isOfAll,
+}
+
+// checkFlags says which flag was given that the command hasn't: those that many commands have are read for all of them.
+func checkFlags(command string, given *flag.FlagSet) error {
+	var err error
+	given.Visit(func(flag *flag.Flag) {
+		name := "--" + flag.Name
+		if len(flag.Name) == 1 {
+			name = name[1:]
+		}
+		switch told := insteadOf[command+" "+name]; {
+		case commandLine.IsOf(name, command) || err != nil:
+		case told != "":
+			err = &wrongUsage{told}
+		default:
+			err = &wrongUsage{command + " has no flag " + name}
+		}
+	})
+	return err
 }
 
 // flagOfGo is a flag as Go's package names it: with one dash, however it was written.
@@ -210,7 +242,7 @@ func wrongFlag(command string, err error) error {
 	text := flagOfGo.ReplaceAllString(err.Error(), "$1--$2")
 	if named := strings.TrimPrefix(text, "flag provided but not defined: "); named != text {
 		text = "there is no flag " + named
-		if isInHelp(named) {
+		if commandLine.Has(named) {
 			text = command + " has no flag " + named
 		}
 	}

@@ -85,8 +85,6 @@ func runDevices(asked options, output, log io.Writer) (int, error) {
 // checkRun says what is wrong with the words of 'run'.
 func (o *options) checkRun() error {
 	switch {
-	case len(o.homes) > 0:
-		return &wrongUsage{"'run' has the devices' places without --home: 'laptop:' or 'laptop:DIR' by ssh, a directory on this machine"}
 	case len(o.parts) == 0:
 		return &wrongUsage{"no device is given: 'laptop:' or 'laptop:DIR' by ssh, or a home on this machine"}
 	case o.still < 0:

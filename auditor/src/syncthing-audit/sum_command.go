@@ -19,11 +19,8 @@ func runSum(words []string, output, log io.Writer) (int, error) {
 	asked, err := readOptions("sum", words, func(flags *flag.FlagSet, read *options) {
 		answerFlags(flags, read)
 	})
-	if err == nil && (len(asked.parts) != 1 || len(asked.homes) > 0) {
+	if err == nil && len(asked.parts) != 1 {
 		err = &wrongUsage{"'sum' has one directory, to which documents were exported"}
-	}
-	if err == nil && (len(asked.folders) > 0 || !asked.names.IsAll()) {
-		err = &wrongUsage{"'sum' is of all that was exported: --folder, --names and --slice are for 'export'"}
 	}
 	if err == nil {
 		err = asked.checkForm()
