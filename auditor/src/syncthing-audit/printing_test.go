@@ -32,7 +32,7 @@ func TestPrintingIsInOnePlace(t *testing.T) {
 		if call, is := node.(*ast.CallExpr); is {
 			printed += checkPrinting(t, path, call)
 		}
-	}, "outside/", "sample/", "overwire/", "forecast/cmd/")
+	}, "outside/", "sample/", "overwire/", "forecast/cmd/", "flags/write/")
 	if printed < 50 {
 		t.Errorf("%d calls that print were found", printed)
 	}

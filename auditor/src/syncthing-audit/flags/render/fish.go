@@ -25,7 +25,9 @@ var actionsOfFish = map[flags.Takes][]string{
 func Fish(all *flags.All) string {
 	text := &strings.Builder{}
 	text.WriteString(fmt.Sprintf(fish, generated, strings.Join(namesOfCommands(all), " ")))
-	line := func(when, what string) { text.WriteString(fmt.Sprintf("complete -c syncthing-audit -n \"%s\" %s\n", when, what)) }
+	line := func(when, what string) {
+		text.WriteString(fmt.Sprintf("complete -c syncthing-audit -n \"%s\" %s\n", when, what))
+	}
 	for _, command := range all.Commands {
 		line("$none", "-a "+command.Name+" -d "+quoted(capital(command.Short)))
 	}
