@@ -56,10 +56,8 @@ Says whether Syncthing devices are in step and, if they aren't, which device is 
 
 %s
 
-Exit status: 0 in step, firm or not, or written; 1 not in step; 2 refused; 3 usage; 4 syncaudit is out of memory; 5 what was asked for
-can't be written, or syncaudit has a read or write fault; 6 in step as far as audited (the man page says when that is); 127 syncaudit
-can't be run.
-`, flags.Help(commandLine.Flags, valuesInHelp))
+%s
+`, flags.Help(commandLine.Flags, valuesInHelp), flags.HelpOnStatuses(commandLine.Statuses))
 
 // wantsHelp says that help was asked for, of a command.
 type wantsHelp struct{ command string }

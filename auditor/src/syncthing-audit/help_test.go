@@ -5,6 +5,7 @@ import (
 	"os"
 	"regexp"
 	"sort"
+	"strconv"
 	"strings"
 	"testing"
 
@@ -102,6 +103,11 @@ func TestTheCommandsOfFlags(t *testing.T) {
 	}
 	if len(commandLine.Commands) != len(commands) {
 		t.Errorf("%d commands in place of %d", len(commandLine.Commands), len(commands))
+	}
+	for place, due := range []int{statusDone, statusNotSettled, statusRefused, statusUsage, 4, statusFault, statusPartial} {
+		if got := commandLine.Statuses[place].Numbers[0]; got != strconv.Itoa(due) {
+			t.Errorf("status %s in place of %d", got, due)
+		}
 	}
 	for _, flag := range commandLine.Flags {
 		for _, of := range flag.Of {

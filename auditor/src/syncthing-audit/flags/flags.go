@@ -1,5 +1,5 @@
-// Package flags has the commands, the flags and the kinds of what is left out, each once, in flags.txt. The program's help, the completions of shells
-// and the options of the man page are made of it.
+// Package flags has the commands, the flags, the kinds of what is left out and the exit statuses, each once, in flags.txt. The program's help, the
+// completions of shells, and the man page's options and statuses are made of it.
 package flags
 
 import (
@@ -53,11 +53,19 @@ type Kind struct {
 	Manual string
 }
 
+// Status is an exit status, or several of one meaning.
+type Status struct {
+	Numbers []string
+	Help    string
+	Manual  string
+}
+
 // All is what flags.txt has, in its order.
 type All struct {
 	Commands []Command
 	Flags    []Flag
 	Kinds    []Kind
+	Statuses []Status
 }
 
 // Read gives what flags.txt has. The program has it in itself, so a fault in it is the program's.
@@ -71,7 +79,7 @@ func Read() *All {
 	return all
 }
 
-// add adds what a block says: a command, a kind or a flag.
+// add adds what a block says: a command, a kind, statuses or a flag.
 func (a *All) add(head string, fields map[string]string) {
 	words := strings.Fields(head)
 	switch {
@@ -79,6 +87,8 @@ func (a *All) add(head string, fields map[string]string) {
 		a.Commands = append(a.Commands, Command{words[1], fields["short"], Takes(fields["behind"])})
 	case words[0] == "kind":
 		a.Kinds = append(a.Kinds, Kind{words[1], fields["man"]})
+	case words[0] == "status":
+		a.Statuses = append(a.Statuses, Status{words[1:], fields["help"], fields["man"]})
 	default:
 		a.Flags = append(a.Flags, Flag{Name: words[0], Word: strings.Join(words[1:], " "), Of: strings.Fields(fields["of"]), Takes: Takes(fields["takes"]),
 			Repeats: fields["repeats"] == "yes", Apart: strings.Fields(fields["apart"]), Short: fields["short"], Help: fields["help"], Manual: fields["man"]})

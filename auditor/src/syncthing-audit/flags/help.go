@@ -21,6 +21,23 @@ func Help(flags []Flag, values map[string]string) string {
 	return strings.Join(lines, "\n")
 }
 
+// HelpOnStatuses gives the paragraph of the help on exit statuses.
+func HelpOnStatuses(statuses []Status) string {
+	texts := []string{}
+	for _, status := range statuses {
+		texts = append(texts, status.Numbers[len(status.Numbers)-1]+" "+status.Help)
+	}
+	lines, line := []string{}, "Exit status:"
+	for _, word := range strings.Fields(strings.Join(texts, "; ") + ".") {
+		if len(line)+1+len(word) > lineWidth {
+			lines, line = append(lines, line), word
+		} else {
+			line += " " + word
+		}
+	}
+	return strings.Join(append(lines, line), "\n")
+}
+
 // wrapped gives a text behind its head over as many lines as it takes.
 func wrapped(head, text string) []string {
 	lines, line := []string{}, head+"  "

@@ -9,25 +9,37 @@ import (
 	"syncthing-audit/flags"
 )
 
-// page is the man page, with the lines between which its options stand.
-const page, firstLine, lastLine = "syncthing-audit.1", ".SH OPTIONS\n", ".SH WHAT AN ANSWER MEANS\n"
+// page is the man page.
+const page = "syncthing-audit.1"
 
-// Files gives the files that are made of the flags, by their places below the folder auditor, which has the man page without its options too.
+// Files gives the files that are made of the flags, by their places below the folder auditor.
 func Files(auditor string) (map[string]string, error) {
 	all := flags.Read()
-	manual, err := os.ReadFile(filepath.Join(auditor, page))
+	text, err := os.ReadFile(filepath.Join(auditor, page))
 	if err != nil {
 		return nil, err
 	}
-	before, rest, isFirst := strings.Cut(string(manual), firstLine)
-	_, after, isLast := strings.Cut(rest, lastLine)
-	if !isFirst || !isLast {
-		return nil, fmt.Errorf("%s hasn't the lines between which the options stand", page)
+	manual, err := replaced(string(text), ".SH OPTIONS\n", ".SH WHAT AN ANSWER MEANS\n", Manual(all))
+	if err == nil {
+		manual, err = replaced(manual, ".SH EXIT STATUS\n", ".PP\nA signal", Statuses(all))
+	}
+	if err != nil {
+		return nil, err
 	}
 	return map[string]string{
-		page:                               before + firstLine + Manual(all) + lastLine + after,
+		page:                               manual,
 		"completions/syncthing-audit.bash": Bash(all),
 		"completions/_syncthing-audit":     Zsh(all),
 		"completions/syncthing-audit.fish": Fish(all),
 	}, nil
+}
+
+// replaced gives the page with other lines between these two.
+func replaced(manual, first, last, lines string) (string, error) {
+	before, rest, isFirst := strings.Cut(manual, first)
+	_, after, isLast := strings.Cut(rest, last)
+	if !isFirst || !isLast {
+		return "", fmt.Errorf("%s hasn't the lines %q and %q", page, first, last)
+	}
+	return before + first + lines + last + after, nil
 }

@@ -1,4 +1,4 @@
-// Package render makes of the commands and flags what shells complete, and the options of the man page.
+// Package render makes of the commands and flags what shells complete, and the options and statuses of the man page.
 package render
 
 import (
@@ -75,6 +75,15 @@ func Manual(all *flags.All) string {
 		page.WriteString(strings.ReplaceAll(flag.Manual, "{kinds}", kindsOf(all)) + "\n")
 	}
 	page.WriteString(".TP\n.B \\-\\-help\nThe flags of a command or, in place of one, those of all.\n")
+	return page.String()
+}
+
+// Statuses gives the exit statuses of the man page.
+func Statuses(all *flags.All) string {
+	page := &strings.Builder{}
+	for _, status := range all.Statuses {
+		page.WriteString(fmt.Sprintf(".TP\n.B %s\n%s\n", strings.Join(status.Numbers, " "), status.Manual))
+	}
 	return page.String()
 }
 
