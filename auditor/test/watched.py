@@ -88,7 +88,7 @@ class Watched(Nights):
     def test_silence_means_something(self):
         """The first night tells how all is, and each first one of a month. The others are silent."""
         status, text, mails = self.night()
-        self.assertEqual((status, self.subjects(mails)), (0, ["all is as before: in step"]), self.printed)
+        self.assertEqual((status, self.subjects(mails)), (0, ["first night: in step"]), self.printed)
         self.assertIn("\n2 devices, 0.0 GB read\ndocs: ", mails)
         self.assertTrue(text.startswith(f"docs: {in_step()}; still for 0 s: 21 names "), text)
         self.assertEqual(self.night()[::2], (0, ""))
@@ -169,7 +169,7 @@ class Watched(Nights):
         told, pinged = self.user / "told", self.user / "pinged"
         commands = f'<notify command="(echo &quot;$SUBJECT&quot;; cat) >> {told}"/><ping command="echo ping >> {pinged}"/>'
         status, text, _ = self.night(self.homes_alone + commands)
-        self.assertEqual((status, told.read_text()), (0, f"all is as before: in step\n2 devices, 0.0 GB read\n{text}"))
+        self.assertEqual((status, told.read_text()), (0, f"first night: in step\n2 devices, 0.0 GB read\n{text}"))
         self.night(self.homes_alone + commands)
         self.night(self.homes_alone + commands, SYNCAUDIT="/nowhere/syncaudit")
         self.assertEqual((pinged.read_text(), told.read_text().count("no answer")), ("ping\nping\n", 1))
@@ -231,7 +231,7 @@ class Watched(Nights):
     def test_a_slice_each_night(self):
         status, text, mails = self.night(f'{self.homes_alone}<slices count="3"/>')
         due = int(time.time() // 86400 % 3) + 1
-        self.assertEqual((status, self.subjects(mails)), (6 if "as far as audited" in text else 0, [f"all is as before: in step, slice {due} of 3 of all names"]), self.printed)
+        self.assertEqual((status, self.subjects(mails)), (6 if "as far as audited" in text else 0, [f"first night: in step, slice {due} of 3 of all names"]), self.printed)
         self.assertIn(f'syncthing_audit_slice{{of="3"}} {due}', self.metrics.read_text().splitlines())
         self.assertRegex(self.metrics.read_text(), rf'(?m)^syncthing_audit_names{{folder="docs",slice="{due}/3"}} \d+$')
 

@@ -97,6 +97,9 @@ func (n *night) run() (status int) {
 	}
 	defer state.Close()
 	n.state = state
+	if state.Lost != nil {
+		n.news = append(n.news, outside.Sprintf("what the night before left is lost, so some of what is told below may have been told before: %v", state.Lost))
+	}
 	if state.Untold {
 		n.news = append(n.news, "the night before ended before it told what is new: all that lasts is told below")
 	}

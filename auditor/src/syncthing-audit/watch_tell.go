@@ -135,7 +135,7 @@ func (n *night) tell() int {
 	case isLoud:
 		telling = n.config.Tell(subject+n.withNews(), text, n.log)
 	case isMonthly:
-		telling = n.config.Tell("all is as before: "+subject, n.size()+text, n.log)
+		telling = n.config.Tell(n.calm()+subject, n.size()+text, n.log)
 	}
 	if !n.lacksAnswer() { // after what is new: a ping that hangs keeps nothing back
 		errs = append(errs, n.config.PingAll(n.log)...)
@@ -156,6 +156,14 @@ func (n *night) tell() int {
 		}
 	}
 	return status
+}
+
+// calm begins the subject of a night without news: of the first one nobody knows how all was before.
+func (n *night) calm() string {
+	if n.state.IsFirst {
+		return "first night: "
+	}
+	return "all is as before: "
 }
 
 // withNews ends a subject.

@@ -58,3 +58,31 @@ func TestPartsOfADirectory(t *testing.T) {
 		t.Errorf("%v", found)
 	}
 }
+
+// A night without news says that all is as before, but for the first one: nobody knows how all was then. Where what the night before left is lost, that is news.
+func TestTheSubjectOfACalmNight(t *testing.T) {
+	room := t.TempDir()
+	told := filepath.Join(room, "told")
+	for _, row := range []struct{ left, subject string }{
+		{"", "first night: in step"}, {`{"month":"2020-01"}`, "all is as before: in step"}, {`{"month":""}`, "all is as before: in step"}, {`{"month":"2020-01`, "in step, with news"},
+	} {
+		directory := filepath.Join(room, "state")
+		if err := os.RemoveAll(directory); err != nil {
+			t.Fatal(err)
+		}
+		if err := os.Mkdir(directory, 0o700); err != nil {
+			t.Fatal(err)
+		}
+		if row.left != "" {
+			if err := os.WriteFile(filepath.Join(directory, "watch.json"), []byte(row.left), 0o600); err != nil {
+				t.Fatal(err)
+			}
+		}
+		config := &watch.Config{State: []watch.Place{{Path: directory}}, Notify: []watch.Command{{Command: "echo $SUBJECT > " + told}}}
+		made := &night{config: config, began: time.Now(), output: io.Discard, log: io.Discard}
+		made.run()
+		if text, err := os.ReadFile(told); err != nil || string(text) != row.subject+"\n" {
+			t.Errorf("after %q: %q, %v", row.left, text, err)
+		}
+	}
+}

@@ -17,6 +17,9 @@ type State struct {
 	Limits map[string]Limits `json:"limits"` // of each audit, by its name
 	Untold bool              `json:"untold"` // whether a night began, and didn't come to tell what it found
 
+	IsFirst bool  `json:"-"` // whether no night left anything
+	Lost    error `json:"-"` // why what the night before left can't be read
+
 	directory string
 	lock      *os.File
 }
@@ -29,7 +32,7 @@ const (
 	nameOfLock  = "watch.lock"
 )
 
-// OpenState takes the lock of a directory, and reads what the night before left there. A damaged file is as none: then more is told than is new.
+// OpenState takes the lock of a directory, and reads what the night before left there. A damaged file is as none, and is said: then more is told than is new.
 func OpenState(directory string) (*State, error) {
 	if err := os.MkdirAll(directory, 0o700); err != nil {
 		return nil, err
@@ -46,8 +49,15 @@ func OpenState(directory string) (*State, error) {
 		return nil, err
 	}
 	made := &State{}
-	if text, _, err := regular.Read(filepath.Join(directory, nameOfState), mostBytes); err != nil || json.Unmarshal(text, made) != nil {
-		*made = State{}
+	text, _, err := regular.Read(filepath.Join(directory, nameOfState), mostBytes)
+	if err == nil {
+		err = json.Unmarshal(text, made)
+	}
+	if err != nil {
+		*made = State{IsFirst: os.IsNotExist(err)}
+		if !made.IsFirst {
+			made.Lost = err
+		}
 	}
 	if made.Limits == nil {
 		made.Limits = map[string]Limits{}
