@@ -65,7 +65,7 @@ func TestACommandThatHangs(t *testing.T) {
 	if err != nil {
 		t.Fatal(err)
 	}
-	for try := 0; try < 100; try++ {
+	for try := 0; try < 1200; try++ {
 		if state, err := os.ReadFile("/proc/" + strings.TrimSpace(string(child)) + "/stat"); err != nil || strings.Contains(string(state), ") Z ") {
 			return
 		}
