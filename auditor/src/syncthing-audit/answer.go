@@ -58,7 +58,7 @@ func tell(output, log io.Writer, asked options, answer *finding.Answer, since *h
 	if asked.take != nil {
 		asked.take(told)
 	}
-	if status := statusOfAnswer(answer); status != statusDone || since == nil || since.Count == 0 && since.Unkept == "" {
+	if status := statusOfAnswer(answer); status != statusDone || since == nil || since.Count+since.Takes == 0 && since.Unkept == "" {
 		return status, nil
 	}
 	return statusPartial, nil

@@ -48,16 +48,26 @@ type Spread struct {
 
 // EachSpread gives all files whose bytes changed so, by folders and names. The devices are those that share the folder.
 func (h *History) EachSpread(devicesOf func(folder string) []uint64, take func(Spread) error) error {
+	return h.EachChanged(devicesOf, func(spread Spread, isEverywhere bool) error {
+		if !isEverywhere {
+			return nil
+		}
+		return take(spread)
+	})
+}
+
+// EachChanged gives all files whose bytes changed under one time on some devices, and says of each whether that is so on all that have it.
+func (h *History) EachChanged(devicesOf func(folder string) []uint64, take func(spread Spread, isEverywhere bool) error) error {
 	var next *Spread
 	give := func() error {
 		if next == nil {
 			return nil
 		}
 		is, err := h.isSpread(next, devicesOf(next.Folder))
-		if err != nil || !is {
+		if err != nil {
 			return err
 		}
-		return take(*next)
+		return take(*next, is)
 	}
 	err := h.each([]byte{ofChange}, func(key, value []byte) error {
 		folder, name, device, _, err := readName(key)
@@ -84,6 +94,21 @@ func (h *History) EachSpread(devicesOf func(folder string) []uint64, take func(S
 		return err
 	}
 	return give()
+}
+
+// taken gives those of these devices that record the bytes of a change.
+func (h *History) taken(spread *Spread) ([]uint64, error) {
+	made := []uint64{}
+	for _, device := range spread.Devices {
+		is, err := h.db.Has(keyOfTaken(spread.Folder, spread.Name, device), nil)
+		if err != nil {
+			return nil, err
+		}
+		if is {
+			made = append(made, device)
+		}
+	}
+	return made, nil
 }
 
 // isSpread says whether all devices that have a file have the same bytes of it, and each of these had others under that time.

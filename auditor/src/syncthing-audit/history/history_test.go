@@ -24,6 +24,7 @@ type file struct {
 	bytes    byte
 	modified int64
 	unread   bool
+	recorded byte // the bytes that its device records, or none
 }
 
 // device has files by their names.
@@ -63,6 +64,9 @@ func (d device) partOf(place int, names choice.Names) *made {
 	sort.Strings(listed)
 	for _, name := range listed {
 		line := &part.Name{Name: part.Bytes(name)}
+		if recorded := d[name].recorded; recorded != 0 {
+			line.Own = &part.Record{Content: &part.Content{Size: 9, BlockSize: 131072, Hash: part.Hash{recorded}}}
+		}
 		if file := d[name]; file.unread {
 			line.Out = []part.LeftOut{{Kind: part.Unreadable}}
 		} else {
@@ -170,7 +174,7 @@ func live(random *rand.Rand, device device) {
 		case 0:
 			delete(device, name)
 		case 1, 2:
-			device[name] = file{byte('a' + random.Intn(3)), int64(random.Intn(3)), random.Intn(4) == 0}
+			device[name] = file{bytes: byte('a' + random.Intn(3)), modified: int64(random.Intn(3)), unread: random.Intn(4) == 0}
 		}
 	}
 }

@@ -18,6 +18,7 @@ const (
 	ofFault   = 'f' // folder, name, device, cause
 	ofLast    = 'l' // of the last audit that was kept
 	ofPart    = 'p' // folder, device: when its newest part was made
+	ofTaken   = 't' // folder, name, device: that the device records the bytes of a change
 	ofAsked   = 'a' // folder, device, name: when the bytes were asked for, where each look asks for some
 )
 
@@ -54,6 +55,11 @@ func keyOfName(kind byte, folder, name string) []byte {
 
 func keyOfChange(folder, name string, device uint64) []byte {
 	return binary.BigEndian.AppendUint64(keyOfName(ofChange, folder, name), device)
+}
+
+// keyOfTaken gives the key that says of a change whether its device records the bytes.
+func keyOfTaken(folder, name string, device uint64) []byte {
+	return binary.BigEndian.AppendUint64(keyOfName(ofTaken, folder, name), device)
 }
 
 func keyOfFault(fault Fault) []byte {

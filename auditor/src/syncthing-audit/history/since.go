@@ -17,7 +17,9 @@ type Since struct {
 	Mended  List       `json:"mended"`     // found before; the name was audited, and isn't at fault any more
 	Unasked List       `json:"not_looked"` // found before; the name wasn't audited now
 	Changed []Changed  `json:"bytes_changed_everywhere"`
-	Count   int64      `json:"bytes_changed_everywhere_count"` // of all, also of those that aren't listed
+	Count   int64      `json:"bytes_changed_everywhere_count"`   // of all, also of those that aren't listed
+	Taken   []Changed  `json:"bytes_changed_and_recorded"`       // on these devices, and not on all that have the file
+	Takes   int64      `json:"bytes_changed_and_recorded_count"` // of all, also of those that aren't listed
 	Read    []Read     `json:"read"`
 	Waiting []Waiting  `json:"not_read_yet,omitempty"`
 	Unkept  string     `json:"not_kept,omitempty"` // why the history doesn't have all of this audit
@@ -39,7 +41,7 @@ type Told struct {
 	Audits int64      `json:"audits"`
 }
 
-// Changed is a file whose bytes changed under one time and size on all devices that have it.
+// Changed is a file whose bytes changed under one time and size on these devices.
 type Changed struct {
 	Folder  string     `json:"folder"`
 	Name    part.Bytes `json:"name"`
@@ -72,7 +74,7 @@ type Audited struct {
 
 // Since keeps an audit, and says what the history has beside its answer.
 func (h *History) Since(audit Audited) (*Since, error) {
-	made := &Since{Changed: []Changed{}, Read: []Read{}}
+	made := &Since{Changed: []Changed{}, Taken: []Changed{}, Read: []Read{}}
 	before, err := h.Last()
 	if err != nil {
 		return nil, err
@@ -117,25 +119,60 @@ func (h *History) list(faults []Fault, ids map[uint64]string) (List, error) {
 	return made, nil
 }
 
-// ChangedEverywhere is the cause of a file whose bytes changed on all devices under one time.
-const ChangedEverywhere = "BytesChangedEverywhere"
+// Causes of files whose bytes changed under one time: on all devices that have them, or on one that records them, so that others take them.
+const (
+	ChangedEverywhere  = "BytesChangedEverywhere"
+	ChangedAndRecorded = "BytesChangedAndRecorded"
+)
 
-// addChanged adds the files whose bytes changed on all devices. Each is a fault of the audit, too: it is new once.
+// addChanged adds the files whose bytes changed on all devices, and those whose bytes changed where they are recorded. Each is a fault of the audit, too: it
+// is new once.
 func (h *History) addChanged(made *Since, audit *Audited) error {
-	return h.EachSpread(func(folder string) []uint64 { return audit.Folders[folder] }, func(spread Spread) error {
-		audit.Found = append(audit.Found, Fault{Folder: spread.Folder, Name: spread.Name, Cause: ChangedEverywhere})
-		if made.Count++; made.Count > MostListed {
-			return nil
+	return h.EachChanged(func(folder string) []uint64 { return audit.Folders[folder] }, func(spread Spread, isEverywhere bool) error {
+		on, err := h.taken(&spread)
+		if err != nil {
+			return err
 		}
-		before := spread.Change.Before
-		one := Changed{Folder: spread.Folder, Name: part.Bytes(spread.Name), Before: before.At, Since: spread.Change.Since.At, Size: before.Content.Size,
-			Block: before.Content.BlockSize, Hash: before.Content.Hash.String()}
-		for _, device := range spread.Devices {
-			one.Devices = append(one.Devices, audit.IDs[device])
+		for _, device := range on {
+			if err := h.addTaken(audit, Fault{spread.Folder, spread.Name, device, ChangedAndRecorded}, isEverywhere); err != nil {
+				return err
+			}
 		}
-		made.Changed = append(made.Changed, one)
+		switch {
+		case isEverywhere:
+			audit.Found = append(audit.Found, Fault{Folder: spread.Folder, Name: spread.Name, Cause: ChangedEverywhere})
+			add(&made.Changed, &made.Count, &spread, spread.Devices, audit)
+		case len(on) > 0:
+			add(&made.Taken, &made.Takes, &spread, on, audit)
+		}
 		return nil
 	})
+}
+
+// addTaken adds the fault of a device that records bytes which changed under one time. Once all devices have them, it lasts where it was told, and is new nowhere.
+func (h *History) addTaken(audit *Audited, fault Fault, isEverywhere bool) error {
+	if isEverywhere {
+		seen, err := h.Seen(fault)
+		if err != nil || seen == nil || !seen.Mended.IsZero() {
+			return err
+		}
+	}
+	audit.Found = append(audit.Found, fault)
+	return nil
+}
+
+// add adds a file to a list, as far as that goes, and counts it.
+func add(to *[]Changed, count *int64, spread *Spread, on []uint64, audit *Audited) {
+	if *count++; *count > MostListed {
+		return
+	}
+	before := spread.Change.Before
+	one := Changed{Folder: spread.Folder, Name: part.Bytes(spread.Name), Before: before.At, Since: spread.Change.Since.At, Size: before.Content.Size,
+		Block: before.Content.BlockSize, Hash: before.Content.Hash.String()}
+	for _, device := range on {
+		one.Devices = append(one.Devices, audit.IDs[device])
+	}
+	*to = append(*to, one)
 }
 
 func (h *History) addRead(made *Since, audit Audited) error {

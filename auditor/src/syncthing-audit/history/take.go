@@ -98,7 +98,14 @@ func (t *taking) removeReading(name string) error {
 	if err := t.remove(keyOfReading(t.folder, t.head.Number(), name)); err != nil {
 		return err
 	}
-	return t.remove(keyOfChange(t.folder, name, t.head.Number()))
+	return t.removeChange(name)
+}
+
+func (t *taking) removeChange(name string) error {
+	if err := t.remove(keyOfChange(t.folder, name, t.head.Number())); err != nil {
+		return err
+	}
+	return t.remove(keyOfTaken(t.folder, name, t.head.Number()))
 }
 
 // name keeps what was read of a name.
@@ -128,7 +135,11 @@ func (t *taking) name(line *part.Name) error {
 		}
 		return nil
 	}
-	if err := t.compare(name, before, reading); err != nil {
+	isChanged, err := t.compare(name, before, reading)
+	if err == nil && isChanged {
+		err = t.noteTaken(name, isRecorded(line.Own, reading))
+	}
+	if err != nil {
 		return err
 	}
 	return t.put(keyOfReading(t.folder, t.head.Number(), name), reading.bytes())
@@ -139,22 +150,36 @@ func isGone(line *part.Name) bool {
 	return len(line.Out) == 0 && len(line.Moved) == 0 && (line.Disk == nil || len(line.Disk.Contents) == 0 && line.Disk.Lost == "")
 }
 
-// compare keeps that a file's bytes changed under its time, and forgets that once it has its bytes again or another time.
-func (t *taking) compare(name string, before, reading *Reading) error {
+// compare keeps that a file's bytes changed under its time, and forgets that once it has its bytes again or another time. It says whether they are changed.
+func (t *taking) compare(name string, before, reading *Reading) (bool, error) {
 	if before == nil {
-		return nil
+		return false, nil
 	}
 	key := keyOfChange(t.folder, name, t.head.Number())
 	earlier, err := changeAt(t.to, key)
 	switch {
 	case err != nil:
-		return err
+		return false, err
 	case earlier != nil && reading.hasTimeOf(&earlier.Before) && reading.Content != earlier.Before.Content:
-		return nil
+		return true, nil
 	case earlier != nil:
-		return t.remove(key)
+		return false, t.removeChange(name)
 	case reading.isOtherBytesOf(before):
-		return t.put(key, (&Change{Before: *before, Since: *reading}).bytes())
+		return true, t.put(key, (&Change{Before: *before, Since: *reading}).bytes())
 	}
-	return nil
+	return false, nil
+}
+
+// noteTaken keeps whether the device records the bytes that changed.
+func (t *taking) noteTaken(name string, is bool) error {
+	key := keyOfTaken(t.folder, name, t.head.Number())
+	if !is {
+		return t.remove(key)
+	}
+	return t.put(key, nil)
+}
+
+// isRecorded says whether a device records the bytes that were read.
+func isRecorded(own *part.Record, reading *Reading) bool {
+	return own != nil && !own.Deleted && own.Content != nil && *own.Content == reading.Content
 }

@@ -11,7 +11,7 @@ import (
 )
 
 // Since prints what a history says beside an answer, a line each: what is new, what lasts, what is mended and what wasn't looked at, with the time at
-// which it was found first, and files whose bytes changed under one time on all devices.
+// which it was found first, and files whose bytes changed under one time on all devices, or where they are recorded.
 func Since(to io.Writer, since *history.Since) {
 	if since == nil {
 		return
@@ -24,6 +24,15 @@ func Since(to io.Writer, since *history.Since) {
 	}
 	if more := since.Count - int64(len(since.Changed)); more > 0 {
 		outside.Printf(to, "changed everywhere: %d more\n", more)
+	}
+	for _, one := range since.Taken {
+		for _, device := range one.Devices {
+			outside.Printf(to, "changed and recorded: %s %s on %d between %s and %s\n", one.Folder, printed(string(one.Name)), part.Number(device), one.Before.Format(time.RFC3339),
+				one.Since.Format(time.RFC3339))
+		}
+	}
+	if more := since.Takes - int64(len(since.Taken)); more > 0 {
+		outside.Printf(to, "changed and recorded: %d more\n", more)
 	}
 	for _, one := range []struct {
 		word string

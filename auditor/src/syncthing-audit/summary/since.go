@@ -17,6 +17,7 @@ func (p *printer) history(since *history.Since) {
 		return
 	}
 	p.changedEverywhere(since)
+	p.changedAndRecorded(since)
 	if since.Before == nil {
 		p.line("history: this is the first audit that it has")
 	} else {
@@ -44,6 +45,23 @@ func (p *printer) changedEverywhere(since *history.Since) {
 	}
 	if more := since.Count - int64(shown(len(since.Changed))); more > 0 {
 		p.line("  and %s more (--json has %s of them)", thousands(more), thousands(int64(len(since.Changed))))
+	}
+}
+
+// changedAndRecorded tells of files whose bytes changed under one time where they are recorded: whatever takes them from there loses the bytes before.
+func (p *printer) changedAndRecorded(since *history.Since) {
+	if since.Takes == 0 {
+		return
+	}
+	p.line("%s where it is recorded so, under one time and size, and devices that lack it take it. The answer below takes it for an edit",
+		counted(since.Takes, "file has other bytes than before", "files have other bytes than before, each"))
+	for _, one := range since.Taken[:shown(len(since.Taken))] {
+		p.line("  %s in %s: its bytes changed between %s and %s on %s, and are recorded there. If nobody changed it, first copy it elsewhere from a device or a backup that has the bytes "+
+			"before ('syncthing-audit find' looks for them), and take no step below that sends it from %s. A program that puts a file's time back after it wrote looks the same",
+			shell.Quoted(string(one.Name)), one.Folder, p.day(one.Before), p.day(one.Since), p.named.all(one.Devices), p.named.all(one.Devices))
+	}
+	if more := since.Takes - int64(shown(len(since.Taken))); more > 0 {
+		p.line("  and %s more (--json has %s of them)", thousands(more), thousands(int64(len(since.Taken))))
 	}
 }
 

@@ -24,3 +24,28 @@ func TestANameIsToldOnceOfAHistory(t *testing.T) {
 		t.Errorf("%s", told.String())
 	}
 }
+
+// What changed under its time where it is recorded is told with what to save first, before any step of the answer.
+func TestWhatChangedAndIsRecordedIsTold(t *testing.T) {
+	day := func(number int) time.Time { return time.Date(2026, 1, number, 3, 0, 0, 0, time.UTC) }
+	taken := []history.Changed{}
+	for count := 0; count < mostNews+2; count++ {
+		taken = append(taken, history.Changed{Folder: "docs", Name: "a b", Devices: []string{"1"}, Before: day(1), Since: day(2)})
+	}
+	for _, row := range []struct {
+		since history.Since
+		lines int
+		told  string
+	}{
+		{history.Since{}, 1, "history: this is the first audit that it has\n"},
+		{history.Since{Taken: taken[:1], Takes: 1}, 3, "1 file has other bytes than before where it is recorded so, under one time and size, and devices that lack it take it. The answer below takes it for an edit\n" +
+			"  'a b' in docs: its bytes changed between 2026-01-01 03:00 and 2026-01-02 03:00 on laptop, and are recorded there. If nobody changed it, first copy it elsewhere from a device or a backup"},
+		{history.Since{Taken: taken, Takes: 9}, mostNews + 3, "9 files have other bytes than before, each where it is recorded so, "},
+	} {
+		var told strings.Builder
+		(&printer{to: &told, named: labels{"1": "laptop"}, zone: time.UTC}).history(&row.since)
+		if !strings.HasPrefix(told.String(), row.told) || strings.Count(told.String(), "\n") != row.lines || (row.since.Takes > mostNews) != strings.Contains(told.String(), "  and 4 more (--json has 7 of them)\n") {
+			t.Errorf("%s", told.String())
+		}
+	}
+}
