@@ -5,7 +5,7 @@
 # The flags of each command.
 _syncthing_audit_flags() {
   case $1 in
-    part) echo '--home --observer --data --map --folder --names --slice -o --about --begin --end --heed-input --tokens --rescan --still --sign --paths --strict --leave-out --jobs --help' ;;
+    part) echo '--home --observer --data --map --folder --names --slice -o --about --begin --end --heed-input --progress --tokens --rescan --still --sign --paths --strict --leave-out --jobs --help' ;;
     check) echo '--home --observer --data --map --folder --names --slice --allowed-signers --strict --leave-out --lines --json --script --history --bytes --syncaudit --jobs --help' ;;
     run) echo '--observer --data --map --folder --names --slice --rescan --still --remote-program --dry-run --paths --strict --leave-out --lines --json --script --history --syncaudit --jobs --help' ;;
     observe) echo '--home --init --records --budget --passwords --every --listen --disk --folder --names --slice --still --strict --leave-out --lines --json --script --history --into --syncaudit --jobs --help' ;;

@@ -47,6 +47,7 @@ complete -c syncthing-audit -n "__fish_seen_subcommand_from part" -l about -d 'W
 complete -c syncthing-audit -n "__fish_seen_subcommand_from part" -l begin -d 'The first look at a device that may run'
 complete -c syncthing-audit -n "__fish_seen_subcommand_from part" -l end -d 'The second look'
 complete -c syncthing-audit -n "__fish_seen_subcommand_from part" -l heed-input -d 'End once standard input ends'
+complete -c syncthing-audit -n "__fish_seen_subcommand_from part" -l progress -d 'Tell how many bytes are hashed'
 complete -c syncthing-audit -n "__fish_seen_subcommand_from part" -l tokens -r -d 'What all first looks told'
 complete -c syncthing-audit -n "__fish_seen_subcommand_from part run" -l rescan -d 'Ask Syncthing for a scan first'
 complete -c syncthing-audit -n "__fish_seen_subcommand_from part run observe watch" -l still -x -d 'How many seconds second looks wait at least'

@@ -44,7 +44,7 @@ func tellAbout(asked options, write writing, log io.Writer) error {
 
 // aboutOf gives the head of a device's part, as far as its configuration says it.
 func aboutOf(home *device.Home, wanted []string, withPaths bool) *part.Head {
-	made := &part.Head{Version: part.FirstVersion, Device: home.ID.String(), Name: home.Name(), Folders: []part.Folder{}, Waits: true, Others: othersOf(home, wanted, withPaths)}
+	made := &part.Head{Version: part.FirstVersion, Device: home.ID.String(), Name: home.Name(), Folders: []part.Folder{}, Waits: true, Tells: true, Others: othersOf(home, wanted, withPaths)}
 	for _, one := range chosenOf(home.Config, wanted) {
 		folder := part.Folder{ID: one.ID, Label: one.Label, Directory: home.ID.String() + one.ID, Sharing: home.Sharing(one)}
 		if one.Type == config.FolderTypeReceiveEncrypted {

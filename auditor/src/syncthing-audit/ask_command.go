@@ -88,7 +88,7 @@ func (r *running) checkWanted(devices []*join.Device) error {
 
 // choose says of which folders a device is asked: those of the wanted ones that it has, by what it said. It keeps what else that tells of the program there.
 func (p *place) choose(said *join.Device) {
-	p.waits = said.Head.Waits
+	p.waits, p.tells = said.Head.Waits, said.Head.Tells
 	for _, one := range said.Head.Folders {
 		p.folders = append(p.folders, one.ID)
 	}

@@ -53,7 +53,7 @@ func signedBy(read *diskhalf.Command) func(options, *target, io.Writer) error {
 func writeHalf(read *diskhalf.Command, write writing, log io.Writer) error {
 	pool := disk.NewPool(read.Jobs)
 	defer pool.Close()
-	defer startProgress(log, &work{hashed: pool.Hashed})()
+	defer startProgress(log, (&work{hashed: pool.Hashed}).line)()
 	return write(func(to io.Writer) error {
 		told, err := diskhalf.Write(to, read.Asked, pool)
 		if err != nil {

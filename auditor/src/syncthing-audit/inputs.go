@@ -4,6 +4,7 @@ import (
 	"fmt"
 	"io"
 	"sort"
+	"time"
 
 	"golang.org/x/exp/slices"
 	"syncthing-audit/audit"
@@ -23,6 +24,7 @@ type inputs struct {
 	devices []*join.Device
 	homes   []*device.Home // those that are left out, too, as far as their configuration is read
 	pool    *disk.Pool
+	indexes []*device.Index
 	work    work
 	closers []func()
 
@@ -42,15 +44,33 @@ func (i *inputs) auditOptions(asked options) audit.Options {
 	return audit.Options{Consent: asked.consent(), WithBytes: asked.bytes, ByNames: !asked.names.IsAll(), Refused: i.skip, Joined: &i.work.joined}
 }
 
-// startProgress begins to tell how far the work is; what it gives ends that.
+// startProgress begins to tell how far the work is, where somebody reads that; what it gives ends that.
 func (i *inputs) startProgress(log io.Writer, asked options) func() {
+	if !asked.steps && !isTerminal(log) {
+		return func() {}
+	}
 	if i.pool != nil {
-		i.work.hashed = i.pool.Hashed
+		i.work.hashed, i.work.toHash = i.pool.Hashed, i.recorded(asked)
 	}
-	if !asked.names.IsAll() {
-		i.work.toHash = 0
+	if !asked.steps || i.pool == nil {
+		return startProgress(log, i.work.line)
 	}
-	return startProgress(log, &i.work)
+	return startTicks(timeBetweenSteps, func(ticks <-chan time.Time, stopped <-chan struct{}) {
+		tellSteps(log, i.pool.Hashed, i.work.toHash, ticks, stopped)
+	})
+}
+
+// recorded gives how many bytes the homes' own records have of what is asked for; 0 where an index doesn't tell that.
+func (i *inputs) recorded(asked options) int64 {
+	made := int64(0)
+	for _, index := range i.indexes {
+		bytes, err := index.Bytes(asked.names)
+		if err != nil {
+			return 0
+		}
+		made += bytes
+	}
+	return made
 }
 
 // audited has what was opened audited, and tells the log how far that is and what is refused.
@@ -208,7 +228,7 @@ func (i *inputs) deviceOf(home *device.Home, asked options) (*gather.Device, err
 		if err != nil {
 			return nil, fmt.Errorf("%s: %w", home.Dir, shell.Labelled(err, one.ID, one.Label))
 		}
-		i.work.toHash += index.Bytes()
+		i.indexes = append(i.indexes, index)
 		made.Folders = append(made.Folders, index)
 	}
 	return made, nil

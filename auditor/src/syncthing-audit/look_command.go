@@ -43,6 +43,8 @@ func (o *options) checkLooks() error {
 		return &wrongUsage{"--still is at least 0"}
 	case !o.begin && o.heeds:
 		return &wrongUsage{"--heed-input is for --begin"}
+	case (o.end || o.about) && o.steps:
+		return &wrongUsage{"--progress is for a part whose files are hashed: --end and --about hash none"}
 	case !o.end && len(o.leaveOut) > 0:
 		return &wrongUsage{"--leave-out is for 'check', 'run' and 'export', and for 'part --end' with a device that has no token"}
 	}

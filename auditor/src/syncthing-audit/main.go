@@ -44,7 +44,7 @@ func main() {
 		outside.Printf(os.Stderr, "syncthing-audit: there is no standard output: %v\n", err)
 		os.Exit(statusFault)
 	}
-	os.Exit(run(os.Args[1:], output, os.Stderr))
+	os.Exit(run(os.Args[1:], output, onScreen(os.Stderr)))
 }
 
 // takeStandardOutput gives the program's output to the caller and sends everything else that is printed to standard

@@ -192,6 +192,7 @@ func (o *observing) firstLooks(connections []*wire.Connection) error {
 		o.closeAll(connections)
 		return err
 	}
+	defer o.startProgress()()
 	o.each("first look", func(at int) error {
 		defer connections[at].Close()
 		if err := o.devices[at].Read(context.Background(), connections[at], o.wants(at), func(bytes int64) { o.read.Add(bytes) }); err != nil {

@@ -46,6 +46,7 @@ type options struct {
 	rescan     bool
 	dryRun     bool
 	heeds      bool    // whether the end of standard input ends a first look
+	steps      bool    // whether it is told now and then how many bytes are hashed
 	still      float64 // seconds
 	hasStill   bool    // whether they were asked for
 	remote     string  // how this program is called on other machines

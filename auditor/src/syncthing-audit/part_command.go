@@ -52,6 +52,7 @@ func readPartOptions(words []string) (options, error) {
 		flags.BoolVar(&read.end, "end", false, "")
 		flags.BoolVar(&read.rescan, "rescan", false, "")
 		flags.BoolVar(&read.heeds, "heed-input", false, "")
+		flags.BoolVar(&read.steps, "progress", false, "")
 		flags.Var((*list)(&read.tokens), "tokens", "")
 		flags.Float64Var(&read.still, "still", secondsOfStillness, "")
 		observerFlag(flags, read)

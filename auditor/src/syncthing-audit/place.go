@@ -36,6 +36,7 @@ type place struct {
 	isOlder bool     // than this program: it isn't able to say what is shared before it looks
 	device  string   // its id, once it said so
 	waits   bool     // whether the program there knows how long its second look is to wait until Syncthing is idle
+	tells   bool     // whether it tells how many bytes it has hashed
 }
 
 // placesOf reads the places of a command line. As rsync has it, a colon before any slash stands behind a machine.
@@ -123,6 +124,9 @@ func (p *place) begin(asked options) []string {
 	}
 	if p.host != "" && !asked.dryRun {
 		words = append(words, "--heed-input")
+	}
+	if asked.steps && p.tells {
+		words = append(words, "--progress")
 	}
 	if asked.hasJobs {
 		words = append(words, "--jobs", strconv.Itoa(asked.jobs))

@@ -11,7 +11,7 @@ var mayWrite = map[string]string{
 	"ask/lines.go":        "a digit of an escaped byte, into a text",
 	"shell/shell.go":      "a digit of an escaped byte, into a text",
 	"document/builder.go": "a document for syncaudit",
-	"progress.go":         "counts, and what takes their line away",
+	"screen.go":           "the line of a terminal, whose words are escaped where it is made, and what was printed by this package before",
 	"run_command.go":      "tokens for a look's standard input",
 	"script/script.go":    "steps of a shell script, whose names are quoted",
 	"script/text.go":      "a shell script around them",

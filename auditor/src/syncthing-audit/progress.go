@@ -3,89 +3,75 @@ package main
 import (
 	"fmt"
 	"io"
-	"os"
 	"time"
 
-	"golang.org/x/sys/unix"
+	"syncthing-audit/outside"
 )
-
-// timeBetween is how often progress is told.
-const timeBetween = 500 * time.Millisecond
-
-// progress tells on a terminal how far the work is.
-type progress struct {
-	to      *os.File
-	work    *work
-	began   time.Time
-	stopped chan struct{}
-	ended   chan struct{}
-}
-
-// startProgress begins to tell, where the log is a terminal; what it gives ends that.
-func startProgress(log io.Writer, work *work) func() {
-	if !isTerminal(log) {
-		return func() {}
-	}
-	made := &progress{log.(*os.File), work, time.Now(), make(chan struct{}), make(chan struct{})}
-	go made.run()
-	return func() {
-		close(made.stopped)
-		<-made.ended
-	}
-}
-
-// isTerminal says whether what is written there is read by a person.
-func isTerminal(to interface{}) bool {
-	file, is := to.(*os.File)
-	if !is {
-		return false
-	}
-	_, err := unix.IoctlGetTermios(int(file.Fd()), unix.TCGETS)
-	return err == nil
-}
-
-// progressOf gives where steps of the work are told: the log where it is a terminal, and nowhere else.
-func progressOf(log io.Writer) io.Writer {
-	if isTerminal(log) {
-		return log
-	}
-	return io.Discard
-}
 
 const (
-	clearLine    = "\r\x1b[K"
-	defaultWidth = 80
+	// timeBetween is how often the line is drawn.
+	timeBetween = 500 * time.Millisecond
+	// timeBetweenSteps is how often a line of its own is told to another program.
+	timeBetweenSteps = time.Second
 )
 
-// widthOf gives how many columns the terminal has.
-func widthOf(to *os.File) int {
-	size, err := unix.IoctlGetWinsize(int(to.Fd()), unix.TIOCGWINSZ)
-	if err != nil || size.Col == 0 {
-		return defaultWidth
+// lineOfStep is how 'part' says on standard error how many bytes it has hashed, of how many that are recorded; 0 where that isn't known.
+const lineOfStep = "syncthing-audit: hashed %d of %d bytes"
+
+// startProgress begins to show a line where the log is a terminal; what it gives ends that.
+func startProgress(log io.Writer, line func(now time.Time) string) func() {
+	to, is := log.(*screen)
+	if !is {
+		return func() {}
 	}
-	return int(size.Col)
+	return startTicks(timeBetween, func(ticks <-chan time.Time, stopped <-chan struct{}) { showLines(to, line, ticks, stopped) })
 }
 
-// fitting cuts a line so that it stays one: a second one couldn't be taken away again.
-func fitting(line string, width int) string {
-	if len(line) < width {
-		return line
+// startTicks has something go on at each tick; what it gives ends that, and waits for its end.
+func startTicks(between time.Duration, goOn func(ticks <-chan time.Time, stopped <-chan struct{})) func() {
+	ticks, stopped, ended := time.NewTicker(between), make(chan struct{}), make(chan struct{})
+	go func() {
+		defer close(ended)
+		goOn(ticks.C, stopped)
+	}()
+	return func() {
+		ticks.Stop()
+		close(stopped)
+		<-ended
 	}
-	return line[:width-1]
 }
 
-// run tells now and then, and takes the line away at the end.
-func (p *progress) run() {
-	defer close(p.ended)
-	ticks := time.NewTicker(timeBetween)
-	defer ticks.Stop()
+// showLines shows a line anew at each tick, and takes it away at the end.
+func showLines(to *screen, line func(now time.Time) string, ticks <-chan time.Time, stopped <-chan struct{}) {
 	for {
 		select {
-		case <-p.stopped:
-			fmt.Fprint(p.to, clearLine)
+		case <-stopped:
+			to.show("")
 			return
-		case now := <-ticks.C:
-			fmt.Fprint(p.to, clearLine+fitting(p.work.line(now.Sub(p.began)), widthOf(p.to)))
+		case now := <-ticks:
+			to.show(line(now))
+		}
+	}
+}
+
+// tellSteps tells at each tick how much is hashed, and once more at the end. While nothing is hashed it is silent, so that whoever waits sees a disk that
+// gives nothing any more.
+func tellSteps(log io.Writer, done func() int64, whole int64, ticks <-chan time.Time, stopped <-chan struct{}) {
+	told := int64(-1)
+	tell := func() {
+		if now := done(); now != told {
+			told = now
+			outside.Printf(log, lineOfStep+"\n", told, whole)
+		}
+	}
+	tell()
+	for {
+		select {
+		case <-stopped:
+			tell()
+			return
+		case <-ticks:
+			tell()
 		}
 	}
 }

@@ -104,6 +104,7 @@ type running struct {
 	mutex  sync.Mutex     // of the log, and of what is out
 	out    map[int]string // the places that are left out, with why
 	began  time.Time      // before the first second look began
+	tally  tally          // of the first looks
 
 	progress io.Writer     // the log, where a person reads it
 	patience time.Duration // after which it is told who is awaited, and after twice as long again, and so on
@@ -120,7 +121,7 @@ func (r *running) look() error {
 		return err
 	}
 	r.tellStep("first look at %s, hashing all files", countOf(len(r.places), "device"))
-	if err := r.all("first look", r.begin); err != nil {
+	if err := r.firstLooks(); err != nil {
 		return err
 	}
 	if err := r.checkPresent(); err != nil {
@@ -226,8 +227,19 @@ func (r *running) tellAwaited(what string, spent time.Duration, isOver []bool) {
 	outside.Printf(r.log, "syncthing-audit: %s: waiting for %s for %.0f s\n", what, strings.Join(names, ", "), spent.Seconds())
 }
 
+// firstLooks makes the first look at all devices, and shows a person how far they are.
+func (r *running) firstLooks() error {
+	r.asked.steps = isTerminal(r.log)
+	defer startProgress(r.log, r.tally.line)()
+	return r.all("first look", r.begin)
+}
+
 // begin makes the first look at a device.
 func (r *running) begin(at int) error {
+	number := r.tally.add(r.places[at].called())
+	defer r.tally.end(number)
+	limits := boundsOfBegin
+	limits.Step = func(line string) bool { return r.tally.take(number, line) }
 	input, open, err := os.Pipe()
 	if err != nil {
 		return err
@@ -235,7 +247,7 @@ func (r *running) begin(at int) error {
 	defer input.Close()
 	defer open.Close() // once it has ended, or by the end of this program
 	began := time.Now()
-	told, err := r.places[at].run(r.places[at].begin(r.asked), input, r.file(at, "begin"), boundsOfBegin)
+	told, err := r.places[at].run(r.places[at].begin(r.asked), input, r.file(at, "begin"), limits)
 	if err != nil {
 		return err
 	}

@@ -10,8 +10,10 @@ import (
 
 // work counts what a run has done up to now. What a run hasn't got, such as parts, isn't told.
 type work struct {
+	verb     string       // what is done with bytes of files, unless they are hashed
 	hashed   func() int64 // bytes of files
 	toHash   int64        // as the indexes say; 0 where that isn't known
+	pace     pace         // of the hashing
 	read     atomic.Int64 // bytes of parts
 	toRead   int64
 	joined   atomic.Int64 // names
@@ -20,10 +22,10 @@ type work struct {
 }
 
 // line says how far the work is.
-func (w *work) line(spent time.Duration) string {
+func (w *work) line(now time.Time) string {
 	told := []string{}
 	if w.hashed != nil {
-		told = append(told, hashingLine(w.hashed(), w.toHash, spent))
+		told = append(told, w.hashing(now))
 	}
 	if w.toRead > 0 {
 		told = append(told, fmt.Sprintf("read %d %% of the parts", 100*w.read.Load()/w.toRead))
@@ -37,17 +39,16 @@ func (w *work) line(spent time.Duration) string {
 	return strings.Join(told, "; ")
 }
 
-// hashingLine says how many bytes were hashed, how fast, and how long it may take.
-func hashingLine(done, total int64, spent time.Duration) string {
-	rate := float64(done) / spent.Seconds()
-	line := fmt.Sprintf("hashed %s", megabytes(done))
-	if total > 0 {
-		line += " of " + megabytes(total)
+// hashing says how many bytes were hashed, and how long the rest may take.
+func (w *work) hashing(now time.Time) string {
+	done, verb := w.hashed(), w.verb
+	if verb == "" {
+		verb = "hashed"
 	}
-	line += fmt.Sprintf(", %s a second", megabytes(int64(rate)))
-	if total > done && rate > 0 {
-		left := time.Duration(float64(total-done) / rate * float64(time.Second))
-		line += fmt.Sprintf(", %s left", left.Round(time.Second))
+	w.pace.add(now, done)
+	line := verb + " " + amounts(done, w.toHash)
+	if left, is := w.pace.left(w.toHash - done); is {
+		line += ", " + leftOf(left)
 	}
 	return line
 }

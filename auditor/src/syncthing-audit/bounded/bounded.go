@@ -18,6 +18,8 @@ type Limits struct {
 	Told    int64         // bytes on standard error
 	Silence time.Duration // without a byte on either of them; each byte begins it anew
 	Whole   time.Duration // from its begin to its end, whatever it writes
+
+	Step func(line string) bool // is given each line of standard error, and says whether that tells how far the command is: such lines aren't kept or counted
 }
 
 // Passed says which limit a command passed. It was ended for that.
@@ -70,8 +72,8 @@ func (r *running) start(output, told io.Writer) error {
 		closeAll(r.pipes)
 		return err
 	}
-	go r.flow(r.pipes[0], output, r.limits.Output, "output")
-	go r.flow(r.pipes[1], told, r.limits.Told, "standard error")
+	go r.flow(r.pipes[0], &sink{to: output, whole: r.limits.Output, left: r.limits.Output, called: "output"})
+	go r.flow(r.pipes[1], &sink{to: told, whole: r.limits.Told, left: r.limits.Told, called: "standard error", step: r.limits.Step})
 	return nil
 }
 
@@ -81,27 +83,74 @@ func closeAll(files []*os.File) {
 	}
 }
 
-// flow takes what comes out of a pipe, up to a limit.
-func (r *running) flow(from *os.File, to io.Writer, most int64, called string) {
-	whole, buffer := most, make([]byte, 1<<16)
+// sink takes what comes out of a pipe, up to a limit.
+type sink struct {
+	to          io.Writer
+	left, whole int64 // bytes that may come
+	called      string
+	step        func(line string) bool // nothing where no line is looked at
+	line        []byte                 // the beginning of one that isn't whole yet
+}
+
+// mostOfStep is how many bytes a line has at most that tells how far a command is.
+const mostOfStep = 256
+
+// take takes bytes as they come.
+func (s *sink) take(data []byte) error {
+	if s.step == nil {
+		return s.keep(data)
+	}
+	s.line = append(s.line, data...)
+	for {
+		end := bytes.IndexByte(s.line, '\n')
+		if end < 0 && len(s.line) <= mostOfStep {
+			return nil
+		}
+		line := s.line[:end+1]
+		if end < 0 {
+			line = s.line
+		}
+		if end < 0 || end > mostOfStep || !s.step(string(line[:end])) {
+			if err := s.keep(line); err != nil {
+				return err
+			}
+		}
+		s.line = s.line[len(line):]
+	}
+}
+
+// end takes what is left.
+func (s *sink) end() error { return s.keep(s.line) }
+
+// keep gives bytes on, unless they are over the limit.
+func (s *sink) keep(data []byte) error {
+	if s.left -= int64(len(data)); s.left < 0 {
+		return &Passed{fmt.Sprintf("wrote more %s than any real device does (over %d bytes)", s.called, s.whole)}
+	}
+	_, err := s.to.Write(data)
+	return err
+}
+
+// flow takes what comes out of a pipe.
+func (r *running) flow(from *os.File, to *sink) {
+	buffer := make([]byte, 1<<16)
 	for {
 		count, err := from.Read(buffer)
-		if most -= int64(count); most < 0 {
-			r.flows <- &Passed{fmt.Sprintf("wrote more %s than any real device does (over %d bytes)", called, whole)}
-			return
-		}
 		if count > 0 {
 			select {
 			case r.beats <- struct{}{}:
 			default:
 			}
-			if _, err := to.Write(buffer[:count]); err != nil {
+			if err := to.take(buffer[:count]); err != nil {
 				r.flows <- err
 				return
 			}
 		}
 		if err == io.EOF {
 			err = nil
+		}
+		if err == nil && count == 0 {
+			err = to.end()
 		}
 		if err != nil || count == 0 {
 			r.flows <- err

@@ -105,3 +105,33 @@ func TestNoRoomForTheOutput(t *testing.T) {
 		t.Error(err)
 	}
 }
+
+// Lines that tell how far a command is are given on as they come. They aren't kept, and may have more bytes than what is kept; all else is kept in its order.
+func TestSteps(t *testing.T) {
+	const script = `printf 'one\nst'; sleep 0.2; printf 'ep 1\ntwo'; sleep 0.2; printf ' step 7\n'; n=0; while [ $n -lt 9000 ]; do n=$((n+1)); echo "step $n"; done; head -c 300 /dev/zero | tr '\0' x;
+		printf 'step 2\n'; printf three; printf output >&3`
+	limits, steps := wide, 0
+	limits.Told = 1000
+	limits.Step = func(line string) bool {
+		is := strings.HasPrefix(line, "step ")
+		if is {
+			steps++
+		}
+		return is
+	}
+	var output strings.Builder
+	told, err := Run(exec.Command("sh", "-c", "exec 3>&1; { "+script+"; } >&2"), &output, limits)
+	expected := "one\ntwo step 7\n" + strings.Repeat("x", 300)
+	if err != nil || output.String() != "output" || !strings.HasPrefix(told, expected) || !strings.HasSuffix(told, "three") || steps < 9001 {
+		t.Errorf("%q, %q, %d steps, %v", output.String(), told, steps, err)
+	}
+	for _, script := range []string{"head -c 1001 /dev/zero", "yes", "yes | tr -d '\\n'"} {
+		if _, err := Run(exec.Command("sh", "-c", "{ "+script+"; } >&2"), io.Discard, limits); err == nil || !strings.Contains(err.Error(), "wrote more standard error") {
+			t.Errorf("%s: %v", script, err)
+		}
+	}
+	limits.Told = 1000
+	if _, err := Run(exec.Command("sh", "-c", "head -c 1000 /dev/zero >&2"), io.Discard, limits); err != nil {
+		t.Errorf("as much as the limit: %v", err)
+	}
+}

@@ -128,8 +128,22 @@ func (i *Index) Check() error {
 	return i.home.checkUnchanged()
 }
 
-// Bytes gives the bytes of all files that the device's own index has.
-func (i *Index) Bytes() int64 { return i.snapshot.LocalSize().Bytes }
+// Bytes gives the bytes of all files of these names that the device's own index has. Of all names its counts say it, in which Syncthing gives
+// directories and symlinks a size, too.
+func (i *Index) Bytes(names choice.Names) (int64, error) {
+	if names.IsAll() {
+		size := i.snapshot.LocalSize()
+		return size.Bytes - protocol.SyntheticDirectorySize*(int64(size.Directories)+int64(size.Symlinks)), nil
+	}
+	made := int64(0)
+	err := i.Own(names, func(entry Entry) bool {
+		if record := entry.Record; record != nil && !record.Deleted && record.Content != nil {
+			made = part.Sum(made, record.Content.Size)
+		}
+		return true
+	})
+	return made, err
+}
 
 // names gives how many names the device's own index has, by its counts.
 func (i *Index) names() int64 {

@@ -13,6 +13,7 @@ import (
 	"github.com/syncthing/syncthing/lib/config"
 	"github.com/syncthing/syncthing/lib/db"
 	"github.com/syncthing/syncthing/lib/protocol"
+	"syncthing-audit/choice"
 	"syncthing-audit/part"
 )
 
@@ -72,15 +73,41 @@ func TestWhatIsToldOfAHome(t *testing.T) {
 		if folder.IndexID == 0 || folder.Directory == "" || !reflect.DeepEqual(folder, expected) {
 			t.Errorf("%+v, not %+v", folder, expected)
 		}
-		if home.Name() != "laptop" || home.Syncthing != "v1.29.5" || index.Bytes() != 2*8*protocol.MinBlockSize || len(home.Doubts()) > 0 || (home.Copied.Rounds > 0) != isLive {
-			t.Errorf("%s runs %s, with %d bytes; %q", home.Name(), home.Syncthing, index.Bytes(), home.Doubts())
+		if home.Name() != "laptop" || home.Syncthing != "v1.29.5" || len(home.Doubts()) > 0 || (home.Copied.Rounds > 0) != isLive {
+			t.Errorf("%s runs %s; %q", home.Name(), home.Syncthing, home.Doubts())
 		}
+		checkBytes(t, index)
 		copied := home.copied
 		index.Close()
 		checkWrittenMeanwhile(t, dir, index, isLive)
 		home.Close()
 		if _, err := os.Stat(copied); !errors.Is(err, os.ErrNotExist) {
 			t.Errorf("the copy stays: %v", err)
+		}
+	}
+}
+
+// checkBytes compares how many bytes an index of two files has, of all names and of some. A directory has none.
+func checkBytes(t *testing.T, index *Index) {
+	const each = 8 * protocol.MinBlockSize
+	first := entryOfSequence(1).Name
+	slices := int64(0)
+	for slice := 1; slice <= 3; slice++ {
+		bytes, err := index.Bytes(choice.Names{Slice: slice, Slices: 3})
+		if err != nil {
+			t.Error(err)
+		}
+		slices += bytes
+	}
+	if slices != 2*each {
+		t.Errorf("%d bytes in all slices", slices)
+	}
+	for _, one := range []struct {
+		names choice.Names
+		bytes int64
+	}{{choice.Names{}, 2 * each}, {choice.Names{Prefix: first}, each}, {choice.Names{Prefix: "none"}, 0}} {
+		if bytes, err := index.Bytes(one.names); bytes != one.bytes || err != nil {
+			t.Errorf("%+v: %d bytes, not %d: %v", one.names, bytes, one.bytes, err)
 		}
 	}
 }

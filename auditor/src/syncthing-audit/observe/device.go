@@ -12,6 +12,7 @@ import (
 	"github.com/syncthing/syncthing/lib/protocol"
 	"syncthing-audit/budget"
 	"syncthing-audit/choice"
+	"syncthing-audit/part"
 	"syncthing-audit/wire"
 )
 
@@ -96,6 +97,19 @@ func (d *Device) Read(ctx context.Context, connection *wire.Connection, asked As
 	}
 	d.first = time.Now().UTC()
 	return nil
+}
+
+// Wanted gives how many bytes will be asked for.
+func (d *Device) Wanted(asked Asked) (int64, error) {
+	made := int64(0)
+	for _, one := range d.Folders {
+		bytes, err := one.wanted(asked)
+		if err != nil {
+			return 0, inFolder(one.ID(), err)
+		}
+		made = part.Sum(made, bytes)
+	}
+	return made, nil
 }
 
 // inFolder says in which folder something failed.

@@ -55,18 +55,39 @@ func beginFolder(ctx context.Context, shared *wire.Shared, kept *Kept, room stri
 	return made, err
 }
 
+// wants gives what says whether an entry's bytes are asked for.
+func (a *Asked) wants(folder string) func(entry device.Entry) (bool, error) {
+	return func(entry device.Entry) (bool, error) {
+		if !a.Names.Has(folder, entry.Name) || a.Chosen == nil || !budget.HasBytes(entry) {
+			return a.Names.Has(folder, entry.Name), nil
+		}
+		return a.Chosen.Has(folder, entry.Name)
+	}
+}
+
+// wanted gives how many bytes are asked for.
+func (f *Folder) wanted(asked Asked) (int64, error) {
+	made := int64(0)
+	if asked.Records {
+		return made, nil
+	}
+	isWanted := asked.wants(f.ID())
+	err := f.index.Each(func(entry device.Entry) error {
+		is, err := isWanted(entry)
+		if is && budget.HasBytes(entry) {
+			made = part.Sum(made, entry.Record.Content.Size)
+		}
+		return err
+	})
+	return made, err
+}
+
 // read asks for the bytes of a folder, if they are wanted.
 func (f *Folder) read(ctx context.Context, shared *wire.Shared, asked Asked, read func(bytes int64)) error {
 	if asked.Records {
 		return nil
 	}
-	isWanted := func(entry device.Entry) (bool, error) {
-		if !asked.Names.Has(f.ID(), entry.Name) || asked.Chosen == nil || !budget.HasBytes(entry) {
-			return asked.Names.Has(f.ID(), entry.Name), nil
-		}
-		return asked.Chosen.Has(f.ID(), entry.Name)
-	}
-	return shared.Bytes(ctx, f.index, isWanted, func(entry device.Entry, found wire.Found) error {
+	return shared.Bytes(ctx, f.index, asked.wants(f.ID()), func(entry device.Entry, found wire.Found) error {
 		f.bytes += found.Size - found.Unread
 		read(found.Size - found.Unread)
 		return f.disks.put(entry.Name, diskOf(f.of, entry.Name, found))

@@ -56,6 +56,7 @@ type Head struct {
 	Newer        *Newer    `json:"newer_index,omitempty"`
 	ToRepair     bool      `json:"index_to_repair,omitempty"` // Syncthing is to repair the index at its next start
 	Waits        bool      `json:"waits,omitempty"`           // of what a device says before it is looked at: its second look takes --still
+	Tells        bool      `json:"progress,omitempty"`        // and its first look takes --progress
 	Others       []Other   `json:"other_folders"`             // rising by id; nothing where an older program made the part, which doesn't say
 }
 
