@@ -2,6 +2,7 @@ package main
 
 import (
 	"fmt"
+	"io"
 	"os"
 	"strings"
 	"testing"
@@ -253,4 +254,28 @@ func TestTerminals(t *testing.T) {
 		t.Error("a screen wasn't taken for a terminal")
 	}
 	startProgress(null, func(time.Time) string { t.Error("a line is asked for"); return "" })()
+}
+
+// What a first look tells of its progress, by ssh as here, goes into the line, and isn't retold. A program that doesn't know the flag isn't given it.
+func TestProgressOfALook(t *testing.T) {
+	for _, one := range []struct {
+		tells     bool
+		line, log string
+	}{{true, "hashed 10.0 of 10.0 GB", "syncthing-audit: laptop: the disk is slow\n"}, {false, "", "syncthing-audit: laptop: the disk is slow\n"}} {
+		there := standInForSSH(t, `case "$*" in *--progress*) echo "syncthing-audit: hashed 0 of 10000000000 bytes" >&2; echo "syncthing-audit: hashed 10000000000 of 10000000000 bytes" >&2;; esac
+			echo "syncthing-audit: the disk is slow" >&2; echo part`)
+		there.tells = one.tells
+		var log strings.Builder
+		run := &running{asked: options{steps: true}, places: []*place{there}, room: t.TempDir(), log: &log, progress: io.Discard}
+		if err := run.begin(0); err != nil || log.String() != one.log {
+			t.Errorf("%q, %v", log.String(), err)
+		}
+		if line := run.tally.line(seconds(1)); line != one.line {
+			t.Errorf("%q, not %q", line, one.line)
+		}
+	}
+	there := &place{host: "laptop", ssh: []string{"ssh"}, tells: true}
+	if words := there.begin(options{}); strings.Contains(strings.Join(words, " "), "--progress") {
+		t.Errorf("nobody reads it: %q", words)
+	}
 }

@@ -61,7 +61,7 @@ func (t *tally) end(at int) {
 func (t *tally) line(now time.Time) string {
 	t.mutex.Lock()
 	defer t.mutex.Unlock()
-	done, whole, isWhole := int64(0), int64(0), true
+	known, done, whole, isWhole := 0, int64(0), int64(0), true
 	longest, slowest, unknown := time.Duration(-1), "", []string{}
 	for at := range t.places {
 		one := &t.places[at]
@@ -71,6 +71,7 @@ func (t *tally) line(now time.Time) string {
 			}
 			continue
 		}
+		known++
 		one.pace.add(now, one.done)
 		done, whole = done+one.done, whole+one.whole
 		isWhole = isWhole && (one.whole >= one.done && (one.whole > 0 || one.isOver))
@@ -79,7 +80,7 @@ func (t *tally) line(now time.Time) string {
 		}
 	}
 	told := []string{}
-	if len(unknown) < len(t.places) {
+	if known > 0 {
 		told = append(told, hashedAt(done, whole, isWhole, longest, slowest, len(t.places) > 1))
 	}
 	if len(unknown) > 0 {
