@@ -1,10 +1,12 @@
 package main
 
 import (
+	"errors"
 	"fmt"
 	"io"
 	"sort"
 	"strings"
+	"syscall"
 	"time"
 
 	"syncthing-audit/finding"
@@ -17,6 +19,7 @@ type remembering struct {
 	watch   *history.Watch
 	tees    []*history.Tee
 	waiting []history.Waiting // what isn't read yet
+	unkept  error             // why there is no history: nothing can be written there
 }
 
 // remember opens the history that was asked for, and has it see what is read of the devices; nothing without one.
@@ -28,6 +31,9 @@ func remember(directory string, read *inputs) (*remembering, error) {
 		return nil, err
 	}
 	kept, err := history.Open(directory)
+	if isWithoutRoom(err) { // what was read is answered all the same
+		return &remembering{unkept: err}, nil
+	}
 	if err != nil {
 		return nil, faultOf(err)
 	}
@@ -45,9 +51,14 @@ func remember(directory string, read *inputs) (*remembering, error) {
 	return made, nil
 }
 
+// isWithoutRoom says whether nothing can be written to a disk, and the rest of the program isn't concerned.
+func isWithoutRoom(err error) bool {
+	return errors.Is(err, syscall.ENOSPC) || errors.Is(err, syscall.EDQUOT) || errors.Is(err, syscall.EROFS)
+}
+
 // close closes the history. What was read up to then is kept, also where no answer came.
 func (r *remembering) close() {
-	if r == nil {
+	if r == nil || r.history == nil {
 		return
 	}
 	for _, tee := range r.tees {
@@ -60,6 +71,9 @@ func (r *remembering) close() {
 func (r *remembering) keep(answer *finding.Answer, now time.Time) (*history.Since, error) {
 	if r == nil {
 		return nil, nil
+	}
+	if r.history == nil {
+		return history.NotKept(r.unkept), nil
 	}
 	unkept, isOld := []string{}, map[string]bool{}
 	for _, tee := range r.tees {
@@ -89,6 +103,9 @@ func (r *remembering) keep(answer *finding.Answer, now time.Time) (*history.Sinc
 		return false
 	}
 	since, err := r.history.Since(audited)
+	if isWithoutRoom(err) {
+		return history.NotKept(err), nil
+	}
 	if err != nil {
 		return nil, faultOf(err)
 	}

@@ -103,7 +103,7 @@ func (o *observing) tellWaiting(kept *remembering) {
 
 // keepChosen keeps which names were asked for, once the answer was told, of those devices that were looked at twice.
 func (o *observing) keepChosen(kept *remembering) error {
-	if o.chosen == nil {
+	if o.chosen == nil || kept.history == nil {
 		return nil
 	}
 	isOf := map[uint64]map[string]bool{}

@@ -58,9 +58,10 @@ type night struct {
 	state  *watch.State
 	due    choice.Names
 
-	audits []audited
-	faults []string // of the night itself
-	news   []string
+	isUnkept bool // whether nothing can be kept for the next night: then the history isn't written either, or what is new tonight would be old tomorrow
+	audits   []audited
+	faults   []string // of the night itself
+	news     []string
 }
 
 // audited is one audit of a night: of all devices that are looked at in one way.
@@ -101,11 +102,12 @@ func (n *night) run() (status int) {
 		n.news = append(n.news, outside.Sprintf("what the night before left is lost, so some of what is told below may have been told before: %v", state.Lost))
 	}
 	if state.Untold {
-		n.news = append(n.news, "the night before ended before it told what is new: all that lasts is told below")
+		n.news = append(n.news, "the night before ended before it told what is new, or couldn't note that it had: all that lasts is told below")
 	}
 	state.Untold = true
 	if err := state.Save(); err != nil {
-		return n.fail("no audit", outside.Sprintf("nothing can be kept for the next night: %v\n", err))
+		n.isUnkept = true
+		n.faults = append(n.faults, outside.Sprintf("nothing can be kept for the next night, so it isn't known what is new, and it is told again: %v", err))
 	}
 	n.due = n.config.Due(n.began.Unix())
 	n.auditAll()
@@ -209,10 +211,8 @@ func (n *night) audit(name string, auditing func(options, io.Writer, io.Writer) 
 	made := audited{name: name}
 	var told, said strings.Builder
 	asked.take = func(answer *summary.Summary) { made.answer = answer }
-	if err := os.MkdirAll(asked.history, 0o700); err != nil {
-		made.status, made.told = statusFault, outside.Sprintf("the history can't be kept: %v\n", err)
-		n.audits = append(n.audits, made)
-		return
+	if n.isUnkept {
+		asked.history = ""
 	}
 	status, err := auditing(asked, &told, io.MultiWriter(n.log, &said))
 	if err != nil {

@@ -63,6 +63,12 @@ type Read struct {
 	OldestName part.Bytes `json:"oldest_name,omitempty"`
 }
 
+// NotKept gives what is said where a history can't be opened or written: of what is new nothing is known.
+func NotKept(why error) *Since {
+	none := List{First: []Told{}}
+	return &Since{New: none, Lasting: none, Mended: none, Unasked: none, Changed: []Changed{}, Taken: []Changed{}, Read: []Read{}, Unkept: why.Error()}
+}
+
 // Audited is an audit that is to be kept.
 type Audited struct {
 	At      time.Time

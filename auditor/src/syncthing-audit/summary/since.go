@@ -18,10 +18,11 @@ func (p *printer) history(since *history.Since) {
 	}
 	p.changedEverywhere(since)
 	p.changedAndRecorded(since)
-	if since.Before == nil {
-		p.line("history: this is the first audit that it has")
-	} else {
+	switch {
+	case since.Before != nil:
 		p.news(since)
+	case since.Unkept == "":
+		p.line("history: this is the first audit that it has")
 	}
 	for _, read := range since.Read {
 		p.read(read)
