@@ -1,0 +1,95 @@
+package signature
+
+import (
+	"os"
+	"path/filepath"
+	"strings"
+	"testing"
+)
+
+// filesIn lists all that stands below a directory.
+func filesIn(t *testing.T, directory string) []string {
+	var found []string
+	err := filepath.Walk(directory, func(path string, _ os.FileInfo, err error) error {
+		if path != directory {
+			found = append(found, path)
+		}
+		return err
+	})
+	if err != nil {
+		t.Fatal(err)
+	}
+	return found
+}
+
+// Where a key can't be made, that is told, and nothing of it is left: neither at its place nor where it was made.
+func TestAKeyThatCannotBeMade(t *testing.T) {
+	const making = `case "$*" in *" sign "*) echo signed; exit;; esac; for made; do :; done; `
+	for called, one := range map[string]struct {
+		script string
+		told   string
+	}{
+		"nothing is made":              {making + "exit 0", "key.pub"},
+		"it fails, and leaves both":    {making + `echo x > "$made"; echo "ssh-ed25519 AAAA" > "$made.pub"; exit 1`, "ended with"},
+		"the public half alone":        {making + `echo "ssh-ed25519 AAAA" > "$made.pub"`, "key: no such file"},
+		"its directory goes meanwhile": {making + `echo x > "$made"; echo "ssh-ed25519 AAAA" > "$made.pub"; rm -rf "$PLACE"`, "no such file"},
+	} {
+		place, room := filepath.Join(t.TempDir(), "keys"), t.TempDir()
+		t.Setenv("PLACE", place)
+		t.Setenv("TMPDIR", room)
+		useProgram(t, one.script)
+		key, line, err := Open(filepath.Join(place, "key"), idOf(1))
+		if err == nil || !strings.HasPrefix(err.Error(), "refused: the key ") || !strings.Contains(err.Error(), one.told) || key != nil || line != "" {
+			t.Errorf("%s: %q, %v", called, line, err)
+		}
+		os.MkdirAll(place, 0o700)
+		if left := append(filesIn(t, room), filesIn(t, place)...); len(left) > 0 {
+			t.Errorf("%s: %q are left", called, left)
+		}
+	}
+	file := written(t, "file", "", 0o600)
+	if _, _, err := Open(filepath.Join(file, "below", "key"), idOf(1)); err == nil {
+		t.Error("a key is made below a file")
+	}
+}
+
+// A key that another run made meanwhile is used, and its line isn't told again.
+func TestAKeyThatAnotherRunMadeMeanwhile(t *testing.T) {
+	place := filepath.Join(t.TempDir(), "key")
+	t.Setenv("PLACE", place)
+	useProgram(t, `case "$*" in *" sign "*) echo signed; exit;; esac; for made; do :; done; umask 077
+echo own > "$made"; echo "ssh-ed25519 AAAA" > "$made.pub"; echo of another run > "$PLACE"`)
+	key, line, err := Open(place, idOf(1))
+	text, _ := os.ReadFile(place)
+	if err != nil || key == nil || line != "" || string(text) != "of another run\n" {
+		t.Errorf("%q, %v: %q stands there", line, err, text)
+	}
+}
+
+// Without a place for files of a run nothing is signed, and no list is read. What can't be read from its begin isn't signed either.
+func TestWithoutAPlaceForFiles(t *testing.T) {
+	key, line := aKey(t, idOf(1))
+	signers := written(t, "allowed_signers", line, 0o600)
+	from, to, err := os.Pipe()
+	if err != nil {
+		t.Fatal(err)
+	}
+	defer from.Close()
+	defer to.Close()
+	if signed, err := run(from, nil, "-V"); err == nil {
+		t.Errorf("a pipe is read from its begin: %q", signed)
+	}
+	t.Setenv("TMPDIR", "/nowhere")
+	if _, _, err := Open(key, idOf(1)); err == nil {
+		t.Error("a key is tried without a file to sign")
+	}
+	if _, _, err := Open(key+".new", idOf(1)); err == nil {
+		t.Error("a key is made nowhere")
+	}
+	if _, err := OpenSigners(signers); err == nil {
+		t.Error("a list is kept nowhere")
+	}
+	if _, err := os.Lstat(key + ".new"); !os.IsNotExist(err) {
+		t.Errorf("a key that was refused stands there: %v", err)
+	}
+}
