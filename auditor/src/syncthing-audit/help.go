@@ -23,7 +23,7 @@ var usage = fmt.Sprintf(`usage: syncthing-audit part [--home DIR [--data DIR]] [
        syncthing-audit report --html FILE (--watch CONFIG | [--home DIR ..] [PART ..] [--history DIR])
        syncthing-audit observe --init [--home DIR]
        syncthing-audit observe [--folder ID ..] [--records | --budget BYTES] [--every TIME] [--passwords FILE]
-                       [--listen tcp://:PORT] [DEVICE-ID[@tcp://HOST:PORT] [--disk FILE] ..]
+                       [--rest FILE [--rescan]] [--listen tcp://:PORT] [DEVICE-ID[@tcp://HOST:PORT] [--disk FILE] ..]
        syncthing-audit disk --after TOKEN [--block-size BYTES ..] [--names PREFIX] [--slice K/N] [--config FILE] [--sign KEY] -o FILE FOLDER-ID=DIR ..
        syncthing-audit part (--begin [--rescan] | --end --tokens FILE ..) [--home DIR [--data DIR]] [--folder ID ..] -o FILE
        syncthing-audit part --about [--rescan] [--home DIR [--data DIR]] [--folder ID ..]

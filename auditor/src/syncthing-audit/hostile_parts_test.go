@@ -82,7 +82,8 @@ func runningParts(device byte) []*hostile {
 	}
 	idOfLook := func(of byte) string { return strings.Repeat("0", 31) + string(rune('0'+of)) }
 	second := look(func(look *part.Look) { look.After = map[string]string{idOf(1): idOfLook(1), idOf(2): idOfLook(2)} })
-	second.Folders[0].Rest = &part.Rest{State: part.RestUnasked, Why: "it refuses the key"}
+	second.Folders[0].Rest = &part.Rest{State: part.RestUnasked, Why: "it refuses the key",
+		Wanted: &part.Wanted{Count: part.Count{Names: 1}, Errors: 1, First: []part.NameError{{Name: "needed", Why: "no room"}}}}
 	return []*hostile{{look(func(look *part.Look) { look.ID = idOfLook(device) }), names(false)}, {second, names(true)}}
 }
 

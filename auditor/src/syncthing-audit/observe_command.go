@@ -35,6 +35,8 @@ func runObserve(words []string, output, log io.Writer) (int, error) {
 		flags.Var(bytesOf{read}, "budget", "")
 		flags.Var(everyOf{read}, "every", "")
 		flags.Var(passwordsOf{read}, "passwords", "")
+		flags.Var(apisOf{read}, "rest", "")
+		flags.BoolVar(&read.rescan, "rescan", false, "")
 	})
 	if err != nil {
 		return 0, err
@@ -60,7 +62,8 @@ func observeDevices(asked options, output, log io.Writer) (int, error) {
 			return 0, err
 		}
 	}
-	look := func() (int, error) { return lookOverWire(asked, observer, program, output, log) }
+	news := newNews()
+	look := func() (int, error) { return lookOverWire(asked, observer, program, news, output, log) }
 	if asked.every == 0 {
 		return look()
 	}
@@ -85,6 +88,8 @@ func (o *options) checkObserve() error {
 		return nil
 	case o.still < 0:
 		return &wrongUsage{"--still is at least 0"}
+	case o.rescan && len(o.apis) == 0:
+		return &wrongUsage{"--rescan asks the devices that --rest names to scan"}
 	case o.history != "" && o.into != "":
 		return &wrongUsage{"--into writes parts in place of an answer: give --history to the 'check' of these"}
 	}
@@ -171,7 +176,7 @@ func addressesOf(asked options, kept *observe.Addresses) ([]address, error) {
 }
 
 // lookOverWire looks at devices, and tells the answer or writes the parts.
-func lookOverWire(asked options, observer *wire.Observer, program ask.Program, output, log io.Writer) (int, error) {
+func lookOverWire(asked options, observer *wire.Observer, program ask.Program, news *news, output, log io.Writer) (int, error) {
 	kept, err := observe.OpenAddresses(asked.homes[0])
 	if err != nil {
 		return 0, fmt.Errorf("refused: the addresses that are kept in %s: %w", asked.homes[0], err)
@@ -190,7 +195,7 @@ func lookOverWire(asked options, observer *wire.Observer, program ask.Program, o
 	} else {
 		defer leftover.Remove(room)
 	}
-	observing := &observing{asked: asked, observer: observer, addresses: addresses, room: room, log: log, progress: progressOf(log)}
+	observing := &observing{asked: asked, observer: observer, addresses: addresses, room: room, news: news, log: log, progress: progressOf(log)}
 	observing.discovering.port = discover.UsualPort
 	if err := observing.listen(); err != nil {
 		return 0, err

@@ -47,6 +47,8 @@ type observing struct {
 	walked    map[int][]*observe.Walked // by the devices' places: what walks of disks found with other bytes
 
 	discovering discovering
+	news        *news  // of devices that fail
+	asking      asking // of the devices' own Syncthings, by --rest
 }
 
 // wants gives what is asked of a device. Where its disks are walked, no bytes are asked for over the wire.
@@ -114,7 +116,9 @@ func (o *observing) fail(at int, what string, err error) {
 		o.devices[at].Close()
 	}
 	o.failed[at], o.devices[at] = err, nil
-	outside.Printf(o.log, "syncthing-audit: %s: %s: %v\n", o.addresses[at].given, what, err)
+	if o.news.fails(o.addresses[at].given, what) {
+		outside.Printf(o.log, "syncthing-audit: %s: %s: %v\n", o.addresses[at].given, what, err)
+	}
 }
 
 // tellStep tells a person how far the run is.
@@ -129,6 +133,9 @@ func (o *observing) look() error {
 	if err := o.open(); err != nil {
 		return err
 	}
+	if err := o.beginAsking(); err != nil {
+		return err
+	}
 	connections, err := o.connectAll()
 	if err != nil {
 		return err
@@ -136,6 +143,7 @@ func (o *observing) look() error {
 	if err := o.firstLooks(connections); err != nil {
 		return err
 	}
+	o.ask("first look")
 	if err := o.endFirstLooks(); err != nil {
 		return err
 	}
@@ -143,8 +151,11 @@ func (o *observing) look() error {
 		o.tellStep("read %s; second look in %.0f s", megabytes(o.read.Load()), left.Seconds())
 		time.Sleep(left)
 	}
+	o.ask("second look")
 	o.second = time.Now()
 	o.each("second look", o.again)
+	o.endAsking()
+	o.tellBack()
 	for _, one := range o.devices {
 		if one != nil {
 			return nil

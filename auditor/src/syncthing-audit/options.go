@@ -55,6 +55,7 @@ type options struct {
 	listen     string            // where devices connect to the observer
 	observers  []string          // devices that keep no files, by their ids
 	passwords  map[string]string // of observe: those of encrypted folders, by their ids
+	apis       restAPIs          // of observe: the REST APIs of devices, by their ids
 	budget     int64             // of observe: how many bytes each look reads; 0 for all
 	every      time.Duration     // of observe: how often it looks; 0 for once
 	disks      map[int]string    // of observe: where the parts of the disks of devices will be, by the devices' places

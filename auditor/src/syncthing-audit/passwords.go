@@ -15,22 +15,35 @@ type passwordsOf struct{ read *options }
 func (p passwordsOf) String() string { return "" }
 
 const (
-	mostBytesOfPasswords = 1 << 20
-	mayOthersRead        = fs.FileMode(0o077)
+	mostBytesOfSecret = 1 << 20
+	mayOthersRead     = fs.FileMode(0o077)
 )
+
+// readSecret gives the lines of a file that nobody else may read or write.
+func readSecret(path string) ([]string, error) {
+	text, about, err := regular.Read(path, mostBytesOfSecret)
+	if err != nil {
+		return nil, err
+	}
+	if about.Mode()&mayOthersRead != 0 {
+		return nil, errors.New("others may read or write it (chmod 600)")
+	}
+	made := strings.Split(strings.TrimSuffix(string(text), "\n"), "\n")
+	for at := range made {
+		made[at] = strings.TrimSuffix(made[at], "\r")
+	}
+	return made, nil
+}
 
 // Set reads the file: a folder's id, a space and its password on each line.
 func (p passwordsOf) Set(value string) error {
-	text, about, err := regular.Read(value, mostBytesOfPasswords)
+	lines, err := readSecret(value)
 	if err != nil {
 		return err
 	}
-	if about.Mode()&mayOthersRead != 0 {
-		return errors.New("others may read or write it (chmod 600)")
-	}
 	p.read.passwords = map[string]string{}
-	for at, line := range strings.Split(strings.TrimSuffix(string(text), "\n"), "\n") {
-		folder, password, is := strings.Cut(strings.TrimSuffix(line, "\r"), " ")
+	for at, line := range lines {
+		folder, password, is := strings.Cut(line, " ")
 		if !is || folder == "" || password == "" {
 			return fmt.Errorf("line %d isn't a folder's id, a space and its password", at+1)
 		}

@@ -16,6 +16,7 @@ import (
 	"path/filepath"
 	"time"
 
+	"syncthing-audit/configured"
 	"syncthing-audit/directory"
 	"syncthing-audit/part"
 	"syncthing-audit/regular"
@@ -25,31 +26,14 @@ import (
 // configuration is what Syncthing's config.xml says, as far as it is asked.
 type configuration struct {
 	path    string
-	Folders []configuredFolder `xml:"folder"`
+	Folders []configured.Folder `xml:"folder"`
+	Devices []configured.Device `xml:"device"`
 	GUI     struct {
 		TLS     bool   `xml:"tls,attr"`
 		Address string `xml:"address"`
 		Key     string `xml:"apikey"`
 	} `xml:"gui"`
 }
-
-// configuredFolder is what it says of a folder.
-type configuredFolder struct {
-	ID            string `xml:"id,attr"`
-	Path          string `xml:"path,attr"`
-	Type          string `xml:"type,attr"`
-	IgnorePerms   bool   `xml:"ignorePerms,attr"`
-	IgnoreDelete  bool   `xml:"ignoreDelete"`
-	MaxConflicts  *int   `xml:"maxConflicts"`
-	TimeWindow    int64  `xml:"modTimeWindowS"`
-	SyncOwnership bool   `xml:"syncOwnership"`
-	SendOwnership bool   `xml:"sendOwnership"`
-	SyncXattrs    bool   `xml:"syncXattrs"`
-	SendXattrs    bool   `xml:"sendXattrs"`
-}
-
-// kinds are the words of a part for types of folders.
-var kinds = map[string]string{"sendreceive": "send-receive", "sendonly": "send-only", "receiveonly": "receive-only"}
 
 // mostOfConfiguration is how long a config.xml may be.
 const mostOfConfiguration = 64 << 20
@@ -77,15 +61,8 @@ func (c *configuration) tell(of *part.Folder) error {
 		if at, err := directory.Place(withHome(folder.Path)); err != nil || at != of.Directory {
 			return fmt.Errorf("%s says that the folder's directory is %s, and another one is walked", shell.Quoted(c.path), shell.Quoted(folder.Path))
 		}
-		kind, is := kinds[folder.Type]
-		if !is || folder.MaxConflicts == nil {
-			return fmt.Errorf("%s says that the folder is of type %s, which this program doesn't read", shell.Quoted(c.path), shell.Quoted(folder.Type))
-		}
-		of.Kind, of.IgnoresPermissions = kind, folder.IgnorePerms
-		of.Options = &part.Options{MaxConflicts: *folder.MaxConflicts, IgnoresDeletions: folder.IgnoreDelete}
-		of.ScansAttributes = folder.SyncOwnership || folder.SendOwnership || folder.SyncXattrs || folder.SendXattrs
-		if folder.TimeWindow > 0 && folder.TimeWindow < 1<<31 {
-			of.TimeWindow = folder.TimeWindow
+		if err := folder.Tell(of, c.Devices); err != nil {
+			return fmt.Errorf("%s: %w", shell.Quoted(c.path), err)
 		}
 		return nil
 	}

@@ -7,9 +7,10 @@ import "fmt"
 type Unsure struct {
 	Member int
 	Kind   string
-	Why    string   // in words, of Busy
+	Why    string   // in words, of Busy and Wanted
 	Names  int64    // of the others: at how many names
 	Unread int64    // of OverWire: how many files' bytes weren't asked for
+	Asked  bool     // of OverWire: whether Syncthing itself said what kind of folder it is, and what it does there
 	Waits  *Waiting // of what waits for a scan: how
 }
 
@@ -17,17 +18,18 @@ type Unsure struct {
 const (
 	Waits    = "not-scanned"   // a scan sends something else than what is recorded
 	Busy     = "busy"          // what a scan has found may wait in Syncthing's memory
+	Wanted   = "wanted"        // Syncthing says that it still needs names, or fails at some
 	ToIgnore = "to-ignore"     // .stignore has come to ignore directories that the index has
 	Linked   = "linked"        // files have links elsewhere: another folder may change their times and modes
 	OverWire = "over-the-wire" // the device was asked over the wire, where not all is seen
 )
 
 // KindsOfUnsure are all of these, in the order in which they are told.
-var KindsOfUnsure = []string{Waits, Busy, ToIgnore, Linked, OverWire}
+var KindsOfUnsure = []string{Waits, Busy, Wanted, ToIgnore, Linked, OverWire}
 
 // Words says in words what it is.
 func (u *Unsure) Words() string {
-	if u.Kind == Busy {
+	if u.Kind == Busy || u.Kind == Wanted {
 		return u.Kind + ": " + u.Why
 	}
 	if u.Kind == OverWire {
@@ -57,6 +59,9 @@ func (f *Folder) Unsure() []Unsure {
 		if why := at.Head.WhyBusy(at.About); why != "" {
 			unsure = append(unsure, Unsure{Member: member, Kind: Busy, Why: why})
 		}
+		if why := at.About.Rest.WhyWanted(); why != "" {
+			unsure = append(unsure, Unsure{Member: member, Kind: Wanted, Why: why, Names: at.About.Rest.Wanted.Most()})
+		}
 		if at.ToIgnore > 0 {
 			unsure = append(unsure, Unsure{Member: member, Kind: ToIgnore, Names: at.ToIgnore})
 		}
@@ -64,7 +69,7 @@ func (f *Folder) Unsure() []Unsure {
 			unsure = append(unsure, Unsure{Member: member, Kind: Linked, Names: at.Linked.Names})
 		}
 		if at.Head.IsOverWireAlone() {
-			unsure = append(unsure, Unsure{Member: member, Kind: OverWire, Names: at.Unseen.Standing, Unread: at.Unseen.Unread})
+			unsure = append(unsure, Unsure{Member: member, Kind: OverWire, Names: at.Unseen.Standing, Unread: at.Unseen.Unread, Asked: at.About.Rest != nil})
 		}
 	}
 	return unsure

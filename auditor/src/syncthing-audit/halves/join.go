@@ -41,7 +41,6 @@ func joinHeads(records, half *part.Head) (*part.Head, error) {
 	head := *records
 	head.Half = half.Half
 	wire := *records.Wire
-	wire.Unseen = half.StillUnseen()
 	head.Wire = &wire
 	head.Folders = append([]part.Folder{}, records.Folders...)
 	for _, folder := range half.Folders {
@@ -56,25 +55,15 @@ func joinHeads(records, half *part.Head) (*part.Head, error) {
 			return nil, fmt.Errorf("the observer looked at folder %s, whose directory wasn't walked: walk it, too", shell.Folder(to.ID, to.Label))
 		}
 		to.Path, to.Directory, to.Ignores = from.Path, from.Directory, from.Ignores
-		if err := addConfigured(to, from); err != nil {
-			return nil, err
+		if from.Kind == "" { // its configuration wasn't read
+			continue
+		}
+		if err := to.TakeConfigured(from); err != nil {
+			return nil, fmt.Errorf("folder %s: %w: is the config.xml that was read Syncthing's own?", shell.Folder(to.ID, to.Label), err)
 		}
 	}
+	wire.Unseen = head.StillUnseen()
 	return &head, nil
-}
-
-// addConfigured adds what the device's configuration says of a folder, where that was read. Over the wire only some of it shows.
-func addConfigured(to, from *part.Folder) error {
-	if from.Kind == "" {
-		return nil
-	}
-	if to.Kind != from.Kind && to.Kind != "send-receive" {
-		return fmt.Errorf("folder %s is %s by the config.xml that was read, and over the wire it is %s: is another config.xml Syncthing's?",
-			shell.Folder(to.ID, to.Label), from.Kind, to.Kind)
-	}
-	to.Kind, to.Options, to.Rest, to.TimeWindow, to.ScansAttributes = from.Kind, from.Options, from.Rest, from.TimeWindow, from.ScansAttributes
-	to.IgnoresPermissions = to.IgnoresPermissions || from.IgnoresPermissions
-	return nil
 }
 
 // Stream gives a device's lines as its two halves have them.

@@ -25,6 +25,8 @@ type Folder struct {
 
 	differ map[string]*part.Differ // of files that a walk of the disks found with other bytes: which blocks
 
+	told *part.Folder // what the device's own Syncthing says of it; nothing where that wasn't asked
+
 	isOpened   bool  // whether it is encrypted there, and was read with its password
 	wentBack   int64 // from which sequence of an earlier look its index went back; 0 where it didn't
 	isReceiver bool  // whether it has local changes, as a device that only receives has

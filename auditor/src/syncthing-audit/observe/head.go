@@ -29,6 +29,9 @@ func (d *Device) head(asked Asked, observer protocol.DeviceID, look string, devi
 	for _, one := range devices {
 		made.Look.After[one.ID.String()] = look
 	}
+	if made.IsAsked() && len(made.Folders) > 0 {
+		made.Wire.WithoutAsked()
+	}
 	made.Version = made.DueVersion()
 	return made
 }
@@ -49,6 +52,9 @@ func (f *Folder) head(observer protocol.DeviceID) part.Folder {
 	}
 	sort.Slice(made.Sharing, func(a, b int) bool { return made.Sharing[a].Device < made.Sharing[b].Device })
 	sort.Slice(made.Views, func(a, b int) bool { return made.Views[a].Device < made.Views[b].Device })
+	if f.told != nil { // it fits, as Tell saw
+		_ = made.TakeConfigured(f.told)
+	}
 	return made
 }
 

@@ -48,20 +48,16 @@ func NewHalf(id, after, system string, blockSizes []int64) *Half {
 }
 
 // StillUnseen gives what isn't seen of a device over the wire and on its disks together, rising. What Syncthing's configuration says may have been told
-// with the disks, and whether it is idle.
+// with the disks or asked, and whether it is idle.
 func (h *Head) StillUnseen() []string {
-	isConfigured := true
-	for _, folder := range h.Folders {
-		isConfigured = isConfigured && folder.Rest != nil
-	}
 	unseen := []string{}
-	if !isConfigured {
+	if !h.IsAsked() {
 		unseen = append(unseen, UnseenKind)
 	}
 	if h.Half.NoModes {
 		unseen = append(unseen, UnseenPermissions)
 	}
-	if !isConfigured {
+	if !h.IsAsked() {
 		unseen = append(unseen, UnseenScans)
 	}
 	return unseen
@@ -112,8 +108,8 @@ func checkHalfHead(head *Head) error {
 // checkHalfFolder says why a folder of such a part is none. What is configured of it is told as a whole, or not at all.
 func checkHalfFolder(folder *Folder) error {
 	isBare := folder.Label == "" && folder.IndexID == 0 && folder.Max == 0 && len(folder.Sharing) == 0 && len(folder.Views) == 0 && folder.Indexed == 0 &&
-		!folder.Paused && folder.PausedDevices == nil && folder.Writers == nil
-	isConfigured := folder.Kind != "" || folder.IgnoresPermissions || folder.TimeWindow != 0 || folder.ScansAttributes || folder.Rest != nil || folder.Options != nil
+		!folder.Paused && folder.Writers == nil
+	isConfigured := folder.Kind != "" || folder.IgnoresPermissions || folder.TimeWindow != 0 || folder.ScansAttributes || folder.Rest != nil || folder.Options != nil || folder.PausedDevices != nil
 	switch {
 	case !isBare || folder.Directory == "":
 		return errors.New("more is told of it than its directory and its configuration say, or less")
@@ -126,6 +122,19 @@ func checkHalfFolder(folder *Folder) error {
 	case !slices.Contains([]string{"send-receive", "send-only", "receive-only"}, folder.Kind):
 		return fmt.Errorf("its kind is %q", folder.Kind)
 	}
+	return checkRest(folder.Rest)
+}
+
+// TakeConfigured takes what the device's configuration says of the folder, and what its Syncthing does there. Over the wire only some of it shows; what
+// shows otherwise is an error.
+func (f *Folder) TakeConfigured(from *Folder) error {
+	isSeen := f.Rest != nil || f.Kind != "send-receive"
+	if isSeen && f.Kind != from.Kind {
+		return fmt.Errorf("it is configured as %s, and was seen as %s", from.Kind, f.Kind)
+	}
+	f.Kind, f.Options, f.TimeWindow, f.ScansAttributes, f.PausedDevices = from.Kind, from.Options, from.TimeWindow, from.ScansAttributes, from.PausedDevices
+	f.IgnoresPermissions = f.IgnoresPermissions || from.IgnoresPermissions
+	f.Rest = from.Rest.Worse(f.Rest)
 	return nil
 }
 

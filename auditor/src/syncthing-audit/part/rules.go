@@ -79,6 +79,12 @@ func checkFolder(folder *Folder, isOverWire bool) error {
 	if folder.TimeWindow < 0 || folder.TimeWindow > math.MaxInt32 {
 		return errors.New("its window for times is none")
 	}
+	if isOverWire && (folder.Rest == nil) != (folder.Options == nil) {
+		return errors.New("what Syncthing itself was asked of it is told in part")
+	}
+	if err := checkRest(folder.Rest); err != nil {
+		return err
+	}
 	seen := map[string]bool{}
 	for _, of := range folder.Views {
 		if Number(of.Device) == 0 || seen[of.Device] || of.Max < 0 || of.Heard < 0 || of.Heard != 0 && !isOverWire {

@@ -67,6 +67,22 @@ func NewWire(observer string, isOfRecords bool) *Wire {
 	return wire
 }
 
+// WithoutAsked takes out what Syncthing itself was asked of each folder: of which kind it is, and what Syncthing does there.
+func (w *Wire) WithoutAsked() {
+	kept := []string{}
+	for _, one := range w.Unseen {
+		if one != UnseenKind && one != UnseenScans {
+			kept = append(kept, one)
+		}
+	}
+	w.Unseen = kept
+}
+
+// IsAsked says whether Syncthing itself was asked of each folder.
+func (h *Head) IsAsked() bool {
+	return slices.IndexFunc(h.Folders, func(one Folder) bool { return one.Rest == nil }) < 0
+}
+
 // IsOverWire says whether an observer made the part.
 func (h *Head) IsOverWire() bool { return h.Wire != nil }
 
@@ -98,7 +114,11 @@ func checkWire(head *Head) error {
 	if err := checkHalfOfWire(head); err != nil {
 		return err
 	}
-	if !slices.Equal(head.Wire.Unseen, NewWire("", head.IsOfRecords()).Unseen) {
+	due := NewWire("", head.IsOfRecords())
+	if head.IsAsked() && len(head.Folders) > 0 {
+		due.WithoutAsked()
+	}
+	if !slices.Equal(head.Wire.Unseen, due.Unseen) {
 		return errors.New("what isn't seen in the part isn't what this program knows of: use the version that made it")
 	}
 	return nil

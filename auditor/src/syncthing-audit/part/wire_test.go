@@ -1,6 +1,7 @@
 package part
 
 import (
+	"reflect"
 	"strings"
 	"testing"
 	"time"
@@ -41,6 +42,42 @@ func TestHeadsOverTheWire(t *testing.T) {
 		if err := checkHead(head); err == nil || !strings.Contains(err.Error(), told) {
 			t.Errorf("%s: %v", told, err)
 		}
+	}
+}
+
+// What Syncthing itself was asked of all folders isn't unseen; where it was asked of some, that is.
+func TestHeadsOfAskedDevices(t *testing.T) {
+	head := func(change func(*Head)) *Head {
+		made := headOverWire()
+		for _, id := range []string{"a", "b"} {
+			made.Folders = append(made.Folders, Folder{ID: id, Kind: "receive-only", IndexID: 1, Options: &Options{}, Rest: &Rest{State: RestIdle, Wanted: &Wanted{}}})
+		}
+		made.Wire.WithoutAsked()
+		change(made)
+		return made
+	}
+	if err := checkHead(head(func(*Head) {})); err != nil {
+		t.Fatal(err)
+	}
+	if unseen := head(func(*Head) {}).Wire.Unseen; !reflect.DeepEqual(unseen, []string{"directories", "permissions", "symlinks", "times", "unscanned"}) {
+		t.Error(unseen)
+	}
+	for told, change := range map[string]func(*Head){
+		"isn't what this program": func(h *Head) { h.Folders[1].Rest, h.Folders[1].Options = nil, nil },
+		"knows of: use":           func(h *Head) { h.Wire = NewWire(h.Wire.Observer, false) },
+		"is told in part":         func(h *Head) { h.Folders[1].Options = nil },
+		"still needs there":       func(h *Head) { h.Folders[1].Rest.Wanted.Names = -1 },
+		"needs there is none":     func(h *Head) { h.Folders[0].Rest.Wanted.First = []NameError{{}} },
+	} {
+		if err := checkHead(head(change)); err == nil || !strings.Contains(err.Error(), told) {
+			t.Errorf("%s: %v", told, err)
+		}
+	}
+	of := head(func(h *Head) {
+		h.Folders[1].Rest, h.Folders[1].Options, h.Wire = nil, nil, NewWire(h.Wire.Observer, false)
+	})
+	if err := checkHead(of); err != nil || of.IsAsked() {
+		t.Errorf("%v, %v", err, of.IsAsked())
 	}
 }
 

@@ -101,16 +101,8 @@ func (s Syncthing) Started() (time.Time, error) {
 
 // State says what Syncthing does with a folder: 'idle' where it neither scans nor pulls; nothing of a folder that it has paused.
 func (s Syncthing) State(folder string) (string, error) {
-	var status struct {
-		State *string `json:"state"`
-	}
-	if err := s.get("db/status?"+url.Values{"folder": {folder}}.Encode(), &status); err != nil {
-		return "", err
-	}
-	if status.State == nil {
-		return "", errors.New("Syncthing doesn't say what it does there")
-	}
-	return *status.State, nil
+	status, err := statusOf(folder, s.get)
+	return status.state(), err
 }
 
 // mostOfAnswer is how much is read of an answer.
@@ -122,6 +114,11 @@ func (s Syncthing) get(what string, into any) error {
 	if err != nil {
 		return err
 	}
+	return readAnswer(answer, into)
+}
+
+// readAnswer reads an answer.
+func readAnswer(answer *http.Response, into any) error {
 	defer answer.Body.Close()
 	switch answer.StatusCode {
 	case http.StatusOK:

@@ -72,7 +72,7 @@ func (s *Summary) firstScans(named labels) []First {
 		return nil
 	}
 	return []First{{Why: isScanned, Devices: on, Text: "first, on all devices but " + named.all(on) + ": copy to a place outside the folder what is to stay. On " +
-		named.all(on) + " Syncthing was never seen idle, and what a scan there has found goes to all devices once it is over, whatever is done next. " +
+		named.all(on) + " Syncthing wasn't seen idle, and what a scan there has found goes to all devices once it is over, whatever is done next. " +
 		"Then let it finish, and audit again before you do what stands below"}}
 }
 

@@ -25,6 +25,7 @@ func (p *printer) rest(s *Summary) {
 	p.own(s)
 	p.paused(s)
 	p.stopped(s)
+	p.asked(s)
 	p.writers(s)
 	p.nearTimes(s)
 	for _, left := range s.LeftOut {

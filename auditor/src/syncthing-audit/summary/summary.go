@@ -128,7 +128,8 @@ type Member struct {
 	Rest          string   `json:"syncthing_is,omitempty"`   // of two looks: how Syncthing was seen between them
 	Temporary     *Count   `json:"temporary,omitempty"`      // names that Syncthing takes for its temporary files, where there are any
 
-	OverWire *OverWire `json:"over_the_wire,omitempty"` // what isn't seen of a device that was asked over the wire
+	Wanted   *Wanted   `json:"syncthing_needs,omitempty"` // by its own words, where an observer asked it
+	OverWire *OverWire `json:"over_the_wire,omitempty"`   // what isn't seen of a device that was asked over the wire
 }
 
 func memberOf(member join.Member) Member {
@@ -139,6 +140,7 @@ func memberOf(member join.Member) Member {
 		if member.About.Rest != nil {
 			told.Rest = member.About.Rest.State
 		}
+		told.Wanted = wantedOf(member.About.Rest)
 	}
 	if member.Temporary != nil && member.Temporary.Names > 0 {
 		told.Temporary = &Count{member.Temporary.Names, member.Temporary.Bytes}

@@ -43,6 +43,7 @@ func whyUnsure(unsure finding.Unsure) string {
 var whatToDo = map[string]string{
 	finding.Waits:    "A scan takes that for changes, and sends them to all. Do first what stands above for that device",
 	finding.Busy:     "What a scan found may wait in its memory, and go to all devices later. Audit again once it is idle, or with a longer --still",
+	finding.Wanted:   "See its page there, and audit again once that is mended",
 	finding.ToIgnore: "Have Syncthing scan the folder, and audit again",
 	finding.Linked:   "Bytes stay in step; what the times and modes become isn't known. A copy in place of the link ends that",
 	finding.OverWire: "An audit of the device itself sees that: its part, made while Syncthing is stopped there, or 'run'",

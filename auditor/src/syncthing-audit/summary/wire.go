@@ -47,7 +47,10 @@ func whyOverWire(unsure finding.Unsure) string {
 	if unsure.Names > 0 {
 		words = append(words, "what stands where "+counted(unsure.Names, "directory or symlink is", "directories and symlinks are")+" recorded")
 	}
-	words = append(words, "times", "permissions", "names that no scan has taken", "whether a scan is under way")
+	words = append(words, "times", "permissions", "names that no scan has taken")
+	if !unsure.Asked {
+		words = append(words, "whether a scan is under way", "whether the folder only receives")
+	}
 	return "not seen over the wire: " + strings.Join(words, ", ")
 }
 

@@ -1,0 +1,69 @@
+// Package configured has what Syncthing's configuration says of a folder, as its config.xml and its REST API write it, for what needs none of
+// Syncthing's packages.
+package configured
+
+import (
+	"fmt"
+
+	"golang.org/x/exp/slices"
+	"syncthing-audit/part"
+	"syncthing-audit/shell"
+)
+
+// Folder is what is configured of a folder.
+type Folder struct {
+	ID            string   `xml:"id,attr" json:"id"`
+	Path          string   `xml:"path,attr" json:"path"`
+	Type          string   `xml:"type,attr" json:"type"`
+	IgnorePerms   bool     `xml:"ignorePerms,attr" json:"ignorePerms"`
+	Paused        bool     `xml:"paused" json:"paused"`
+	IgnoreDelete  bool     `xml:"ignoreDelete" json:"ignoreDelete"`
+	MaxConflicts  *int     `xml:"maxConflicts" json:"maxConflicts"`
+	TimeWindow    int64    `xml:"modTimeWindowS" json:"modTimeWindowS"`
+	SyncOwnership bool     `xml:"syncOwnership" json:"syncOwnership"`
+	SendOwnership bool     `xml:"sendOwnership" json:"sendOwnership"`
+	SyncXattrs    bool     `xml:"syncXattrs" json:"syncXattrs"`
+	SendXattrs    bool     `xml:"sendXattrs" json:"sendXattrs"`
+	Sharing       []Device `xml:"device" json:"devices"`
+}
+
+// Device is another device, or this one: of a folder that is shared with it its id alone.
+type Device struct {
+	ID     string `xml:"id,attr" json:"deviceID"`
+	Paused bool   `xml:"paused" json:"paused"`
+}
+
+// kinds are the words of a part for types of folders.
+var kinds = map[string]string{"sendreceive": "send-receive", "sendonly": "send-only", "receiveonly": "receive-only"}
+
+// Tell has a part say what is configured of a folder, where these are the devices of the same configuration. One that is encrypted there isn't read.
+func (f *Folder) Tell(of *part.Folder, devices []Device) error {
+	kind, is := kinds[f.Type]
+	if !is || f.MaxConflicts == nil {
+		return fmt.Errorf("the folder is of type %s, which this program doesn't read", shell.Quoted(f.Type))
+	}
+	of.Kind, of.IgnoresPermissions = kind, f.IgnorePerms
+	of.Options = &part.Options{MaxConflicts: *f.MaxConflicts, IgnoresDeletions: f.IgnoreDelete}
+	of.ScansAttributes = f.SyncOwnership || f.SendOwnership || f.SyncXattrs || f.SendXattrs
+	if f.TimeWindow > 0 && f.TimeWindow < 1<<31 {
+		of.TimeWindow = f.TimeWindow
+	}
+	of.PausedDevices = f.pausedOf(devices)
+	return nil
+}
+
+// pausedOf gives those devices that the folder is shared with, and that are paused.
+func (f *Folder) pausedOf(devices []Device) []string {
+	var made []string
+	for _, one := range devices {
+		if one.Paused && f.IsSharedWith(one.ID) {
+			made = append(made, one.ID)
+		}
+	}
+	return made
+}
+
+// IsSharedWith says whether the folder is shared with a device.
+func (f *Folder) IsSharedWith(id string) bool {
+	return slices.IndexFunc(f.Sharing, func(one Device) bool { return one.ID == id }) >= 0
+}

@@ -1,0 +1,48 @@
+package main
+
+import (
+	"errors"
+	"strings"
+	"testing"
+	"time"
+
+	"github.com/syncthing/syncthing/lib/protocol"
+	"syncthing-audit/observe"
+)
+
+// A device that fails at each look is told once, and anew where it fails at another step, and once more when it is back. The answers say how often it
+// failed.
+func TestNewsAlone(t *testing.T) {
+	now := time.Unix(0, 0)
+	told := newNews()
+	told.now = func() time.Time { now = now.Add(time.Hour); return now }
+	var log strings.Builder
+	look := func(what string) string {
+		log.Reset()
+		one := &observing{addresses: []address{{protocol.DeviceID{1}, "", "laptop", false}}, failed: map[int]error{}, devices: make([]*observe.Device, 1), log: &log, news: told}
+		if what == "" {
+			one.devices[0] = &observe.Device{}
+			one.tellBack()
+			return log.String()
+		}
+		one.fail(0, what, errors.New("no answer"))
+		left := one.left()
+		one.tellBack()
+		return log.String() + left[0].why
+	}
+	const since = "looks since 1970-01-01 01:00:00 UTC"
+	for at, row := range [][2]string{
+		{"not connected", "syncthing-audit: laptop: not connected: no answer\nno answer"},
+		{"not connected", "no answer; it failed so at 2 " + since},
+		{"first look", "syncthing-audit: laptop: first look: no answer\nno answer; it failed so at 3 " + since},
+		{"first look", "no answer; it failed so at 4 " + since},
+		{"", "syncthing-audit: laptop: it is back, after it failed at 4 " + since + "\n"},
+		{"", ""},
+		{"not connected", "syncthing-audit: laptop: not connected: no answer\nno answer"},
+		{"", "syncthing-audit: laptop: it is back, after it failed at 1 look since 1970-01-01 02:00:00 UTC\n"},
+	} {
+		if said := look(row[0]); said != row[1] {
+			t.Errorf("%d: %q, not %q", at, said, row[1])
+		}
+	}
+}

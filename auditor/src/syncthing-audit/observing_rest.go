@@ -1,0 +1,169 @@
+package main
+
+import (
+	"errors"
+	"sync"
+	"time"
+
+	"golang.org/x/exp/slices"
+	"syncthing-audit/outside"
+	"syncthing-audit/part"
+	"syncthing-audit/rest"
+	"syncthing-audit/shell"
+)
+
+// asking is what devices' own Syncthings say by their REST APIs.
+type asking struct {
+	mutex sync.Mutex
+	out   map[int]bool                    // places of devices of which nothing is asked any more
+	told  map[int]map[string]*part.Folder // by the devices' places, and by folder: nothing of one at which asking failed
+}
+
+// remote gives the REST API of a device; nothing where none is named, or where it failed.
+func (o *observing) remote(at int) *rest.Remote {
+	o.asking.mutex.Lock()
+	defer o.asking.mutex.Unlock()
+	if o.asking.out[at] {
+		return nil
+	}
+	return o.asked.apis[o.addresses[at].id]
+}
+
+// eachRemote does something for each device that has a REST API, and that hasn't failed, for all at once.
+func (o *observing) eachRemote(do func(at int, remote *rest.Remote)) {
+	var all sync.WaitGroup
+	for at := range o.addresses {
+		if remote := o.remote(at); remote != nil && !o.hasFailed(at) {
+			all.Add(1)
+			go func(at int) {
+				defer all.Done()
+				do(at, remote)
+			}(at)
+		}
+	}
+	all.Wait()
+}
+
+// keyOfRest is how news of a device's REST API is told apart from news of the device.
+func (o *observing) keyOfRest(at int) string { return o.addresses[at].given + " --rest" }
+
+// dropRest tells why nothing is known by a device's REST API. That costs the device nothing else.
+func (o *observing) dropRest(at int, what string, err error) {
+	o.asking.mutex.Lock()
+	o.asking.out[at] = true
+	delete(o.asking.told, at)
+	o.asking.mutex.Unlock()
+	o.mutex.Lock()
+	defer o.mutex.Unlock()
+	if o.news.fails(o.keyOfRest(at), what) {
+		outside.Printf(o.log, "syncthing-audit: %s: --rest: %s: %v; what the wire doesn't show of it isn't known\n", o.addresses[at].given, what, err)
+	}
+}
+
+// errNoRemotes says that a file has none of the devices.
+var errNoRemotes = &wrongUsage{"--rest names none of the devices that are asked"}
+
+// beginAsking sees whether the devices' REST APIs are theirs, and has them scan, if that is asked for.
+func (o *observing) beginAsking() error {
+	o.asking.out, o.asking.told = map[int]bool{}, map[int]map[string]*part.Folder{}
+	if len(o.asked.apis) > 0 && slices.IndexFunc(o.addresses, func(one address) bool { return o.asked.apis[one.id] != nil }) < 0 {
+		return errNoRemotes
+	}
+	o.eachRemote(func(at int, remote *rest.Remote) {
+		if err := remote.Check(o.addresses[at].id.String()); err != nil {
+			o.dropRest(at, "not asked", err)
+		} else if err := o.rescan(remote); err != nil {
+			o.dropRest(at, "not scanned", err)
+		}
+	})
+	return nil
+}
+
+// rescan has a device scan the folders that it shares with the observer, if that is asked for.
+func (o *observing) rescan(remote *rest.Remote) error {
+	if !o.asked.rescan {
+		return nil
+	}
+	all, err := remote.Folders()
+	if err != nil {
+		return err
+	}
+	for place := range all {
+		one := &all[place]
+		isAsked := len(o.asked.folders) == 0 || slices.Contains(o.asked.folders, one.ID)
+		if !isAsked || one.Paused || !one.IsSharedWith(o.observer.ID.String()) {
+			continue
+		}
+		o.tellStep("scanning folder %s", shell.Quoted(one.ID))
+		if err := remote.Scan(one.ID); err != nil {
+			return err
+		}
+	}
+	return nil
+}
+
+// ask asks the devices' Syncthings of each folder that is looked at, between both looks: once the first one is over, and before the second one begins.
+func (o *observing) ask(when string) {
+	o.eachRemote(func(at int, remote *rest.Remote) {
+		for _, folder := range o.devices[at].Folders {
+			if err := o.askOf(at, remote, folder.ID()); err != nil {
+				o.dropRest(at, "not asked at the "+when, err)
+				return
+			}
+		}
+	})
+}
+
+// errOtherwise says that what is configured isn't what it was.
+var errOtherwise = errors.New("the folder's kind changed between the looks")
+
+// askOf asks of a folder, until Syncthing is idle with it or --still is over.
+func (o *observing) askOf(at int, remote *rest.Remote, folder string) error {
+	said, err := askUntilAtRest(remote, folder, time.Now().Add(o.asked.stillness()))
+	if err != nil {
+		return err
+	}
+	made := &part.Folder{ID: folder, Rest: &said.Rest}
+	if err := said.Configured.Tell(made, said.Devices); err != nil {
+		return err
+	}
+	o.asking.mutex.Lock()
+	defer o.asking.mutex.Unlock()
+	if o.asking.told[at] == nil {
+		o.asking.told[at] = map[string]*part.Folder{}
+	}
+	if had := o.asking.told[at][folder]; had != nil {
+		if had.Kind != made.Kind {
+			return errOtherwise
+		}
+		made.Rest = made.Rest.Worse(had.Rest)
+	}
+	o.asking.told[at][folder] = made
+	return nil
+}
+
+// askUntilAtRest asks a Syncthing of a folder, and anew where it isn't at rest, until a time.
+func askUntilAtRest(remote *rest.Remote, folder string, end time.Time) (*rest.AskedOf, error) {
+	for {
+		said, err := remote.Ask(folder)
+		if err != nil || said.Rest.IsAtRest() || !time.Now().Before(end) {
+			return said, err
+		}
+		time.Sleep(timeBetweenQuestions)
+	}
+}
+
+// endAsking gives what the Syncthings said to what was seen of their devices.
+func (o *observing) endAsking() {
+	o.eachRemote(func(at int, _ *rest.Remote) {
+		if err := o.devices[at].Tell(o.asking.told[at]); err != nil {
+			o.dropRest(at, "not as seen over the wire", err)
+			return
+		}
+		o.mutex.Lock()
+		defer o.mutex.Unlock()
+		if told := o.news.works(o.keyOfRest(at)); told != "" {
+			outside.Printf(o.log, "syncthing-audit: %s: --rest: it answers again, after it failed at %s\n", o.addresses[at].given, told)
+		}
+	})
+}

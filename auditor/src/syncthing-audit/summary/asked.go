@@ -1,0 +1,59 @@
+package summary
+
+import (
+	"strings"
+
+	"syncthing-audit/part"
+	"syncthing-audit/shell"
+)
+
+// Wanted is what a device's Syncthing says that it still needs of a folder, and at which names it fails.
+type Wanted struct {
+	Names  int64            `json:"names"`
+	Bytes  int64            `json:"bytes"`
+	Errors int64            `json:"errors"`
+	First  []part.NameError `json:"first_errors,omitempty"`
+}
+
+// wantedOf gives what Syncthing says; nothing where it wasn't asked.
+func wantedOf(rest *part.Rest) *Wanted {
+	if rest == nil || rest.Wanted == nil {
+		return nil
+	}
+	return &Wanted{rest.Wanted.Names, rest.Wanted.Bytes, rest.Wanted.Errors, rest.Wanted.First}
+}
+
+// asked prints what Syncthing itself said of folders where it was asked by --rest, and doesn't stand elsewhere.
+func (p *printer) asked(s *Summary) {
+	for _, folder := range s.Folders {
+		said := places{}
+		for _, one := range folder.Devices {
+			if one.Wanted != nil {
+				said.add(one.Kind+", "+shell.Printable(one.Rest)+", "+one.Wanted.words(), one.Device)
+			}
+		}
+		said.each(p.named, func(words, devices string) {
+			p.line("Syncthing itself says of %s on %s: %s", shell.Folder(folder.ID, folder.Label), devices, words)
+		})
+	}
+}
+
+// words says what Syncthing still needs, and at which names it fails.
+func (w *Wanted) words() string {
+	told := "needs nothing"
+	if w.Names > 0 {
+		told = "needs " + counted(w.Names, "name", "names") + " (" + size(w.Bytes) + ")"
+	}
+	if w.Errors == 0 {
+		return told + ", fails at nothing"
+	}
+	first := []string{}
+	for _, one := range w.First {
+		first = append(first, shell.Path(string(one.Name))+" ("+shell.Printable(one.Why)+")")
+	}
+	told += ", fails at " + counted(w.Errors, "name", "names")
+	if len(first) > 0 {
+		told += ", first at " + strings.Join(first, ", ")
+	}
+	return told
+}
