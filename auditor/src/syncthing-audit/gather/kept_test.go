@@ -6,6 +6,7 @@ import (
 	"io"
 	"os"
 	"path/filepath"
+	"runtime"
 	"strings"
 	"testing"
 	"time"
@@ -120,10 +121,44 @@ func TestAGlanceThatFails(t *testing.T) {
 	if err == nil || !strings.Contains(err.Error(), "folder "+shell.Folder("docs", "My papers")+": ") {
 		t.Error(err)
 	}
+	reading := &Device{Folders: []Folder{labelled{directory{"/"}}}}
+	if err := reading.Run(reading.Head(), func(part.Line) error { return nil }); err == nil || !strings.Contains(err.Error(), "folder "+shell.Folder("docs", "My papers")+": ") {
+		t.Error(err)
+	}
 	t.Setenv("TMPDIR", "/nowhere")
 	if _, err := (&Device{Look: &part.Look{}, Folders: []Folder{directory{aDirectory(t)}}}).Glance(); err == nil {
 		t.Error("there is no room for a glance, and nothing is told")
 	}
+}
+
+// fillsRoom is a folder after which there is no room for more.
+type fillsRoom struct {
+	directory
+	t *testing.T
+}
+
+func (f fillsRoom) Patterns() (*ignore.Matcher, error) {
+	f.t.Setenv("TMPDIR", "/nowhere")
+	return f.directory.Patterns()
+}
+
+// Where there is no room for a later folder's glance, those of the folders before it are closed.
+func TestAGlanceWithoutRoomLeavesNothingOpen(t *testing.T) {
+	t.Setenv("TMPDIR", t.TempDir())
+	open := func() int {
+		entries, err := os.ReadDir("/proc/self/fd")
+		if err != nil {
+			t.Skip(err)
+		}
+		return len(entries)
+	}
+	device := &Device{Look: &part.Look{}, Folders: []Folder{fillsRoom{directory{aDirectory(t)}, t}, directory{aDirectory(t)}}}
+	before := open()
+	glanced, err := device.Glance()
+	if after := open(); err == nil || glanced != nil || after != before {
+		t.Errorf("%v, %v: %d files are open, and %d were", glanced, err, after, before)
+	}
+	runtime.KeepAlive(device)
 }
 
 // A name that is too long stands in no part: a hash is told in its place.
