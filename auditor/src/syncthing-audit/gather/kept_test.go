@@ -218,3 +218,25 @@ func TestNoReadingGoesOnBehindARefusal(t *testing.T) {
 		}
 	}
 }
+
+// A stream that is closed ends the reading, also one that would never end.
+func TestAStreamThatIsClosedReadsNoMore(t *testing.T) {
+	folder := endless{directory{aDirectory(t)}, make(chan bool, 2)}
+	pool := disk.NewPool(1)
+	defer pool.Close()
+	stream := (&Device{Folders: []Folder{folder}, Pool: pool}).Stream()
+	if _, err := stream.Next(); err != nil {
+		t.Fatal(err)
+	}
+	closed := make(chan bool)
+	go func() { stream.Close(); close(closed) }()
+	for count := 0; count < 3; count++ {
+		select {
+		case <-closed:
+			closed = nil
+		case <-folder.ended:
+		case <-time.After(10 * time.Second):
+			t.Fatal("a reading goes on")
+		}
+	}
+}
