@@ -109,3 +109,42 @@ func TestPlansAreAllShortestOnes(t *testing.T) {
 		t.Errorf("plans by their steps: %v, %d of them lose more than others", counts, isSorted)
 	}
 }
+
+// A plan of up to nine steps may be left after each of them; of a longer one, after every second step or fewer, from the first on.
+func TestAfterWhichStepsAPlanMayBeLeft(t *testing.T) {
+	world := world(devices(both, both), node("old", 5), node("rot", 5))
+	other := world.Names[0]
+	other.Name, other.Disk = "b", []*forecast.Node{node("old b", 5), node("old b", 5)}
+	world.Names = append(world.Names, other)
+	harmless := Step{Touch, 0, 0, "b"}
+	for count := 3; count <= 11; count++ {
+		for at := 0; at+1 < count; at++ {
+			steps := make([]Step, count)
+			for place := range steps {
+				steps[place] = harmless
+			}
+			steps[at], steps[at+1] = Step{Delete, 1, 0, "a"}, Step{Copy, 1, 0, "a"} // between these the deletion would prevail
+			made, missed := Search{forecast.New(forecast.Usual), present}.Together(world, []Goal{{"a", node("old", 0)}}, steps)
+			isTried := count <= 9 || at%2 == 0
+			if (made == nil) != isTried || missed != nil {
+				t.Errorf("%d steps, of which the one at %d is no stop: %+v, %+v", count, at, made, missed)
+			}
+		}
+	}
+}
+
+// A directory is copied with all below it, and nothing else is.
+func TestADirectoryIsCopiedWithAllBelow(t *testing.T) {
+	of := devices(both, both)
+	directory := &forecast.Node{Type: forecast.Directory, Mode: 0o755}
+	for _, what := range []*forecast.Node{directory, node("file", 5)} {
+		made := world(of, what, nil)
+		below := world(of, node("old", 5), nil).Names[0]
+		below.Name = "a/b"
+		made.Names = append(made.Names, below)
+		Step{Copy, 1, 0, "a"}.On(&made, present)
+		if there := made.At(1, "a"); there == nil || *there != *what || (made.At(1, "a/b") != nil) != (what == directory) {
+			t.Errorf("%+v, %+v", there, made.At(1, "a/b"))
+		}
+	}
+}

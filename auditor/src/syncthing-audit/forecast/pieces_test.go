@@ -186,3 +186,35 @@ func TestADirectoryOfOneDevice(t *testing.T) {
 		t.Errorf("%d groups", found)
 	}
 }
+
+// A device that only sends doesn't take what it needs: a change or a deletion. Only a deletion that it ignores it doesn't need.
+func TestWhatASenderDoesNotTake(t *testing.T) {
+	for place, one := range []struct {
+		ignoresDeletions, isDeleted bool
+		due                         []Stuck
+	}{
+		{false, false, []Stuck{{Device: 2, Name: "a", Why: OnlySends}}}, {true, false, []Stuck{{Device: 2, Name: "a", Why: OnlySends}}},
+		{false, true, []Stuck{{Device: 2, Name: "a", Why: OnlySends}}}, {true, true, nil},
+	} {
+		devices := three()
+		devices[2].Kind, devices[2].IgnoreDelete = SendOnly, one.ignoresDeletions
+		name := inStep("a", "old", 3, 5).changed(0, "new", 70)
+		if one.isDeleted {
+			name.Disk[0] = nil
+		}
+		answer := New(Usual).OfGroup(devices, []Name{name})
+		if len(answer.Ends) != 1 || !reflect.DeepEqual(answer.Ends[0].Stuck, one.due) {
+			t.Errorf("%d: %+v, not %+v", place, answer.Ends, one.due)
+		}
+	}
+}
+
+// A counter that a version hasn't is 0.
+func TestCountersOfAVersion(t *testing.T) {
+	version := []Counter{{10, 1}, {30, 7}}
+	for device, due := range map[uint64]uint64{5: 0, 10: 1, 20: 0, 30: 7, 40: 0} {
+		if value := counterOf(version, device); value != due {
+			t.Errorf("%d: %d, not %d", device, value, due)
+		}
+	}
+}
