@@ -10,6 +10,7 @@ import (
 	"github.com/syncthing/syncthing/lib/config"
 	"github.com/syncthing/syncthing/lib/db"
 	"github.com/syncthing/syncthing/lib/protocol"
+	"syncthing-audit/leftover"
 )
 
 // put writes a file of a home.
@@ -167,5 +168,33 @@ func TestTheIdentityOfAnIndex(t *testing.T) {
 	}
 	if identity, err := (&Home{Dir: t.TempDir()}).Identity(); err == nil {
 		t.Error(identity)
+	}
+}
+
+// A copy that fails for another reason than want of room isn't told as one that has none.
+func TestACopyThatFailsOtherwise(t *testing.T) {
+	dir, _ := aHome(t)
+	made, err := leftover.Directory()
+	if err != nil {
+		t.Fatal(err)
+	}
+	defer leftover.Remove(made)
+	room, length := t.TempDir(), 4095-len("/")-len(filepath.Base(made))-len("/CURRENT") // other files' names are too long
+	for len(room) < length-400 {
+		room = filepath.Join(room, strings.Repeat("x", 199))
+	}
+	room = filepath.Join(room, strings.Repeat("x", 199))
+	room = filepath.Join(room, strings.Repeat("x", length-len(room)-1))
+	if err := os.MkdirAll(room, 0o700); err != nil {
+		t.Skip(err)
+	}
+	t.Setenv("TMPDIR", room)
+	for _, open := range []func(dir, data string, maps ...Map) (*Home, error){Open, OpenLive} {
+		if home, err := open(dir, ""); home != nil || err == nil || strings.Contains(err.Error(), "TMPDIR may name another") {
+			t.Error(err)
+		}
+		if left, err := os.ReadDir(room); err != nil || len(left) > 0 {
+			t.Errorf("%v is left: %v", left, err)
+		}
 	}
 }
