@@ -147,6 +147,13 @@ class LookedAt(unittest.TestCase):
                 self.assertEqual(beyond, 0)
                 self.picture(f"{width}-{scheme}")
 
+    def test_each_width_says_when_a_device_was_read(self):
+        """Beside its name or, where there is no row of names, in its cell."""
+        for width, is_narrow in zip(WIDTHS, (True, False)):
+            self.browser.show(self.page, width, "light")
+            of_cells = self.browser.value("[...document.querySelectorAll('td')].map(e => getComputedStyle(e, '::after').content).join()")
+            self.assertEqual((of_cells.count("read 2026-11-05 03:31 UTC, "), "read 2026" in of_cells), (1, True) if is_narrow else (0, False), of_cells)
+
     def test_both_schemes(self):
         backs = []
         for scheme in ("light", "dark"):

@@ -89,7 +89,7 @@ class Watched(Nights):
         """The first night tells how all is, and each first one of a month. The others are silent."""
         status, text, mails = self.night()
         self.assertEqual((status, self.subjects(mails)), (0, ["first night: in step"]), self.printed)
-        self.assertIn("\n2 devices, 0.0 GB read\ndocs: ", mails)
+        self.assertIn("\n2 devices, 0 MB read\ndocs: ", mails)
         self.assertTrue(text.startswith(f"docs: {in_step()}; still for 0 s: 21 names "), text)
         self.assertEqual(self.night()[::2], (0, ""))
         state = json.loads((self.state / "watch.json").read_text())
@@ -169,7 +169,7 @@ class Watched(Nights):
         told, pinged = self.user / "told", self.user / "pinged"
         commands = f'<notify command="(echo &quot;$SUBJECT&quot;; cat) >> {told}"/><ping command="echo ping >> {pinged}"/>'
         status, text, _ = self.night(self.homes_alone + commands)
-        self.assertEqual((status, told.read_text()), (0, f"first night: in step\n2 devices, 0.0 GB read\n{text}"))
+        self.assertEqual((status, told.read_text()), (0, f"first night: in step\n2 devices, 0 MB read\n{text}"))
         self.night(self.homes_alone + commands)
         self.night(self.homes_alone + commands, SYNCAUDIT="/nowhere/syncaudit")
         self.assertEqual((pinged.read_text(), told.read_text().count("no answer")), ("ping\nping\n", 1))

@@ -203,7 +203,7 @@ func (n *night) size() string {
 			bytes += folder.Bytes
 		}
 	}
-	return fmt.Sprintf("%s, %.1f GB read\n", countOf(len(devices), "device"), float64(bytes)/1e9)
+	return fmt.Sprintf("%s, %s read\n", countOf(len(devices), "device"), megabytes(bytes))
 }
 
 // measure writes the metrics, where they are wanted.

@@ -49,6 +49,7 @@ ul.plain { list-style: none; padding: 0; margin: 0.3rem 0; }
   tbody th { width: auto; border-width: 1px; }
   td { border-top: 0; }
   td::before { content: attr(data-device); display: block; font-weight: 600; }
+  td[data-read]::after { content: attr(data-read); display: block; color: var(--faint); font-size: 0.875rem; }
   tr { margin-bottom: 0.75rem; }
 }
 @media print {
@@ -76,7 +77,7 @@ ul.plain { list-style: none; padding: 0; margin: 0.3rem 0; }
 <tbody role="rowgroup">
 {{range .Rows}}<tr role="row">
 <th scope="row" role="rowheader">{{.Called}}<p class="{{.Kind}}"><span class="sign" aria-hidden="true">{{.Sign}}</span> {{.Words}}</p><p class="faint small">{{.Size}}</p></th>
-{{range .Cells}}<td role="cell" data-device="{{.Device}}"><p class="{{.Kind}}"><span class="sign" aria-hidden="true">{{.Sign}}</span> {{.Words}}</p>{{range .More}}<p class="faint small">{{.}}</p>{{end}}</td>
+{{range .Cells}}<td role="cell" data-device="{{.Device}}"{{with .Read}} data-read="{{.}}"{{end}}><p class="{{.Kind}}"><span class="sign" aria-hidden="true">{{.Sign}}</span> {{.Words}}</p>{{range .More}}<p class="faint small">{{.}}</p>{{end}}</td>
 {{end}}</tr>
 {{end}}</tbody>
 </table>

@@ -30,8 +30,8 @@ func signOf(status int) sign {
 
 type cellView struct {
 	sign
-	Device string
-	More   []string
+	Device, Read string // of its column, which a narrow page doesn't show
+	More         []string
 }
 
 type rowView struct {
@@ -193,7 +193,7 @@ func (f *Folder) cell(of columnView, at time.Time) cellView {
 		if one.Device != of.id {
 			continue
 		}
-		shown := cellView{sign: f.signAt(one), Device: of.Called}
+		shown := cellView{sign: f.signAt(one), Device: of.Called, Read: of.Read}
 		if one.Files > 0 {
 			shown.More = append(shown.More, counted(one.Files, "file")+", "+size(one.Bytes)+" read", "longest ago: "+stamp(one.Oldest, at)+", "+ago(one.Oldest, at)+" ("+one.OldestName+")")
 		}
