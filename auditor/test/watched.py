@@ -181,7 +181,8 @@ class Watched(Nights):
         for elements, why in (('<device plaice="x"/>', "<device> has no attribute plaice"), ("<devices place=\"x\"/>", "<watch> has no element <devices>"),
                               ("", "it names no <device>, no <parts> and no <observed>"), ('<device place=""/>', '<device place=""> is empty'), ('<device data="x"/>', 'place=".."> isn\'t given'),
                               (f'{self.homes_alone}<slices count="0"/>', 'count="0" isn\'t taken'), (f'{self.homes_alone}<slices count="7" hour="24"/>', 'hour="24" isn\'t taken'),
-                              (f'{self.homes_alone}<slices count="seven"/>', "invalid syntax"), (f'{self.homes_alone}<state path="a"/><state path="b"/>', "<state> stands twice"),
+                              (f'{self.homes_alone}<slices count="seven"/>', "invalid syntax"), (f'{self.homes_alone}<budget bytes="1GB"/>', "<budget> is for <observed> devices"),
+                              ('<observed id="A" address="tcp://a:1"/><folder id="docs"/><budget bytes="many"/>', '<budget bytes="many">: it is a number with kB, MB, GB or TB'), (f'{self.homes_alone}<state path="a"/><state path="b"/>', "<state> stands twice"),
                               ('<observed id="A" address="tcp://a:1"/>', "each <folder> is to be named"), (f'<parts directory="{self.parts}" hours="-1"/>', 'hours="-1" isn\'t taken'),
                               (f"{self.homes_alone}</watch><watch>", "it goes on behind </watch>")):
             status, text, _ = self.night(elements)
@@ -311,9 +312,9 @@ class Watched(Nights):
                   env={"HOME": str(self.user), "PATH": f"{self.tools}:{os.environ['PATH']}", "SYNCAUDIT": auditor()})
         self.assertEqual(ran.returncode, 6, ran.stderr)
         commented = re.findall(r"<!-- (<.*>) -->", example)
-        self.assertEqual(len(commented), 11)
+        self.assertEqual(len(commented), 12)
         for line in commented:
-            self.assertRegex(line, "^<(device|folder|slices|notify|ping|metrics|page|parts|observed|state) ")
+            self.assertRegex(line, "^<(device|folder|slices|budget|notify|ping|metrics|page|parts|observed|state) ")
         for name in re.findall(r"auditor/nightly/([\w./-]+\w)", (CONTRIB / "README.md").read_text()):
             self.assertTrue((CONTRIB / name).exists() or list(Path(CONTRIB).glob(f"{name}*")), name)
 

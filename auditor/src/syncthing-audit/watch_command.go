@@ -3,6 +3,7 @@ package main
 import (
 	"errors"
 	"flag"
+	"fmt"
 	"io"
 	"os"
 	"path/filepath"
@@ -40,11 +41,24 @@ func runWatch(words []string, output, log io.Writer) (int, error) {
 		return 0, err
 	}
 	config, err := watch.Read(asked.parts[0])
+	if err == nil {
+		err = readBudget(config, &asked)
+	}
 	made := &night{config: config, asked: asked, home: home, began: time.Now(), output: output, log: log}
 	if err != nil {
 		return made.fail("no audit", outside.Sprintf("%s: %v\n", shell.Quoted(asked.parts[0]), err)), nil
 	}
 	return made.run(), nil
+}
+
+// readBudget reads how many bytes of observed devices are read each night.
+func readBudget(config *watch.Config, to *options) error {
+	for _, one := range config.Budget {
+		if err := (bytesOf{to}).Set(one.Bytes); err != nil {
+			return fmt.Errorf("<budget bytes=%q>: %w", one.Bytes, err)
+		}
+	}
+	return nil
 }
 
 // night is one night's audit.
@@ -176,6 +190,7 @@ func (n *night) optionsOfRun() options {
 
 func (n *night) optionsOfObserve(folder string) options {
 	made := n.options("observe", []watch.Folder{{ID: folder}})
+	made.budget = n.asked.budget
 	for _, one := range n.config.Observed {
 		made.parts = append(made.parts, one.ID+"@"+one.Address)
 	}
@@ -211,7 +226,7 @@ func (n *night) audit(name string, auditing func(options, io.Writer, io.Writer) 
 	made := audited{name: name}
 	var told, said strings.Builder
 	asked.take = func(answer *summary.Summary) { made.answer = answer }
-	if n.isUnkept {
+	if n.isUnkept && asked.budget == 0 { // by its history a budget chooses
 		asked.history = ""
 	}
 	status, err := auditing(asked, &told, io.MultiWriter(n.log, &said))

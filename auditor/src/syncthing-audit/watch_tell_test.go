@@ -86,3 +86,19 @@ func TestTheSubjectOfACalmNight(t *testing.T) {
 		}
 	}
 }
+
+// A budget is of observed devices alone, in the units of --budget.
+func TestTheBudgetOfANight(t *testing.T) {
+	for text, bytes := range map[string]int64{"20GB": 20e9, "1.5MB": 1.5e6} {
+		config := &watch.Config{Devices: []watch.Device{{Place: "a:"}}, Observed: []watch.Observed{{ID: "A"}}, Budget: []watch.Budget{{Bytes: text}}}
+		made := &night{config: config, home: t.TempDir()}
+		if err := readBudget(config, &made.asked); err != nil || made.optionsOfObserve("docs").budget != bytes || made.optionsOfRun().budget != 0 {
+			t.Errorf("%s: %v, %d, %d", text, err, made.optionsOfObserve("docs").budget, made.optionsOfRun().budget)
+		}
+	}
+	for _, text := range []string{"20", "20 GB", "-1GB", "0GB", "x"} {
+		if err := readBudget(&watch.Config{Budget: []watch.Budget{{Bytes: text}}}, &options{}); err == nil || !strings.Contains(err.Error(), "<budget bytes=") {
+			t.Errorf("%s: %v", text, err)
+		}
+	}
+}

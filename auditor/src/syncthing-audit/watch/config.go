@@ -24,6 +24,7 @@ type Config struct {
 	Observed []Observed `xml:"observed"`
 	Folders  []Folder   `xml:"folder"`
 	Slices   []Slices   `xml:"slices"`
+	Budget   []Budget   `xml:"budget"`
 	State    []Place    `xml:"state"`
 	Metrics  []Place    `xml:"metrics"`
 	Page     []Place    `xml:"page"`
@@ -91,6 +92,12 @@ type Folder struct {
 type Slices struct {
 	Count int `xml:"count,attr"`
 	Hour  int `xml:"hour,attr"` // at which the next one is due, in UTC
+	unknown
+}
+
+// Budget has each night read so many bytes of each folder of the devices that are observed.
+type Budget struct {
+	Bytes string `xml:"bytes,attr"` // a number with its unit, as --budget has it
 	unknown
 }
 
@@ -205,6 +212,9 @@ func (c *Config) checkKnown() error {
 	for _, one := range c.Slices {
 		add(one.unknown, "slices")
 	}
+	for _, one := range c.Budget {
+		add(one.unknown, "budget")
+	}
 	for _, one := range append(append(append([]Place(nil), c.State...), c.Metrics...), c.Page...) {
 		add(one.unknown, "state>, <metrics> or <page")
 	}
@@ -224,7 +234,7 @@ func (c *Config) checkKnown() error {
 
 // checkCounts says what stands twice.
 func (c *Config) checkCounts() error {
-	for name, count := range map[string]int{"parts": len(c.Parts), "slices": len(c.Slices), "state": len(c.State), "metrics": len(c.Metrics), "page": len(c.Page), "mail": len(c.Mail),
+	for name, count := range map[string]int{"parts": len(c.Parts), "slices": len(c.Slices), "budget": len(c.Budget), "state": len(c.State), "metrics": len(c.Metrics), "page": len(c.Page), "mail": len(c.Mail),
 		"notify": len(c.Notify), "ping": len(c.Ping)} {
 		if count > 1 {
 			return fmt.Errorf("<%s> stands twice", name)
@@ -252,6 +262,9 @@ func (c *Config) checkDevices() error {
 	for _, one := range c.Parts {
 		empty["parts directory"] = one.Directory == ""
 	}
+	for _, one := range c.Budget {
+		empty["budget bytes"] = one.Bytes == ""
+	}
 	for _, one := range c.Mail {
 		empty["mail to"] = one.To == "" || strings.ContainsAny(one.To, "\r\n")
 	}
@@ -263,6 +276,8 @@ func (c *Config) checkDevices() error {
 	switch {
 	case len(c.Devices)+len(c.Parts)+len(c.Observed) == 0:
 		return errors.New("it names no <device>, no <parts> and no <observed>")
+	case len(c.Budget) > 0 && len(c.Observed) == 0:
+		return errors.New("<budget> is for <observed> devices, and there are none: <slices> says how much of others is read each night")
 	case len(c.Observed) > 0 && len(c.Folders) == 0:
 		return errors.New("of <observed> devices each <folder> is to be named")
 	}

@@ -13,7 +13,7 @@ import (
 
 // all is a configuration with each element that there is.
 const all = `<watch><device place="laptop:"/><device place="~/home" data="~/data"><map from="~" to="/srv"/></device><parts directory="~/parts" hours="8.5" signers="s"/>` +
-	`<observed id="A" address="tcp://a:22000"/><folder id="docs"/><slices count="7" hour="3"/><state path="s"/><metrics path="m"/><page path="p"/><mail to="me"/>` +
+	`<observed id="A" address="tcp://a:22000"/><folder id="docs"/><slices count="7" hour="3"/><budget bytes="20GB"/><state path="s"/><metrics path="m"/><page path="p"/><mail to="me"/>` +
 	`<notify command="n"/><ping command="p"/></watch>`
 
 func TestAConfigurationIsRead(t *testing.T) {
@@ -22,7 +22,7 @@ func TestAConfigurationIsRead(t *testing.T) {
 		t.Fatal(err)
 	}
 	if len(read.Devices) != 2 || read.Devices[1].Data != "~/data" || read.Parts[0].Hours != 8.5 || read.Observed[0].Address != "tcp://a:22000" ||
-		read.Slices[0].Count != 7 || read.Slices[0].Hour != 3 || read.Mail[0].To != "me" || read.Notify[0].Command != "n" || read.Ping[0].Command != "p" {
+		read.Slices[0].Count != 7 || read.Budget[0].Bytes != "20GB" || read.Slices[0].Hour != 3 || read.Mail[0].To != "me" || read.Notify[0].Command != "n" || read.Ping[0].Command != "p" {
 		t.Errorf("%+v", read)
 	}
 	if read, err = parse([]byte(`<watch><parts directory="a"/></watch>`)); err != nil || read.Parts[0].Hours != usualHours {
@@ -35,7 +35,7 @@ func TestAConfigurationIsRead(t *testing.T) {
 
 // Each word that isn't known is refused, wherever it stands: a word that is passed over leaves a device out.
 func TestNoWordIsPassedOver(t *testing.T) {
-	for _, name := range []string{"watch", "device", "map", "parts", "observed", "folder", "slices", "state", "metrics", "page", "mail", "notify", "ping"} {
+	for _, name := range []string{"watch", "device", "map", "parts", "observed", "folder", "slices", "budget", "state", "metrics", "page", "mail", "notify", "ping"} {
 		for _, text := range []string{strings.Replace(all, "<"+name, "<"+name+` odd="1"`, 1), strings.Replace(all, "<"+name, "<"+name+"s", 1)} {
 			if _, err := parse([]byte(text)); err == nil {
 				t.Errorf("it is read: %s", text)

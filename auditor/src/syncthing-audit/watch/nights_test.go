@@ -232,6 +232,7 @@ func TestEndsOfAConfiguration(t *testing.T) {
 		{`count="7"`, fmt.Sprintf(`count="%d"`, choice.MostSlices+1), "slices are 1 to"}, {`hour="3"`, `hour="0"`, ""}, {`hour="3"`, `hour="23"`, ""}, {`hour="3"`, `hour="24"`, "it is 0 to 23"},
 		{`hour="3"`, `hour="-1"`, "it is 0 to 23"}, {`hours="8.5"`, `hours="0.1"`, ""}, {`hours="8.5"`, `hours="10000"`, ""}, {`hours="8.5"`, `hours="10001"`, "isn't taken"},
 		{`hours="8.5"`, `hours="-1"`, "isn't taken"}, {`hours="8.5"`, `hours="NaN"`, "isn't taken"},
+		{`<budget bytes="20GB"/>`, `<budget bytes="20GB"/><budget bytes="1GB"/>`, "<budget> stands twice"}, {`<budget bytes="20GB"/>`, `<budget/>`, "<budget> says nothing"},
 		{`<folder id="docs"/>`, "", "of <observed> devices each <folder> is to be named"}, {`<mail to="me"/>`, `<mail to="me"/><mail to="you"/>`, "<mail> stands twice"},
 	} {
 		_, err := parse([]byte(strings.Replace(all, row.was, row.is, 1)))
@@ -239,7 +240,7 @@ func TestEndsOfAConfiguration(t *testing.T) {
 			t.Errorf("%s: %v", row.is, err)
 		}
 	}
-	for text, told := range map[string]string{`<watch></watch>`: "it names no <device>, no <parts> and no <observed>", all + "<watch/>": "it goes on behind </watch>", all + "<": "XML syntax error"} {
+	for text, told := range map[string]string{`<watch><device place="x"/><budget bytes="1GB"/></watch>`: "<budget> is for <observed> devices, and there are none", `<watch></watch>`: "it names no <device>, no <parts> and no <observed>", all + "<watch/>": "it goes on behind </watch>", all + "<": "XML syntax error"} {
 		if _, err := parse([]byte(text)); err == nil || !strings.Contains(err.Error(), told) {
 			t.Errorf("%v, not %s", err, told)
 		}
