@@ -133,6 +133,9 @@ func TestPatternsOfAFolder(t *testing.T) {
 		t.Fatal(err)
 	}
 	defer index.Close()
+	if patterns, err := index.Patterns(); err != nil || patterns.Match("a.log").IsIgnored() {
+		t.Errorf("without a file of patterns: %v", err)
+	}
 	put(t, filepath.Join(docs, ".stignore"), "*.log\n")
 	if patterns, err := index.Patterns(); err != nil || !patterns.Match("a.log").IsIgnored() || patterns.Match("a").IsIgnored() {
 		t.Errorf("%v", err)
