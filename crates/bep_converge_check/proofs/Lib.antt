@@ -4,6 +4,9 @@ pub mod LineFacts
 pub mod KnownFacts
 pub mod NameSays
 pub mod AmongSays
+pub mod AlikeFacts
+pub mod MetFacts
+pub mod PartFacts
 pub mod DeviceReasons
 pub mod AtName
 pub mod HinderWalk

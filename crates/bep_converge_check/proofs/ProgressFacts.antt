@@ -19,7 +19,7 @@ use Rattle.bep_tables.specs.declared.share.Share.{Share}
 use Rattle.bep_tables.specs.declared.table.entry.TableEntry.{TableEntry}
 use Rattle.bep_tables.specs.Cut.{IsCut, devices_of, shares_of, tables_of}
 use Rattle.bep_tables.specs.Laws.{CutSays}
-use Rattle.bep_tables.specs.Listed.{Listed, listed, IsGrouped, cut_listed}
+use Rattle.bep_tables.specs.Listed.{Listed, listed, AreInOrder, IsGrouped, cut_listed}
 use Rattle.bep_tables.specs.Said.{EntriesAreHeld, HoldersShare}
 use Rattle.bep_audit.specs.Group.{IsGroupOf}
 use Rattle.bep_audit.specs.inner.Walk.{next_key, count_at}
@@ -247,15 +247,45 @@ module _ (cut : CutParts) (folder : Folder) where
   none_past {X} name_of Is IsOther entries others =
       none_of (λ (one : X). Is one × (¬ Remains entries [] (folder, name_of one))) (λ (one : X). (¬ Remains entries [] (folder, name_of one)) → IsOther one) others
 
-  pub walk_starts : EntriesAreHeld → HoldersShare → IsCut cut → (table : List TableEntry) → IsGrouped (cut_listed cut) table → Walked table 0 0 0
-  walk_starts held share is_cut table grouped =
-      let unknown = λ (name : FileName) (gone : ¬ Remains table [] (folder, name)). unlisted_is_unknown cut [] table grouped held share is_cut (folder, name) gone in
-      record {
-        stands = stands_at_first cut [] table grouped tt;
-        names = none_past own_name (IsKnown Out folder) (λ name. ¬ IsKnown Out folder name) table unknown;
-        deleted = none_past own_name (IsDeleted Out folder) (IsUndeleted Out folder) table (λ name gone known. absurd (unknown name gone known));
-        to_come = none_past name_in (IsToCome Out folder) (IsThere Out folder) table (λ pair gone known. absurd (unknown pair.0 gone known));
-      }
+  -- the walk starts with the part of the table that is of the folder
+  module _ (held : EntriesAreHeld) (share : HoldersShare) (is_cut : IsCut cut) (table part : List TableEntry) (grouped : IsGrouped (cut_listed cut) table) (order : AreInOrder (map listed part))
+      (all : (one : TableEntry) → Contains part one ↔ (Contains table one × (one.folder.now ≡ folder))) where
+    part_stands : Stands cut [] part []
+    part_stands =
+        let whole = stands_at_first cut [] table grouped tt in
+        record {
+          order = order;
+          rise = tt;
+          listed_all = λ entry member. whole.listed_all entry ((all entry).0 member).0;
+          entries_left = λ one there left.
+              ⊎_elim
+              (λ entry.
+              let image = Contains-from_image listed table one (whole.entries_left one there (inl (entry.0, ((all entry.0).0 entry.1).0, entry.2))) in
+              let same : image.0.folder.now ≡ folder = ap (λ (l : Listed). l.folder) image.2 ∙ ap (λ (k : Key). k.0) (sym entry.2) ∙ ((all entry.0).0 entry.1).1 in
+              subst (Contains (map listed part)) image.2 (Contains-image listed part image.0 ((all image.0).1 (image.1, same))))
+              (λ row. absurd (not_in_none row.0 row.1))
+              left;
+          of_rows = λ row member. member;
+          rows_left = λ row member left. member;
+        }
+
+    part_unknown : (name : FileName) → ¬ Remains part [] (folder, name) → ¬ IsKnown Out folder name
+    part_unknown name gone =
+        unlisted_is_unknown cut [] table grouped held share is_cut (folder, name)
+        (λ remains.
+        gone
+        (⊎_elim
+        (λ entry. inl (entry.0, (all entry.0).1 (entry.1, ap (λ (k : Key). k.0) entry.2), entry.2))
+        (λ row. inr row)
+        remains))
+
+    pub walk_starts : Walked part 0 0 0
+    walk_starts = record {
+      stands = part_stands;
+      names = none_past own_name (IsKnown Out folder) (λ name. ¬ IsKnown Out folder name) part part_unknown;
+      deleted = none_past own_name (IsDeleted Out folder) (IsUndeleted Out folder) part (λ name gone known. absurd (part_unknown name gone known));
+      to_come = none_past name_in (IsToCome Out folder) (IsThere Out folder) part (λ pair gone known. absurd (part_unknown pair.0 gone known));
+    }
 
   all_past : {X : Type 0} → (name_of : X → FileName) (Is IsOther : X → Type 0) (entries : List TableEntry) (count : ℕ) → next_key entries [] ≡ None → ArePast name_of Is IsOther entries count → AreSoMany Is IsOther count
   all_past {X} name_of Is IsOther entries count none past =

@@ -7,6 +7,7 @@ pub mod Found
 pub mod Line
 pub mod Records
 pub mod Asked
+pub mod Alike
 pub mod HindranceOrder
 pub mod Says
 pub mod Behind

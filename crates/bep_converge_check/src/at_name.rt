@@ -10,8 +10,10 @@ ghost use Rattle.bep_converge.specs.Prevails.{IsAnywhere, IsTop};
 ghost use Rattle.bep_converge_check.specs.inner.Records.{IsTopIn};
 ghost use Rattle.bep_converge_check.specs.Hindrance.{hinder_shown};
 ghost use Rattle.bep_converge_check.specs.inner.Found.{FindsHinder};
+ghost use Rattle.bep_converge_check.specs.inner.Line.{AreInLine, Agree};
 ghost use Rattle.bep_converge_check.specs.inner.Weight.{weighed_cmp, record_of};
 
+use crate::alike::are_alike;
 use crate::hindrance::Hindrance;
 use crate::known::{top_of, weighed};
 use crate::line::{agree, are_in_line};
@@ -61,6 +63,9 @@ fn below_top<'a>(
 {
     entries_are_held();
     cut.is_a_cut();
+    if are_alike(group, top) {
+        return Ok(beside_devices(cut, folder, name, top));
+    }
     let records = weighed(alloc, group)?;
     Ok(beside_records(cut, records.as_slice(), folder, name, top))
 }
@@ -79,13 +84,29 @@ fn beside_records<'a>(
     requires all { (entry : Entry) → Contains (map record_of sorted.now) entry ↔ IsAnywhere (tables_of cut.now) folder.now name.now entry }
     ensures { FindsHinder (tables_of cut.now) (λ key. key ≡ (folder.now, name.now)) (option_map hinder_shown result) }
 {
-    cut_says();
     if !are_in_line(sorted) {
         return Some(at_whole(ConvergeReason::Concurrent, folder, name));
     }
     if !agree(sorted) {
         return Some(at_whole(ConvergeReason::ContentDiffers, folder, name));
     }
+    beside_devices(cut, folder, name, top)
+}
+
+// The same, where all records of the name are in line, and equal versions have equal contents.
+fn beside_devices<'a>(
+    cut: &Cut,
+    folder: &'a FolderName,
+    name: &'a Name,
+    top: &Record,
+) -> Option<Hindrance<'a>>
+    requires known { IsKnown (tables_of cut.now) folder.now name.now }
+    requires top { IsTop (tables_of cut.now) folder.now name.now top.now }
+    requires in_line { AreInLine (IsAnywhere (tables_of cut.now) folder.now name.now) }
+    requires agree { Agree (IsAnywhere (tables_of cut.now) folder.now name.now) }
+    ensures { FindsHinder (tables_of cut.now) (λ key. key ≡ (folder.now, name.now)) (option_map hinder_shown result) }
+{
+    cut_says();
     match first_unmet(cut.shares(folder), top, name) {
         None => None,
         Some(one) => Some(at_device(one.0, folder, name, one.1)),

@@ -11,6 +11,7 @@
 //! `hindrances` has all that keeps it from that.
 #![tactic(auto)]
 
+mod alike;
 mod all_at;
 mod among;
 mod at_name;
@@ -21,6 +22,8 @@ mod hindrance;
 mod known;
 mod line;
 mod meets;
+mod met;
+mod part;
 mod progress;
 mod unmet;
 mod walk;

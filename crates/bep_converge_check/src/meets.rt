@@ -37,7 +37,7 @@ fn meets_own(
         ConvergeReason::LocalOnly => is_no_local_change(own),
         ConvergeReason::StoreUnclean => is_clean(node, own),
         ConvergeReason::StoreDiffers => holds_own(node, own),
-        ConvergeReason::SendOnly => is_at_top(own, top) || kind != FolderKind::SendOnly,
+        ConvergeReason::SendOnly => takes_or_is_at_top(kind, own, top),
         ConvergeReason::WouldCopy => counts_all(own, top, device),
         _ => true,
     }
@@ -76,8 +76,15 @@ pub(crate) fn is_at_top(own: Option<&Record>, top: &Record) -> bool
     }
 }
 
-// Whether the top counts no more of the device's own changes than its own record does.
-fn counts_all(own: Option<&Record>, top: &Record, device: DeviceId) -> bool
+/// Whether a device that shares the folder in this kind takes changes, or its own record is at the top.
+pub(crate) fn takes_or_is_at_top(kind: FolderKind, own: Option<&Record>, top: &Record) -> bool
+    ensures { IsTrue result ↔ (IsAtTop (option_copied own.entry) top.now ⊎ (kind ≢ kinds.SendOnly)) }
+{
+    kind != FolderKind::SendOnly || is_at_top(own, top)
+}
+
+/// Whether the top counts no more of the device's own changes than its own record does.
+pub(crate) fn counts_all(own: Option<&Record>, top: &Record, device: DeviceId) -> bool
     ensures { IsTrue result ↔ (counter_of top.now.version device ≤ counter_of (version_of (option_copied own.entry)) device) }
 {
     top.entry().version.get(device) <= counted(own, device)

@@ -13,6 +13,7 @@ ghost use Rattle.bep_converge_check.specs.Progress.{IsAtWinners, IsDeleted, IsPr
 ghost use Rattle.bep_converge_check.specs.inner.Behind.{AreSoManyOf, IsOfKey};
 
 use crate::behind::{count_behind, winner_of};
+use crate::part::part_of;
 use crate::walk::{entries_at, next_key};
 use bep_record::{FolderName, Name};
 use bep_tables::{Cut, Share, Table, TableEntry, cut_says, entries_are_held};
@@ -43,7 +44,7 @@ pub fn progress_of<'a>(cut: &Cut, table: &Table<'_>, folder: &'a FolderName) -> 
 {
     entries_are_held();
     cut_says();
-    let entries = table.entries();
+    let entries = part_of(table.entries(), folder);
     let devices = cut.shares(folder).len();
     let (mut names, mut deleted, mut to_come) = (0, 0, 0);
     let mut at = 0;

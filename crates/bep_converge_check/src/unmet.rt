@@ -7,6 +7,7 @@ ghost use Rattle.bep_audit.specs.inner.Search.{FindsFirst};
 ghost use Rattle.bep_converge_check.specs.inner.Unmet.{FindsUnmet, IsMetBy};
 
 use crate::meets::meets;
+use crate::met::are_met;
 use bep_converge::ConvergeReason;
 use bep_record::{DeviceId, Name, Record};
 use bep_tables::Share;
@@ -29,6 +30,9 @@ pub(crate) fn first_unmet(
     requires { IsStrictlyIncreasing (devices_of shares.now) }
     ensures { FindsUnmet top.now name.now shares.now result }
 {
+    if are_met(shares, top, name) {
+        return None;
+    }
     for reason in OF_DEVICES {
         if let Some(device) = first_failing(reason, shares, top, name) {
             return Some((reason, device));

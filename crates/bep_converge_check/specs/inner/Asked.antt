@@ -29,3 +29,12 @@ AsksOwn reason top device kind own stored = ⊤
 -- what it asks of the device of a share
 abbrev pub AsksOfShare : ConvergeReason → Entry → FileName → Share → Type 0
 AsksOfShare reason top name share = AsksOwn reason top share.device share.kind (get share.own name) (get share.store name)
+
+-- what all of them ask of it
+unfoldable pub AsksAllOfShare : Entry → FileName → Share → Type 0
+AsksAllOfShare top name share =
+    IsNoLocalChange (get share.own name)
+    × IsClean (get share.store name) (get share.own name)
+    × (content_of_node (get share.store name) ≡ content_owned (get share.own name))
+    × (IsAtTop (get share.own name) top ⊎ (share.kind ≢ kinds.SendOnly))
+    × (counter_of top.version share.device ≤ counter_of (version_of (get share.own name)) share.device)

@@ -1,7 +1,7 @@
-use Rattle.std.proofs.Common.{◌≡◌, ◌≤◌, ◌+◌, List, [], length, take, drop, Some, None, sym, ap, subst, arith}
+use Rattle.std.proofs.Common.{◌≡◌, ◌↔◌, ◌≤◌, ◌+◌, List, [], Contains, length, map, take, drop, Some, None, sym, ap, subst, arith}
 use Rattle.bep_tables.specs.declared.table.entry.TableEntry.{TableEntry}
 use Rattle.bep_tables.specs.Cut.{tables_of}
-use Rattle.bep_tables.specs.Listed.{IsGrouped, cut_listed}
+use Rattle.bep_tables.specs.Listed.{AreInOrder, listed}
 use Rattle.bep_audit.specs.inner.Walk.{next_key, count_at}
 use Rattle.bep_audit.proofs.GroupWalk.{group_at, within_at, rest_is, next_at}
 use Rattle.bep_audit.proofs.NameWalk.{Key}
@@ -10,19 +10,23 @@ use Rattle.bep_converge_check.proofs.SoManyFacts.{all_others}
 use Rattle.bep_converge_check.proofs.ProgressFacts.{walk_starts, known_next, walk_goes_on, left_at, smaller_at, some_past, names_end, deleted_ends, to_come_ends, devices_counted}
 use Rattle.bep_converge_check.proofs.progress.progress_of.Goals as goal
 
+pub part_of-entries-requires : goal.part_of-entries-requires
+part_of-entries-requires c = subst (λ (table : List TableEntry). AreInOrder (map listed table)) (sym c.entries.ensures) c.requires.in_order
+
 pub loop-other-init : goal.loop-other-init
 loop-other-init c = record {
   within = omega arith;
   few_names = omega arith;
   few_deleted = omega arith;
   few_pairs = omega arith;
-  walked = walk_starts c.args.cut.now c.args.folder.now c.entries_are_held.ensures.held c.entries_are_held.ensures.shares c.shares-devices.ensures.a_cut c.entries-entries.result.now
-      (subst (IsGrouped (cut_listed c.args.cut.now)) (sym c.entries-entries.ensures) c.requires);
+  walked = walk_starts c.args.cut.now c.args.folder.now c.entries_are_held.ensures.held c.entries_are_held.ensures.shares c.shares-devices.ensures.a_cut c.args.table.now c.part_of-entries.result.now
+      c.requires c.part_of-entries.ensures.in_order
+      (subst (λ (table : List TableEntry). (one : TableEntry) → Contains c.part_of-entries.result.now one ↔ (Contains table one × (one.folder.now ≡ c.args.folder.now))) c.entries.ensures c.part_of-entries.ensures.all);
 }
 
 pub to_come_at-to_come-requires : goal.to_come_at-to_come-requires
 to_come_at-to_come-requires c =
-    let table = c.entries-entries.result.now in
+    let table = c.part_of-entries.result.now in
     let at = c.loop-other.at in
     let key : Key = (c.in-Some.other.now, c.in-Some.name.now) in
     let is : next_key (drop at table) [] ≡ Some key = next_at table [] at 0 (Some key) c.in-Some.ensures in
@@ -35,7 +39,7 @@ to_come_at-to_come-requires c =
 
 pub deleted_at-deleted-requires : goal.deleted_at-deleted-requires
 deleted_at-deleted-requires c =
-    let table = c.entries-entries.result.now in
+    let table = c.part_of-entries.result.now in
     let at = c.loop-other.at in
     let key : Key = (c.in-Some.other.now, c.in-Some.name.now) in
     known_next c.args.cut.now c.args.folder.now (drop at table) c.loop-other.names c.loop-other.deleted c.loop-other.to_come c.loop-other.invariant.walked key
@@ -43,7 +47,7 @@ deleted_at-deleted-requires c =
 
 pub loop-other-smaller : goal.loop-other-smaller
 loop-other-smaller c =
-    let table = c.entries-entries.result.now in
+    let table = c.part_of-entries.result.now in
     let at = c.loop-other.at in
     let key : Key = (c.in-Some.other.now, c.in-Some.name.now) in
     smaller_at c.args.cut.now c.args.folder.now table at c.loop-other.names c.loop-other.deleted c.loop-other.to_come c.loop-other.invariant.walked key
@@ -52,7 +56,7 @@ loop-other-smaller c =
 
 pub loop-other-preserved : goal.loop-other-preserved
 loop-other-preserved c =
-    let table = c.entries-entries.result.now in
+    let table = c.part_of-entries.result.now in
     let at = c.loop-other.at in
     let walked = c.loop-other.invariant.walked in
     let key : Key = (c.in-Some.other.now, c.in-Some.name.now) in
@@ -82,7 +86,7 @@ loop-other-preserved c =
 
 pub returns-clause-progress : goal.returns-clause-progress
 returns-clause-progress c =
-    let table = c.entries-entries.result.now in
+    let table = c.part_of-entries.result.now in
     let at = c.loop-other.at in
     let none : next_key (drop at table) [] ≡ None = next_at table [] at 0 None c.in_default.ensures in
     record {
@@ -95,7 +99,7 @@ returns-clause-progress c =
 pub returns-clause-at_winners : goal.returns-clause-at_winners
 returns-clause-at_winners c = λ zero name device known shares.
     let t = tables_of c.args.cut.now in
-    let table = c.entries-entries.result.now in
+    let table = c.part_of-entries.result.now in
     let none : next_key (drop c.loop-other.at table) [] ≡ None = next_at table [] c.loop-other.at 0 None c.in_default.ensures in
     all_others (IsToCome t c.args.folder.now) (IsThere t c.args.folder.now) c.loop-other.to_come
     (to_come_ends c.args.cut.now c.args.folder.now (drop c.loop-other.at table) c.loop-other.names c.loop-other.deleted c.loop-other.to_come c.loop-other.invariant.walked none)
