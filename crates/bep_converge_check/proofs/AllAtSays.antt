@@ -1,5 +1,5 @@
 -- What the reasons say of a name as a whole and of each device is what they ask at the name.
-use Rattle.std.proofs.Common.{◌≡◌, ◌↔◌, ◌<◌, Bool, true, false, true≢false, IsTrue, List, Contains, Option, Some, None, refl, sym, ap, subst, ◌∙◌, arith}
+use Rattle.std.proofs.Common.{◌≡◌, ◌↔◌, Bool, true≢false, IsTrue, List, Contains, Option, Some, None, refl, sym, ap, subst, ◌∙◌, arith}
 use Rattle.std.specs.Prelude.{IfSome, IfNone, is_some}
 use Rattle.bep_record.specs.declared.entry.Entry.{Entry}
 use Rattle.bep_model.specs.Tables.{Tables, Device, Folder, FileName, Shares}
@@ -17,7 +17,7 @@ use Rattle.bep_gather.specs.Adding.{Each}
 use Rattle.bep_converge_check.specs.declared.unmet.TheConstants.{OF_DEVICES}
 use Rattle.bep_converge_check.specs.Hindrance.{Hinder}
 use Rattle.bep_converge_check.specs.Hindrances.{IsMetThere}
-use Rattle.bep_converge_check.specs.inner.Says.{hinder_at, SaysWhole, SaysReason, SaysShare, SaysName}
+use Rattle.bep_converge_check.specs.inner.Says.{hinder_at, SaysWhole, SaysShare, SaysName}
 
 -- what all reasons say of the name as a whole, and of each of these devices
 abbrev pub SaysAll : Tables → Folder × FileName → List Share → Hinder → Type 0

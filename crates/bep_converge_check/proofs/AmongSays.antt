@@ -1,5 +1,5 @@
 -- What a reason asks of a device by the entries of a name is what it asks by the tables.
-use Rattle.std.proofs.Common.{◌≡◌, ◌↔◌, Contains, List, Option, subst, inl, inr, ⊎_elim}
+use Rattle.std.proofs.Common.{◌↔◌, Contains, List, Option, subst, inl, inr, ⊎_elim}
 use Rattle.std.specs.FinMap.{get}
 use Rattle.bep_record.specs.declared.entry.Entry.{Entry}
 use Rattle.bep_record.specs.declared.node.NodeParts.{NodeParts}

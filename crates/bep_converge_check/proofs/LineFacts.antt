@@ -11,7 +11,7 @@ use Rattle.bep_record.specs.Vector.{IsVersion, IsAtMost}
 use Rattle.bep_model.specs.Firm.{AreEqual}
 use Rattle.bep_converge_check.specs.declared.weight.Weighed.{Weighed}
 use Rattle.bep_converge_check.specs.inner.Line.{AreInLine, Agree}
-use Rattle.bep_converge_check.specs.inner.Weight.{weight, version_in, weighed_cmp, record_of}
+use Rattle.bep_converge_check.specs.inner.Weight.{weight, weighed_cmp, record_of}
 use Rattle.bep_converge_check.specs.inner.Ascending.{AscendUpTo}
 use Rattle.bep_converge_check.proofs.WeightFacts.{equal_where_as_heavy}
 use Rattle.bep_converge_check.proofs.SameVersions.{same_counters, no_lighter, between_at}

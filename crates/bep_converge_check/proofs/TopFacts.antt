@@ -1,6 +1,5 @@
 -- Which own record is at all tops of a name's entries, and which one of theirs counts more of a device's changes.
-use Rattle.std.proofs.Common.{◌≡◌, ◌≢◌, ◌⊎◌, ◌↔◌, ◌≤◌, Bool, true, IsTrue, List, Contains, Option, Some, None, refl, inl, inr, ⊎_elim}
-use Rattle.std.specs.Prelude.{IfSome, IfNone}
+use Rattle.std.proofs.Common.{◌≢◌, ◌⊎◌, ◌↔◌, ◌≤◌, Bool, true, IsTrue, List, Contains, Option, refl, inl, inr, ⊎_elim}
 use Rattle.bep_record.specs.declared.entry.Entry.{Entry}
 use Rattle.bep_record.specs.declared.folder_kind.FolderKind.{FolderKind}
 use Rattle.bep_record.specs.declared.folder_kind.FolderKind.TheVariants as kinds

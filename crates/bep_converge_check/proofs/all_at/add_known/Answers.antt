@@ -1,4 +1,4 @@
-use Rattle.std.proofs.Common.{◌↔◌, IsTrue, None, map, ◌∙◌, sym}
+use Rattle.std.proofs.Common.{◌↔◌, None, map}
 use Rattle.bep_record.specs.declared.entry.Entry.{Entry}
 use Rattle.bep_model.specs.Tables.{Folder, FileName}
 use Rattle.bep_tables.specs.Cut.{shares_of, tables_of}

@@ -1,4 +1,4 @@
-use Rattle.std.proofs.Common.{rules, tests, map}
+use Rattle.std.proofs.Common.{rules, tests}
 use Rattle.std.specs.Option.{option_copied}
 use Rattle.std.proofs.lemmas.Iterator.{YieldsList-from_slice, cases_from_all}
 use Rattle.bep_tables.specs.declared.table.entry.TableEntry.{TableEntry}

@@ -1,4 +1,4 @@
-use Rattle.std.proofs.Common.{List, map, sym, subst, ap, ◌∙◌}
+use Rattle.std.proofs.Common.{map, sym, subst, ap, ◌∙◌}
 use Rattle.bep_tables.specs.Cut.{tables_of}
 use Rattle.bep_tables.specs.Listed.{IsGrouped, cut_listed}
 use Rattle.bep_gather.specs.Distinct.{distinct}

@@ -1,4 +1,4 @@
-use Rattle.std.proofs.Common.{◌≡◌, ◌↔◌, List, Contains, map, sym, subst}
+use Rattle.std.proofs.Common.{◌↔◌, List, Contains, map, sym, subst}
 use Rattle.std.specs.List.Sorted.{IsSorted}
 use Rattle.bep_record.specs.declared.entry.Entry.{Entry}
 use Rattle.bep_tables.specs.Listed.{listed}
