@@ -6,6 +6,7 @@
 
 import hashlib
 import json
+import shutil
 import ssl
 
 from exporting import main, run
@@ -68,6 +69,28 @@ class ObservedRest(Halves):
         folder, devices = self.folder_of(told)
         self.assertEqual((status, folder["firm"]), (6, "not-known"))
         self.assertEqual([(one["device"], one["kind"]) for one in folder["not_known_firm"]], [(self.devices[0].id, "busy")])
+
+    def test_reverts_are_foretold_as_for_homes(self):
+        """What becomes of a receiver's own changes, and what a revert does there, is told as 'run' tells it of the homes."""
+        three = self.devices[2]
+        before = three.files / "text"
+        about = before.stat()
+        shutil.copy2(before, self.room / "text")
+        before.write_text("my own")
+        (three.files / "added").write_text("added")
+        three.scan()
+
+        def revert():
+            three.api("POST", f"db/revert?folder={FOLDER}")
+            wait_until("it is reverted", lambda: before.read_text() == "hello" and not (three.files / "added").exists() and before.stat().st_mtime_ns == about.st_mtime_ns)
+            wait_until_in_step(*self.devices)
+        self.addCleanup(revert)
+        wait_until("the others know of it", lambda: all(device.knows_all_of(three) for device in self.devices[:2]))
+        homes = self.of_homes()["folders"][0]["outlook"]
+        self.assertIn(("revert", three.id), [(one["act"], one["device"]) for one in homes["choices"]])
+        status, told = self.answer(self.devices, *self.apis())
+        outlook = told["folders"][0]["outlook"]
+        self.assertEqual((status, outlook["fates"], outlook["choices"]), (1, homes["fates"], homes["choices"]))
 
     def test_a_device_that_cannot_be_asked(self):
         """It costs that device's extra knowledge alone, and is told; the key goes to nobody with another certificate."""

@@ -5,6 +5,7 @@ import (
 	"sync"
 	"time"
 
+	"github.com/syncthing/syncthing/lib/protocol"
 	"golang.org/x/exp/slices"
 	"syncthing-audit/outside"
 	"syncthing-audit/part"
@@ -106,12 +107,25 @@ func (o *observing) rescan(remote *rest.Remote) error {
 func (o *observing) ask(when string) {
 	o.eachRemote(func(at int, remote *rest.Remote) {
 		for _, folder := range o.devices[at].Folders {
-			if err := o.askOf(at, remote, folder.ID()); err != nil {
+			err := o.askOf(at, remote, folder.ID())
+			if err == nil {
+				err = folder.AskLocal(o.idsOfAll(), remote.Local)
+			}
+			if err != nil {
 				o.dropRest(at, "not asked at the "+when, err)
 				return
 			}
 		}
 	})
+}
+
+// idsOfAll gives the ids of all devices that are asked.
+func (o *observing) idsOfAll() []protocol.DeviceID {
+	ids := []protocol.DeviceID{}
+	for _, device := range o.addresses {
+		ids = append(ids, device.id)
+	}
+	return ids
 }
 
 // errOtherwise says that what is configured isn't what it was.
@@ -156,7 +170,10 @@ func askUntilAtRest(remote *rest.Remote, folder string, end time.Time) (*rest.As
 // endAsking gives what the Syncthings said to what was seen of their devices.
 func (o *observing) endAsking() {
 	o.eachRemote(func(at int, _ *rest.Remote) {
-		if err := o.devices[at].Tell(o.asking.told[at]); err != nil {
+		o.asking.mutex.Lock()
+		told := o.asking.told[at]
+		o.asking.mutex.Unlock()
+		if err := o.devices[at].Tell(told); err != nil {
 			o.dropRest(at, "not as seen over the wire", err)
 			return
 		}

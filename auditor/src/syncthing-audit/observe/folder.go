@@ -25,7 +25,8 @@ type Folder struct {
 
 	differ map[string]*part.Differ // of files that a walk of the disks found with other bytes: which blocks
 
-	told *part.Folder // what the device's own Syncthing says of it; nothing where that wasn't asked
+	told   *part.Folder            // what the device's own Syncthing says of it; nothing where that wasn't asked
+	locals map[string]part.Version // the versions of local changes, where it says them; they aren't sent
 
 	isOpened   bool  // whether it is encrypted there, and was read with its password
 	wentBack   int64 // from which sequence of an earlier look its index went back; 0 where it didn't

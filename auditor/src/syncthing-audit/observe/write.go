@@ -129,7 +129,7 @@ func (f *Folder) line(asked Asked, entry device.Entry) (*part.Name, error) {
 		made.Out = []part.LeftOut{*found.Out}
 		return made, nil
 	}
-	made.Own, made.Disk = entry.Record, found.Node
+	made.Own, made.Disk = f.withLocal(entry), found.Node
 	for _, out := range []*part.LeftOut{entry.Out, found.Out, outOfInvalid(entry.Record)} {
 		if out != nil {
 			made.Out = append(made.Out, *out)

@@ -112,6 +112,19 @@ func (r *Remote) errors(folder string, count int64) ([]part.NameError, error) {
 	return made, nil
 }
 
+// Local says under which sequence Syncthing's own index has a name, and with which version: of each device that changed it the first seven letters of its
+// id, a colon and a number.
+func (r *Remote) Local(folder, name string) (int64, []string, error) {
+	var said struct {
+		Local struct {
+			Sequence int64    `json:"sequence"`
+			Version  []string `json:"version"`
+		} `json:"local"`
+	}
+	err := r.get("db/file?"+url.Values{"folder": {folder}, "file": {name}}.Encode(), &said)
+	return said.Local.Sequence, said.Local.Version, err
+}
+
 // Scan has Syncthing scan a folder, and waits until that is done.
 func (r *Remote) Scan(folder string) error {
 	answer, err := r.ask(http.MethodPost, "db/scan?"+url.Values{"folder": {folder}}.Encode(), longestScan)

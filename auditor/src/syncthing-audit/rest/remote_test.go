@@ -168,7 +168,16 @@ func TestWhereHTTPGoes(t *testing.T) {
 	if err := remote.Check(idOfDevice); err != nil {
 		t.Error(err)
 	}
-	for _, at := range []string{"192.0.2.1:8384", "127.0.0.1:1", "0.0.0.0:1"} {
+	everywhere, err := net.Listen("tcp", ":0")
+	if err != nil {
+		t.Fatal(err)
+	}
+	defer everywhere.Close()
+	_, port, _ := net.SplitHostPort(everywhere.Addr().String())
+	if address, err := netAddr("127.0.0.1:" + port); err != nil || checkOwn(address) != nil {
+		t.Errorf("%v, %v", err, checkOwn(address))
+	}
+	for _, at := range []string{"192.0.2.1:" + port, "127.0.0.1:1", "0.0.0.0:1"} {
 		address, err := netAddr(at)
 		if err != nil {
 			t.Fatal(err)
