@@ -21,7 +21,8 @@ func configWith(t *testing.T, directory, kind, address string, isTLS bool) strin
 	t.Helper()
 	path := filepath.Join(t.TempDir(), "config.xml")
 	text := fmt.Sprintf(`<configuration version="50"><folder id="docs" path="%s" type="%s" ignorePerms="true"><maxConflicts>-1</maxConflicts>`+
-		`<modTimeWindowS>2</modTimeWindowS><ignoreDelete>true</ignoreDelete><sendOwnership>true</sendOwnership></folder>`+
+		`<modTimeWindowS>2</modTimeWindowS><ignoreDelete>true</ignoreDelete><sendOwnership>true</sendOwnership><device id="one"></device></folder>`+
+		`<device id="one"><paused>true</paused></device><device id="two"><paused>true</paused></device>`+
 		`<gui enabled="true" tls="%v"><address>%s</address><apikey>secret</apikey></gui></configuration>`, directory, kind, isTLS, address)
 	if err := os.WriteFile(path, []byte(text), 0o600); err != nil {
 		t.Fatal(err)
@@ -75,7 +76,7 @@ func TestWhatIsConfigured(t *testing.T) {
 		}
 		one := head.Folders[0]
 		if one.Kind != "receive-only" || !one.IgnoresPermissions || one.TimeWindow != 2 || !one.ScansAttributes || *one.Options != (part.Options{MaxConflicts: -1, IgnoresDeletions: true}) ||
-			*one.Rest != due {
+			len(one.PausedDevices) != 1 || one.PausedDevices[0] != "one" || *one.Rest != due {
 			t.Errorf("%+v, %+v, %+v", one, one.Options, one.Rest)
 		}
 	}

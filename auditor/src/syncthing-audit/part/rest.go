@@ -72,9 +72,9 @@ func (r *Rest) WhyWanted() string {
 	case r == nil || r.Wanted == nil:
 		return ""
 	case r.Wanted.Errors > 0:
-		return fmt.Sprintf("Syncthing says that it fails at %d names there", r.Wanted.Errors)
+		return fmt.Sprintf("Syncthing says that it fails at names there: %d", r.Wanted.Errors)
 	case r.Wanted.Names > 0:
-		return fmt.Sprintf("Syncthing says that it still needs %d names there", r.Wanted.Names)
+		return fmt.Sprintf("Syncthing says that it still needs names there: %d", r.Wanted.Names)
 	}
 	return ""
 }

@@ -41,8 +41,8 @@ func TestWhetherAFolderWasAtRest(t *testing.T) {
 func TestWhatSyncthingWants(t *testing.T) {
 	for told, rest := range map[string]*Rest{
 		"": {Wanted: &Wanted{}},
-		"Syncthing says that it still needs 2 names there": {Wanted: &Wanted{Count: Count{Names: 2}}},
-		"Syncthing says that it fails at 1 names there":    {Wanted: &Wanted{Count: Count{Names: 2}, Errors: 1}},
+		"Syncthing says that it still needs names there: 2": {Wanted: &Wanted{Count: Count{Names: 2}}},
+		"Syncthing says that it fails at names there: 1":    {Wanted: &Wanted{Count: Count{Names: 2}, Errors: 1}},
 	} {
 		if said := rest.WhyWanted(); said != told {
 			t.Errorf("%q, not %q", said, told)

@@ -19,6 +19,10 @@ func TestWhatMayChangeAFirmFolder(t *testing.T) {
 			folder.Members[1].Head.Look = &part.Look{}
 			folder.Members[1].About.Rest = &part.Rest{State: "scanning"}
 		}, "docs (Documents) on server: Syncthing was never seen idle between the looks: it was 'scanning'. What a scan found may wait"},
+		finding.Wanted: {func(folder *finding.Folder) {
+			folder.Members[1].About.Rest = &part.Rest{State: part.RestIdle, Wanted: &part.Wanted{Count: part.Count{Names: 2, Bytes: 5}, Errors: 1,
+				First: []part.NameError{{Name: "a b", Why: "no room"}}}}
+		}, "docs (Documents) on server: Syncthing says that it fails at names there: 1. See its page there"},
 		finding.Waits: {func(folder *finding.Folder) {
 			waits(folder, "b", 1, []int{0}, noBytes)
 			waits(folder, "c", 1, []int{0}, absent)
@@ -58,6 +62,27 @@ func TestWhatMayChangeAFirmFolder(t *testing.T) {
 	})
 	if text := printed(calm); strings.Contains(text, "known") || Of(calm).Firm != finding.IsFirm {
 		t.Error(text)
+	}
+}
+
+// What Syncthing itself said is told of all devices that were asked, those of one answer together.
+func TestWhatSyncthingItselfSays(t *testing.T) {
+	answer := answerOf(3, func(folder *finding.Folder) {
+		for place := range folder.Members[:2] {
+			folder.Members[place].About.Rest = &part.Rest{State: part.RestIdle, Wanted: &part.Wanted{}}
+		}
+		folder.Members[2].About.Rest = &part.Rest{State: "scanning", Wanted: &part.Wanted{Count: part.Count{Names: 2, Bytes: 5}, Errors: 2,
+			First: []part.NameError{{Name: "a b", Why: "no room"}}}}
+	})
+	text := strings.Join(strings.Fields(printed(answer)), " ")
+	for _, told := range []string{"Syncthing itself says of docs (Documents) on laptop, server: send-receive, idle, needs nothing, fails at nothing",
+		"send-receive, scanning, needs 2 names (5 bytes), fails at 2 names, first at 'a b' (no room)"} {
+		if !strings.Contains(text, told) {
+			t.Errorf("%q isn't in %s", told, text)
+		}
+	}
+	if wanted := Of(answer).Folders[0].Devices[2].Wanted; wanted == nil || wanted.Names != 2 || wanted.Errors != 2 || len(wanted.First) != 1 {
+		t.Errorf("%+v", wanted)
 	}
 }
 
