@@ -130,7 +130,8 @@ class DiskHalves(Halves):
         folder = told["folders"][0]
         self.assertEqual((status, told["verdict"], folder["firm"], folder["names"]), (6, "in-step-as-far-as-audited", "not-known", 6))
         self.assertEqual([(one["kind"], one["why"]) for one in folder["not_known_firm"]],
-                         [("busy", "whether a scan is under way isn't seen over the wire, and its disks were walked without --config")] * 3)
+                         [("busy", "whether a scan is under way, and whether the folder only receives, isn't seen over the wire, and its disks were walked "
+                                   "without --config")] * 3)
         self.assertEqual([one["over_the_wire"]["unseen"] for one in folder["devices"]], [["kinds", "scans"]] * 3)
         self.assertEqual([one["over_the_wire"]["directories_and_symlinks"] for one in folder["devices"]], [0] * 3)
 

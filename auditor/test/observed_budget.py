@@ -59,10 +59,13 @@ class ObservedBudget(Observing):
         self.assertNotIn("\nnot read: ", ran.stdout)
 
     def test_it_goes_on(self):
-        """Each look answers. A device that isn't there for a while is left out of some."""
+        """Each look answers. A device that isn't there for a while is left out of some, which is told once, and so is that it is back."""
+        log = self.room / "log of observe"
+        told_to = log.open("w")
+        self.addCleanup(told_to.close)
         process = subprocess.Popen([self.program, "observe", "--home", self.room / "observer", "--folder", FOLDER, "--syncaudit", self.auditor, "--still", "0",
                                     "--json", "--every", "2s", "--budget", "1MB", *map(self.address, self.devices)],
-                                   stdout=subprocess.PIPE, stderr=subprocess.DEVNULL, text=True)
+                                   stdout=subprocess.PIPE, stderr=told_to, text=True)
         self.addCleanup(process.communicate)
         self.addCleanup(process.kill)
         for _ in range(2):
@@ -72,9 +75,14 @@ class ObservedBudget(Observing):
         while not told["left_out"]:
             told = json.loads(process.stdout.readline())
         self.assertEqual({one["kind"] for one in told["left_out"]}, {"absent"})
+        while "it failed so at 3 looks since " not in told["left_out"][0]["why"]:
+            told = json.loads(process.stdout.readline())
         self.devices[1].start()
         while told["left_out"]:
             told = json.loads(process.stdout.readline())
+        said = [line for line in log.read_text().splitlines() if self.address(self.devices[1]) in line]
+        self.assertRegex("\n".join(said), r"^syncthing-audit: \S+: (not connected|first look|second look): .*(\nsyncthing-audit: \S+: (not connected|first look|second look): .*)?\n"
+                                          r"syncthing-audit: \S+: it is back, after it failed at [0-9]+ looks since 20")
         self.assertTrue((self.room / "observer" / "history" / "CURRENT").exists())
         process.send_signal(signal.SIGTERM)
         process.wait(SECONDS_TO_WAIT)
