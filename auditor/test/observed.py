@@ -35,6 +35,13 @@ class Observing(Exporting):
         """A device as the observer is told of it."""
         return f"{device.id}@tcp://127.0.0.1:{device.listen_port}"
 
+    def add(self, device, **options):
+        """Adds the observer on a device that runs, as its page does."""
+        device.api("POST", "config/devices", {**device.api("GET", "config/defaults/device"), "deviceID": self.observer.id, "name": "observer", **options})
+        folder = device.api("GET", f"config/folders/{FOLDER}")
+        device.api("PUT", f"config/folders/{FOLDER}", {**folder, "devices": [*folder["devices"], {"deviceID": self.observer.id, "introducedBy": "",
+                                                                                                 "encryptionPassword": ""}]})
+
     def observe(self, *words, devices=None):
         """What an observer answers of devices that run, of all of them without a list."""
         return run([self.program, "observe", "--home", self.room / "observer", "--folder", FOLDER, "--syncaudit", self.auditor, "--still", "0",

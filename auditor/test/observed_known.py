@@ -37,13 +37,6 @@ class ObservedLater(Observing):
                         one.set("introducer", "true")
             device.write(tree, path)
 
-    def add(self, device, **options):
-        """Adds the observer on a device as its page does."""
-        device.api("POST", "config/devices", {**device.api("GET", "config/defaults/device"), "deviceID": self.observer.id, "name": "observer", **options})
-        folder = device.api("GET", f"config/folders/{FOLDER}")
-        device.api("PUT", f"config/folders/{FOLDER}", {**folder, "devices": [*folder["devices"], {"deviceID": self.observer.id, "introducedBy": "",
-                                                                                                 "encryptionPassword": ""}]})
-
     def knows_the_observer(self, device):
         """Whether a device shares the folder with the observer."""
         return self.observer.id in [one["deviceID"] for one in device.api("GET", f"config/folders/{FOLDER}")["devices"]]
