@@ -1,0 +1,141 @@
+package observe
+
+import (
+	"context"
+	"errors"
+	"os"
+	"strings"
+	"testing"
+
+	"github.com/syncthing/syncthing/lib/protocol"
+	"syncthing-audit/choice"
+	"syncthing-audit/message"
+	"syncthing-audit/wire"
+)
+
+// deleted is the field of a record that says its name is gone.
+var deleted = message.AppendNumber(nil, 6, 1)
+
+// folders gives a device with these folders, each of which has three files of three bytes, one of them deleted.
+func folders(t *testing.T, ids ...string) *Device {
+	made := &Device{ID: protocol.DeviceID{0: 1, 7: 1}, Out: map[string]error{}}
+	for _, id := range ids {
+		made.Folders = append(made.Folders, seenIn(t, id, map[string][]byte{"a": fileOf("a", 1, true), "b": fileOf("b", 2, true), "c": fileOf("c", 3, true, deleted...)}))
+	}
+	return made
+}
+
+// How many bytes will be asked for is the sum of what is recorded of the names that are asked for, of all folders; none where records alone are.
+func TestHowManyBytesAreWanted(t *testing.T) {
+	device := folders(t, "docs", "pics")
+	for _, one := range []struct {
+		asked Asked
+		bytes int64
+	}{
+		{Asked{}, 12}, {Asked{Records: true}, 0}, {Asked{Names: choice.Names{Prefix: "b"}}, 6}, {Asked{Names: choice.Names{Prefix: "c"}}, 0}, {Asked{Names: choice.Names{Prefix: "none"}}, 0},
+	} {
+		if bytes, err := device.Wanted(one.asked); err != nil || bytes != one.bytes {
+			t.Errorf("%+v: %d bytes, not %d: %v", one.asked, bytes, one.bytes, err)
+		}
+	}
+	if names := device.Folders[0].names; names != 3 {
+		t.Errorf("%d names", names)
+	}
+	device.Folders[1].index.Close()
+	if bytes, err := device.Wanted(Asked{}); err == nil || bytes != 0 || !strings.HasPrefix(err.Error(), `folder "pics": `) {
+		t.Errorf("%d, %v", bytes, err)
+	}
+	read := int64(0)
+	if err := device.Read(context.Background(), &wire.Connection{}, Asked{Records: true}, func(bytes int64) { read += bytes }); err != nil || read != 0 || device.first.IsZero() {
+		t.Errorf("%d bytes are read: %v", read, err)
+	}
+}
+
+// A folder is found by its id, and no other is.
+func TestFoldersByTheirIDs(t *testing.T) {
+	device := folders(t, "b", "d")
+	for _, id := range []string{"a", "b", "c", "d", "e", ""} {
+		if found := device.Folder(id); (found != nil) != (id == "b" || id == "d") || found != nil && found.ID() != id {
+			t.Errorf("%q: %v", id, found)
+		}
+	}
+}
+
+// For the second look each folder has an index that has what the first look's had, in a directory that goes with the device. Of a folder that wasn't
+// looked at first nothing is had.
+func TestTheIndexesOfTheSecondLook(t *testing.T) {
+	device, room := folders(t, "docs", "pics"), t.TempDir()
+	directories := map[string]bool{}
+	for _, id := range []string{"docs", "pics", "new"} {
+		index, err := device.Since(room, id)
+		if err != nil {
+			t.Fatal(err)
+		}
+		if is := index.ID == 7 && index.Highest == 3; is != (id != "new") || !is && (index.ID != 0 || index.Highest != 0) {
+			t.Errorf("%s: %d, %d", id, index.ID, index.Highest)
+		}
+		if count, err := index.Count(); err != nil || count != 0 {
+			t.Errorf("%s: %d names, %v", id, count, err)
+		}
+		directories[device.room] = true
+		index.Close()
+	}
+	if entries, err := os.ReadDir(device.room); err != nil || len(entries) != 3 || len(directories) != 1 || !strings.HasPrefix(device.room, room) {
+		t.Errorf("%v, %v", entries, err)
+	}
+	device.Close()
+	if entries, err := os.ReadDir(room); err != nil || len(entries) != 0 {
+		t.Errorf("%v is left: %v", entries, err)
+	}
+	if index, err := folders(t, "docs").Since(room+"/nowhere", "docs"); err == nil || index != nil {
+		t.Errorf("%v", index)
+	}
+	(&Device{}).Close() // nothing was found
+}
+
+// A folder that isn't shared any more at the second look is out, with why, and so is the whole device once none is left. Another device's second look is none.
+func TestWhatIsOutAtTheSecondLook(t *testing.T) {
+	why := errors.New("it is paused there")
+	device := folders(t, "docs", "pics")
+	again := &wire.Connection{Device: device.ID, Out: map[string]error{"pics": why}}
+	if err := device.End(context.Background(), again); !errors.Is(err, wire.NotShared) || len(device.Folders) != 0 || device.again.IsZero() {
+		t.Errorf("%v: %d folders", err, len(device.Folders))
+	}
+	if out := device.Out["pics"]; !errors.Is(out, why) || !strings.HasPrefix(out.Error(), "at the second look: ") || !errors.Is(device.Out["docs"], wire.NotShared) {
+		t.Errorf("%v", device.Out)
+	}
+	other := folders(t, "docs")
+	if err := other.End(context.Background(), &wire.Connection{Device: protocol.DeviceID{9}}); err == nil || !strings.HasPrefix(err.Error(), "another device, ") || len(other.Folders) != 1 {
+		t.Errorf("%v", err)
+	}
+}
+
+// Where nothing is seen of a device that is for the folder that is encrypted, the first by its id, if there is one.
+func TestWhyNothingIsSeen(t *testing.T) {
+	for place, one := range []struct {
+		out  map[string]error
+		told string
+	}{
+		{nil, wire.NotShared.Error()}, {map[string]error{"a": errors.New("paused")}, wire.NotShared.Error()},
+		{map[string]error{"a": errors.New("paused"), "b": wire.EncryptedFolder}, `folder "b": ` + wire.EncryptedFolder.Error()},
+		{map[string]error{"c": wire.EncryptedFolder, "b": wire.EncryptedFolder, "d": wire.EncryptedFolder}, `folder "b": ` + wire.EncryptedFolder.Error()},
+	} {
+		if err := (&Device{Out: one.out}).whyNone(); err == nil || err.Error() != one.told {
+			t.Errorf("%d: %v, not %s", place, err, one.told)
+		}
+	}
+	made, err := Begin(context.Background(), &wire.Connection{Out: map[string]error{"a": wire.EncryptedFolder}}, nil, t.TempDir())
+	if made != nil || !errors.Is(err, wire.EncryptedFolder) {
+		t.Errorf("%v, %v", made, err)
+	}
+}
+
+// Nothing is asked again of a folder in which the walk found nothing, or that isn't seen any more.
+func TestNothingToCompare(t *testing.T) {
+	device := folders(t, "docs")
+	for _, walked := range [][]*Walked{nil, {{Folder: "docs"}}, {{Folder: "docs", found: nil}, {Folder: "none"}}} {
+		if err := device.Compare(context.Background(), &wire.Connection{}, walked); err != nil || device.Folders[0].differ != nil {
+			t.Errorf("%v", err)
+		}
+	}
+}
