@@ -201,3 +201,11 @@ func TestACopyThatFailsOtherwise(t *testing.T) {
 		}
 	}
 }
+
+// Of an index that isn't there nobody knows how much room it takes.
+func TestRoomForNoIndex(t *testing.T) {
+	t.Setenv("TMPDIR", t.TempDir())
+	if made, err := roomFor(filepath.Join(t.TempDir(), "none")); err == nil || made != "" {
+		t.Errorf("%q, %v", made, err)
+	}
+}
