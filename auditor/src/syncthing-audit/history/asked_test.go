@@ -1,10 +1,13 @@
 package history
 
 import (
+	"errors"
 	"fmt"
 	"math/rand"
 	"reflect"
 	"testing"
+
+	"github.com/syndtr/goleveldb/leveldb"
 )
 
 // pair is a folder at a device.
@@ -116,5 +119,24 @@ func TestAskedForInAnotherFormat(t *testing.T) {
 			t.Errorf("%q: %+v, %v", value, asked, is)
 		}
 		reader.Release()
+	}
+}
+
+// A reader that was let go reads no more.
+func TestAReaderThatIsReleased(t *testing.T) {
+	history := opened(t)
+	writer := history.AskedWriter("docs", 1)
+	for _, name := range askedNames[1:] {
+		if err := writer.Put(name, AskedFor{}); err != nil {
+			t.Fatal(err)
+		}
+	}
+	if err := writer.End(); err != nil {
+		t.Fatal(err)
+	}
+	writer.Release()
+	reader := history.AskedReader("docs", 1)
+	if reader.Release(); reader.all.Next() || !errors.Is(reader.all.Error(), leveldb.ErrIterReleased) {
+		t.Error(reader.all.Error())
 	}
 }
