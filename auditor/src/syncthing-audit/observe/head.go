@@ -72,7 +72,7 @@ func (f *Folder) kind() string {
 	if f.said.SendOnly {
 		return "send-only"
 	}
-	if f.isReceiver || f.isOpened { // an untrusted device sends nothing of its own
+	if f.said.ReceiveOnly || f.isReceiver || f.isOpened { // an untrusted device sends nothing of its own
 		return "receive-only"
 	}
 	return "send-receive"

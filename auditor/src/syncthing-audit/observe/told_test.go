@@ -43,3 +43,15 @@ func TestWhatSyncthingSaysOfItself(t *testing.T) {
 		}
 	}
 }
+
+// Of which kind a folder is, the device says over the wire, as far as its version does; else its local changes show it.
+func TestKindsOverTheWire(t *testing.T) {
+	for kind, folders := range map[string][]*Folder{"send-only": {{said: wire.Folder{SendOnly: true}}, {said: wire.Folder{SendOnly: true}, isReceiver: true}},
+		"receive-only": {{said: wire.Folder{ReceiveOnly: true}}, {isReceiver: true}, {isOpened: true}}, "send-receive": {{}}} {
+		for _, folder := range folders {
+			if made := folder.kind(); made != kind {
+				t.Errorf("%+v: %s", folder, made)
+			}
+		}
+	}
+}

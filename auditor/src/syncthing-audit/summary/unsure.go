@@ -46,7 +46,7 @@ var whatToDo = map[string]string{
 	finding.Wanted:   "See its page there, and audit again once that is mended",
 	finding.ToIgnore: "Have Syncthing scan the folder, and audit again",
 	finding.Linked:   "Bytes stay in step; what the times and modes become isn't known. A copy in place of the link ends that",
-	finding.OverWire: "An audit of the device itself sees that: its part, made while Syncthing is stopped there, or 'run'",
+	finding.OverWire: "A walk of its disks (--disk) sees most of that, and an audit of the device itself all: its part, made while Syncthing is stopped there, or 'run'",
 }
 
 // unsure prints what may change a folder in step.

@@ -9,6 +9,7 @@ import (
 	"net"
 	"os"
 	"path/filepath"
+	"reflect"
 	"strings"
 	"testing"
 
@@ -164,7 +165,7 @@ func TestBoundsOfAConfiguration(t *testing.T) {
 			t.Errorf("%s: %.30q, %v", why, ids, err)
 		}
 	}
-	for flag, is := range map[protowire.Number]func(*Folder) bool{folderSendOnly: func(f *Folder) bool { return f.SendOnly }, folderIgnoresPermissions: func(f *Folder) bool { return f.IgnoresPermissions },
+	for flag, is := range map[protowire.Number]func(*Folder) bool{folderType: func(f *Folder) bool { return f.SendOnly }, folderIgnoresPermissions: func(f *Folder) bool { return f.IgnoresPermissions },
 		folderPaused: func(f *Folder) bool { return f.Paused }} {
 		for value := uint64(0); value < 2; value++ {
 			read, err := folderOf(message.AppendNumber(folder("a", device(3, "token"), device(4, "")), flag, value), 9)
@@ -179,6 +180,12 @@ func TestBoundsOfAConfiguration(t *testing.T) {
 					t.Errorf("%d: %+v", flag, read)
 				}
 			}
+		}
+	}
+	for value, due := range map[uint64]Folder{0: {}, 1: {SendOnly: true}, 2: {ReceiveOnly: true}, 3: {}, 4: {OtherType: true}, 1 << 40: {OtherType: true}} {
+		read, err := folderOf(message.AppendNumber(nil, folderType, value), 9)
+		if err != nil || !reflect.DeepEqual(*read, due) {
+			t.Errorf("type %d: %+v, %v", value, read, err)
 		}
 	}
 	made := &Folder{Devices: []Sharing{{Device: id, IndexID: 4}}}

@@ -17,6 +17,8 @@ type Folder struct {
 	ID                 string
 	Label              string
 	SendOnly           bool
+	ReceiveOnly        bool // as Syncthing 2 says it; older ones don't
+	OtherType          bool // it is of a type of which nothing is known here
 	IgnoresPermissions bool
 	Paused             bool
 	Devices            []Sharing // itself and the observer, too
@@ -49,7 +51,7 @@ const (
 
 	folderID                 protowire.Number = 1
 	folderLabel              protowire.Number = 2
-	folderSendOnly           protowire.Number = 3
+	folderType               protowire.Number = 3 // up to 1.29 it says whether the folder only sends
 	folderIgnoresPermissions protowire.Number = 4
 	folderNoTemporary        protowire.Number = 6
 	folderPaused             protowire.Number = 7
@@ -106,6 +108,19 @@ func idIn(text []byte) (string, error) {
 	return id, err
 }
 
+// The types of folders, as Syncthing 2 numbers them. Older ones say the first two.
+const (
+	typeSendOnly         = 1
+	typeReceiveOnly      = 2
+	typeReceiveEncrypted = 3 // a password's token says that, too
+)
+
+// takeType takes of which type a folder is.
+func (f *Folder) takeType(value uint64) {
+	f.SendOnly, f.ReceiveOnly = value == typeSendOnly, value == typeReceiveOnly
+	f.OtherType = value > typeReceiveEncrypted
+}
+
 // folderOf reads what is said of a folder.
 func folderOf(text []byte, most int) (*Folder, error) {
 	made := &Folder{}
@@ -115,8 +130,8 @@ func folderOf(text []byte, most int) (*Folder, error) {
 			made.ID = string(field.Text)
 		case folderLabel:
 			made.Label = limits.Cut(string(field.Text))
-		case folderSendOnly:
-			made.SendOnly = field.Value != 0
+		case folderType:
+			made.takeType(field.Value)
 		case folderIgnoresPermissions:
 			made.IgnoresPermissions = field.Value != 0
 		case folderPaused:

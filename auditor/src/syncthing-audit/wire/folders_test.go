@@ -48,6 +48,7 @@ func TestSeveralFolders(t *testing.T) {
 	config := func(f *fake, observer protocol.DeviceID) []byte {
 		made := f.sharing(observer, "photos", "docs", "more")
 		made = append(made, f.config("paused", observer, 50, 1, func(b []byte) []byte { return message.AppendNumber(b, folderPaused, 1) })...)
+		made = append(made, f.config("odd", observer, 50, 1, func(b []byte) []byte { return message.AppendNumber(b, folderType, 9) })...)
 		return append(made, f.config("docs", observer, 99, 1)...) // once more: the first word counts
 	}
 	for _, one := range []struct {
@@ -56,7 +57,7 @@ func TestSeveralFolders(t *testing.T) {
 	}{
 		{[]string{"photos", "docs"}, []string{"docs", "photos"}, map[string]Refusal{}},
 		{[]string{"photos", "none", "paused"}, []string{"photos"}, map[string]Refusal{"none": NotShared, "paused": Paused}},
-		{nil, []string{"docs", "more", "photos"}, map[string]Refusal{"paused": Paused, "other": NotShared}},
+		{nil, []string{"docs", "more", "photos"}, map[string]Refusal{"paused": Paused, "odd": OtherType, "other": NotShared}},
 	} {
 		indexes := [][]byte{}
 		for _, id := range []string{"more", "photos", "docs"} {

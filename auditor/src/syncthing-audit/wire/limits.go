@@ -55,6 +55,7 @@ const (
 	NotWhole        Refusal = "its index isn't whole"
 	NotShared       Refusal = "it doesn't share the folder with the observer"
 	Paused          Refusal = "the folder is paused there"
+	OtherType       Refusal = "the folder is of a type there that this program doesn't know"
 	EncryptedFolder Refusal = "the folder is encrypted there, and no password is given"
 	OtherPassword   Refusal = "the folder is encrypted there with another password than the one that is given"
 	Closed          Refusal = "the connection is closed"

@@ -140,6 +140,8 @@ func sharedWith(folder *Folder, device, observer protocol.DeviceID) (Sharing, er
 		return own, NotShared
 	case folder.Paused:
 		return own, Paused
+	case folder.OtherType:
+		return own, OtherType
 	case with.Encrypted:
 		return own, EncryptedForObserver
 	case !isThere:
