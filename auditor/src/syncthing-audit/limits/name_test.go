@@ -62,3 +62,17 @@ func TestIsFolderID(t *testing.T) {
 		}
 	}
 }
+
+// A text of as many bytes as a name may have stays as it is. Of a longer one the rest is cut off, and no letter in two.
+func TestCut(t *testing.T) {
+	for length, text := range map[string]string{
+		"": "", "a": "a", strings.Repeat("x", MostNameBytes): strings.Repeat("x", MostNameBytes),
+		strings.Repeat("x", MostNameBytes+1):                strings.Repeat("x", MostNameBytes) + "…",
+		strings.Repeat("x", MostNameBytes-1) + "ü":          strings.Repeat("x", MostNameBytes-1) + "…",
+		strings.Repeat("x", MostNameBytes-1) + "ü and more": strings.Repeat("x", MostNameBytes-1) + "…",
+	} {
+		if made := Cut(length); made != text {
+			t.Errorf("%d bytes: %q", len(length), made)
+		}
+	}
+}

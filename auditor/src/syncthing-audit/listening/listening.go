@@ -16,10 +16,13 @@ type Socket struct {
 	Inode string
 }
 
+// tables are those that Linux has. Tests have others.
+var tables = []string{"/proc/net/tcp", "/proc/net/tcp6"}
+
 // At gives those that listen at an address.
 func At(at *net.TCPAddr) ([]Socket, error) {
 	made := []Socket{}
-	for _, path := range []string{"/proc/net/tcp", "/proc/net/tcp6"} {
+	for _, path := range tables {
 		table, err := os.ReadFile(path)
 		if errors.Is(err, os.ErrNotExist) {
 			continue // a machine without IPv6

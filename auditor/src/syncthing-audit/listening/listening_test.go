@@ -2,6 +2,8 @@ package listening
 
 import (
 	"net"
+	"os"
+	"path/filepath"
 	"strings"
 	"testing"
 )
@@ -44,5 +46,50 @@ func TestLinesOfListeners(t *testing.T) {
 	at.IP = net.ParseIP("::1")
 	if _, found := listensAt("0: "+loopback+":20C0"+rest, at); !found {
 		t.Error("::1 isn't found")
+	}
+}
+
+// What listens on this machine is found by its address and port, with its user; what is closed isn't.
+func TestWhoListensHere(t *testing.T) {
+	for _, address := range []string{"127.0.0.1:0", "0.0.0.0:0", "[::1]:0"} {
+		listening, err := net.Listen("tcp", address)
+		if err != nil {
+			t.Log(address, err)
+			continue
+		}
+		at := *listening.Addr().(*net.TCPAddr)
+		if at.IP.IsUnspecified() {
+			at.IP = net.ParseIP("127.0.0.1")
+		}
+		found, err := At(&at)
+		if err != nil || len(found) != 1 || found[0].User != os.Geteuid() || found[0].Inode == "" || found[0].Inode == "0" {
+			t.Errorf("%s: %+v, %v", address, found, err)
+		}
+		listening.Close()
+		if found, err := At(&at); err != nil || len(found) != 0 {
+			t.Errorf("%s is closed: %+v, %v", address, found, err)
+		}
+	}
+}
+
+// A table that isn't there has nothing; one that can't be read is an error. All tables count.
+func TestTablesOfSockets(t *testing.T) {
+	had, room := tables, t.TempDir()
+	defer func() { tables = had }()
+	const line = "0: 0100007F:20C0 00000000:0000 0A 00000000:00000000 00:00000000 00000000  1000        0 4711 1 0 100 0 0 10 0\n"
+	some := filepath.Join(room, "some")
+	if err := os.WriteFile(some, []byte("  sl  local_address\n"+line+strings.Replace(line, "4711", "4712", 1)), 0o600); err != nil {
+		t.Fatal(err)
+	}
+	at := &net.TCPAddr{IP: net.ParseIP("127.0.0.1"), Port: 0x20C0}
+	for _, one := range []struct {
+		tables []string
+		count  int
+		fails  bool
+	}{{nil, 0, false}, {[]string{some}, 2, false}, {[]string{room + "/none", some}, 2, false}, {[]string{some, some}, 4, false}, {[]string{some, room}, 0, true}, {[]string{room + "/none"}, 0, false}} {
+		tables = one.tables
+		if found, err := At(at); (err != nil) != one.fails || len(found) != one.count || found == nil != one.fails {
+			t.Errorf("%v: %+v, %v", one.tables, found, err)
+		}
 	}
 }
