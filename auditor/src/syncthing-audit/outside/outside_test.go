@@ -43,3 +43,23 @@ func TestPrintJSON(t *testing.T) {
 		t.Errorf("%q", line)
 	}
 }
+
+// full is what takes nothing.
+type full struct{}
+
+var errFull = errors.New("no space left")
+
+func (full) Write([]byte) (int, error) { return 0, errFull }
+
+// Who prints hears that nothing was taken, and of a value that is none in JSON.
+func TestWhatIsNotPrinted(t *testing.T) {
+	for what, err := range map[string]error{"Printf": Printf(full{}, "%s", "a"), "Println": Println(full{}, 7), "Print": Print(full{}, "a"), "PrintJSON": PrintJSON(full{}, "a")} {
+		if !errors.Is(err, errFull) {
+			t.Errorf("%s: %v", what, err)
+		}
+	}
+	var to strings.Builder
+	if err := PrintJSON(&to, func() {}); err == nil || to.String() != "" {
+		t.Errorf("%q, %v", to.String(), err)
+	}
+}
