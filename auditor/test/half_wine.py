@@ -1,5 +1,6 @@
 #!/usr/bin/env python3
-"""The walk of disks as a program for Windows, under wine, on a directory of odd names. It needs no Syncthing, but wine64.
+"""The walk of disks as a program for Windows, under wine, and for 64-bit ARM, under qemu, on a directory of odd names. It needs no Syncthing, but wine64 and
+qemu-user.
 
     auditor/test/half_wine.py
 """
@@ -17,6 +18,7 @@ from exporting import built, go_environment, is_over, main
 
 WINE = shutil.which("wine64") or "/usr/lib/wine/wine64"
 TOKEN = "AEAQCAI-BAEAQCA-AIBAEAQ-CAIBAEC-AQCAIBA-EAQCAIA-BAEAQCA-IBAEAQC:" + "0f" * 16
+EMULATOR = shutil.which("qemu-aarch64") or shutil.which("qemu-aarch64-static")
 SECONDS = 600
 LONG = "/".join(["x" * 60] * 8)
 # Names that Windows reserves, that end in what it takes away, that differ in case, that are long or of several bytes a letter.
@@ -26,9 +28,10 @@ NO_NAMES = ["back\\slash", 'quote"?*']
 RESOLUTION = 100
 
 
-@unittest.skipUnless(os.access(WINE, os.X_OK), "Debian's package wine64 isn't there")
-class UnderWine(unittest.TestCase):
-    """The program for Windows writes what the one for Linux does, but for what Windows hasn't."""
+class Walks(unittest.TestCase):
+    """A directory of odd names, and the program that walks it for another system."""
+
+    system = architecture = ""
 
     @classmethod
     def setUpClass(cls):
@@ -38,9 +41,9 @@ class UnderWine(unittest.TestCase):
         cls.addClassCleanup(room.cleanup)
         cls.room = Path(room.name)
         cls.program = built(cls.room) / "syncthing-audit"
-        cls.windows = cls.room / "disk.exe"
-        subprocess.run(["go", "build", "-p", "1", "-o", cls.windows, "syncthing-audit/ondisk"], check=True,
-                       env={**go_environment(cls.room), "GOOS": "windows", "GOARCH": "amd64", "CGO_ENABLED": "0"})
+        cls.foreign = cls.room / "disk.exe"
+        subprocess.run(["go", "build", "-p", "1", "-o", cls.foreign, "syncthing-audit/ondisk"], check=True,
+                       env={**go_environment(cls.room), "GOOS": cls.system, "GOARCH": cls.architecture, "CGO_ENABLED": "0"})
         cls.docs = cls.room / "docs"
         (cls.docs / ".stfolder").mkdir(parents=True)
         for number, name in enumerate([*NAMES, "ignored.TMP", "sub/name", "sub/more", "large"]):
@@ -66,9 +69,29 @@ class UnderWine(unittest.TestCase):
         """A path as a program takes it: wine has all of the system's below Z:."""
         return "Z:" + str(path).replace("/", "\\") if words[0] == WINE else str(path)
 
+
+@unittest.skipUnless(EMULATOR, "Debian's package qemu-user isn't there")
+class UnderQemu(Walks):
+    """The program for 64-bit ARM writes what the one for this machine does."""
+
+    system, architecture = "linux", "arm64"
+
+    def test_odd_names(self):
+        _, due = self.walk(self.program, "disk", directory=self.docs)
+        _, names = self.walk(EMULATOR, self.foreign, directory=self.docs)
+        self.assertLessEqual({json.dumps(name) for name in [*NAMES, "large"]}, set(names))
+        self.assertEqual(names, due)
+
+
+@unittest.skipUnless(os.access(WINE, os.X_OK), "Debian's package wine64 isn't there")
+class UnderWine(Walks):
+    """The program for Windows writes what the one for Linux does, but for what Windows hasn't."""
+
+    system, architecture = "windows", "amd64"
+
     def under_wine(self, directory):
         environment = {**os.environ, "WINEPREFIX": str(self.room / "prefix"), "WINEDEBUG": "-all", "HOME": str(self.room)}
-        return self.walk(WINE, self.windows, directory=directory, env=environment)
+        return self.walk(WINE, self.foreign, directory=directory, env=environment)
 
     def test_odd_names(self):
         head, names = self.under_wine(self.docs)
