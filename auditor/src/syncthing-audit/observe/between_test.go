@@ -8,8 +8,12 @@ import (
 	"testing"
 
 	"github.com/syncthing/syncthing/lib/protocol"
+	"syncthing-audit/budget"
 	"syncthing-audit/choice"
+	entries "syncthing-audit/device"
+	"syncthing-audit/history"
 	"syncthing-audit/message"
+	"syncthing-audit/part"
 	"syncthing-audit/wire"
 )
 
@@ -136,6 +140,88 @@ func TestNothingToCompare(t *testing.T) {
 	for _, walked := range [][]*Walked{nil, {{Folder: "docs"}}, {{Folder: "docs", found: nil}, {Folder: "none"}}} {
 		if err := device.Compare(context.Background(), &wire.Connection{}, walked); err != nil || device.Folders[0].differ != nil {
 			t.Errorf("%v", err)
+		}
+	}
+}
+
+// What was found of a name is had once it was put, and nothing of any other.
+func TestWhatIsKeptOfDisks(t *testing.T) {
+	made, err := newDisks(t.TempDir())
+	if err != nil {
+		t.Fatal(err)
+	}
+	defer made.close()
+	node := &part.Node{Size: 3, ModifiedS: 7}
+	if err := made.put("a", disk{Node: node}); err != nil {
+		t.Fatal(err)
+	}
+	if err := made.db.Put([]byte("odd"), []byte("{"), nil); err != nil {
+		t.Fatal(err)
+	}
+	for name, due := range map[string]bool{"a": true, "b": false, "": false, "a/b": false} {
+		if found, is, err := made.get(name); err != nil || is != due || (found.Node != nil) != due || due && found.Node.ModifiedS != 7 {
+			t.Errorf("%q: %+v, %v, %v", name, found, is, err)
+		}
+	}
+	if found, _, err := made.get("odd"); err == nil {
+		t.Errorf("%+v", found)
+	}
+	if err := made.put("c", disk{}); err != nil {
+		t.Fatal(err)
+	}
+	if _, is, err := made.get("c"); err != nil || !is {
+		t.Errorf("a name of which nothing was found: %v, %v", is, err)
+	}
+}
+
+// By a budget the chosen files alone are asked for, and what has no bytes as ever. A file that wasn't asked for is told as one that wasn't read.
+func TestWhatABudgetChooses(t *testing.T) {
+	device := folders(t, "docs")
+	folder := device.Folders[0]
+	past, err := history.Open(t.TempDir())
+	if err != nil {
+		t.Fatal(err)
+	}
+	defer past.Close()
+	plan, err := budget.Make(context.Background(), past, []budget.Place{folder.Place(choice.Names{})}, budget.Asked{Bytes: 3, IsFault: func(string, string) bool { return false }, Room: t.TempDir()})
+	if err != nil {
+		t.Fatal(err)
+	}
+	defer plan.Close()
+	for _, one := range []struct {
+		names  choice.Names
+		chosen *budget.Plan
+		told   string
+		bytes  int64
+	}{
+		{choice.Names{}, nil, "a b c", 6}, {choice.Names{}, plan, "a c", 3}, {choice.Names{Prefix: "b"}, plan, "", 0}, {choice.Names{Prefix: "b"}, nil, "b", 3}, {choice.Names{Prefix: "c"}, plan, "c", 0},
+	} {
+		asked := Asked{Names: one.names, Chosen: one.chosen}
+		var told []string
+		err := folder.index.Each(func(entry entries.Entry) error {
+			is, err := asked.wants("docs")(entry)
+			if is {
+				told = append(told, entry.Name)
+			}
+			return err
+		})
+		if bytes, wanted := device.Wanted(asked); err != nil || wanted != nil || strings.Join(told, " ") != one.told || bytes != one.bytes {
+			t.Errorf("%+v: %q, %d bytes: %v, %v", one, told, bytes, err, wanted)
+		}
+	}
+	if err := folder.disks.put("a", disk{Node: &part.Node{Size: 3}}); err != nil {
+		t.Fatal(err)
+	}
+	for _, chosen := range []*budget.Plan{nil, plan} {
+		notRead := []string{}
+		err := folder.each(Asked{Chosen: chosen}, func(line *part.Name) error {
+			if line.NotRead {
+				notRead = append(notRead, string(line.Name))
+			}
+			return nil
+		})
+		if err != nil || strings.Join(notRead, " ") != map[bool]string{true: "b", false: ""}[chosen != nil] {
+			t.Errorf("%q aren't read: %v", notRead, err)
 		}
 	}
 }
