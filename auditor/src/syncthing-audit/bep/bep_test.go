@@ -81,3 +81,16 @@ func TestNamesAndTimes(t *testing.T) {
 		}
 	}
 }
+
+// Why a text is no device id is told with the text, and with the digit that is none.
+func TestWhyATextIsNoDeviceID(t *testing.T) {
+	odd := strings.Repeat("A", 51) + "!"
+	for text, told := range map[string]string{
+		odd: `"` + odd + `" is no device id: illegal base32 data`, "!" + strings.Repeat("A", 55): `is no device id: it has the digit '!'`,
+		strings.Repeat("A", 55) + "!": "a check digit is wrong", "AAA": `"AAA" is no device id: it has 3 digits`,
+	} {
+		if id, err := ReadID(text); err == nil || !strings.Contains(err.Error(), told) || id != (ID{}) {
+			t.Errorf("%s: %v", text, err)
+		}
+	}
+}
