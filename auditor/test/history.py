@@ -57,9 +57,9 @@ class RotThatSpread(History):
         time = two.stat().st_mtime_ns
         put_back = self.rot_with_its_time(one)
         one.chmod(0o600)
+        self.look_before_it_spreads()
         self.start()
         try:
-            self.one.scan()
             wait_until("the rot is on the other device", lambda: two.read_bytes() == one.read_bytes())
             wait_until("both are in step", lambda: self.one.is_in_step_with(self.two) and self.two.is_in_step_with(self.one))
         finally:
@@ -87,6 +87,23 @@ class RotThatSpread(History):
             self.stop()
         self.assertEqual(self.since()[0]["bytes_changed_everywhere_count"], 0)
 
+
+    def look_before_it_spreads(self):
+        """The scan has recorded the rot, and the other device has the bytes before. The answer takes it for an edit, and the history doesn't."""
+        self.one.start()
+        try:
+            self.one.scan()
+        finally:
+            self.one.stop()
+        ran = self.audit()
+        self.assertEqual(ran.returncode, 1, ran.stderr)
+        self.assertIn("1 file has other bytes than before where it is recorded so, under one time and size, and devices that lack it take it", ran.stdout)
+        place = self.one.id[:7]
+        self.assertRegex(ran.stdout, rf"(?m)^  text in docs: its bytes changed between .* on {place}, and are recorded there\. If nobody changed it, first copy it elsewhere")
+        self.assertRegex(ran.stdout, rf"(?m)^  new: text in docs on {place} \(.*BytesChangedAndRecorded")
+        told, = self.since()[0]["bytes_changed_and_recorded"]
+        self.assertEqual((told["name"], told["devices"]), ("text", [self.one.id]))
+        self.assertRegex(self.audit("--lines").stdout, rf"\nchanged and recorded: docs text on {self.number(self.one)} between \S+ and \S+\n")
 
     def look_in_backups(self):
         """The bytes before the change are found among backups, whatever their names and times are; none is told as such."""
