@@ -101,6 +101,7 @@ class RotThatSpread(History):
         place = self.one.id[:7]
         self.assertRegex(ran.stdout, rf"(?m)^  text in docs: its bytes changed between .* on {place}, and are recorded there\. If nobody changed it, first copy it elsewhere")
         self.assertRegex(ran.stdout, rf"(?m)^  new: text in docs on {place} \(.*BytesChangedAndRecorded")
+        self.assertRegex(" ".join(ran.stdout.split()), rf"first, on all devices but {place}: copy elsewhere what the history names above \(1 file\), ")
         told, = self.since()[0]["bytes_changed_and_recorded"]
         self.assertEqual((told["name"], told["devices"]), ("text", [self.one.id]))
         self.assertRegex(self.audit("--lines").stdout, rf"\nchanged and recorded: docs text on {self.number(self.one)} between \S+ and \S+\n")

@@ -32,7 +32,7 @@ func (o *options) checkForm() error {
 func tell(output, log io.Writer, asked options, answer *finding.Answer, since *history.Since) (int, error) {
 	var err error
 	told := summary.Of(answer)
-	told.Since = since
+	told.Remember(since)
 	to := bufio.NewWriter(faulty{output})
 	switch {
 	case asked.lines:

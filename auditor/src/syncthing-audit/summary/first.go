@@ -16,6 +16,7 @@ type First struct {
 
 // Why something comes first, in the order in which it is told.
 const (
+	isChanged   = "bytes-changed"  // files that a history saw with other bytes under one time are recorded so, and steps send them
 	isUnscanned = "not-scanned"    // names wait for a scan, which sends what stands there
 	isScanned   = "scan-under-way" // what a scan found may wait in Syncthing's memory
 	isLonger    = "kept-first"     // files of which either the disk or the record is damaged

@@ -11,6 +11,24 @@ import (
 // mostNews is how many names the text lists of each kind; --json has more.
 const mostNews = 5
 
+// Remember adds what a history says beside the answer. Where bytes changed under one time and are recorded so, that comes before all steps: these take it for
+// an edit.
+func (s *Summary) Remember(since *history.Since) {
+	s.Since = since
+	if since == nil || since.Takes == 0 {
+		return
+	}
+	on := []string{}
+	for _, one := range since.Taken {
+		for _, device := range one.Devices {
+			on = addOnce(on, device)
+		}
+	}
+	from := s.labels().all(on)
+	s.First = append([]First{{isChanged, on, since.Takes, "first, on all devices but " + from + ": copy elsewhere what the history names above (" + counted(since.Takes, "file", "files") + "), " +
+		"unless somebody changed that on " + from + ": the steps below take it for an edit, and send the new bytes from there"}}, s.First...)
+}
+
 // history says what is new, and what no comparison of devices shows.
 func (p *printer) history(since *history.Since) {
 	if since == nil {
