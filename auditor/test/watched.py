@@ -131,6 +131,26 @@ class Watched(Nights):
         self.night(both)
         self.assertIn("\nno device and no folder is left out any more\n", self.night()[2])
 
+    def test_a_rotten_device_that_is_off_for_some_nights(self):
+        """Nobody looked at what is rotten: that isn't mended, and neither is it new once the device is back."""
+        self.night()
+        undo, home = rot(self.room / "made/device2/files/00000/03.bin", 5), self.homes[1]
+        try:
+            self.assertIn("\nnew: 00000/03.bin in docs: StoreDiffers\n", self.night()[2])
+            home.rename(home.with_name("away"))
+            try:
+                status, _, mails = self.night()
+                self.assertEqual((status, "left out: " in mails, "mended: " in mails, "new: " in mails), (6, True, False, False), mails)
+                self.assertEqual(self.night()[::2], (6, ""))
+            finally:
+                home.with_name("away").rename(home)
+            status, _, mails = self.night()
+            self.assertEqual((status, "no device and no folder is left out any more\n" in mails, "mended: " in mails, "new: " in mails), (1, True, False, False), mails)
+            self.assertEqual(self.night()[::2], (1, ""))
+        finally:
+            undo()
+        self.assertIn("\nmended: 00000/03.bin in docs: StoreDiffers\n", self.night()[2])
+
     def test_a_home_that_cannot_be_read(self):
         """It is left out with why, in one line: its certificate says whose it is."""
         self.night()

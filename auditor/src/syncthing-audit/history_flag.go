@@ -11,6 +11,7 @@ import (
 
 	"syncthing-audit/finding"
 	"syncthing-audit/history"
+	"syncthing-audit/part"
 )
 
 // remembering keeps what an audit reads and finds in a history, where one was asked for.
@@ -85,10 +86,15 @@ func (r *remembering) keep(answer *finding.Answer, now time.Time) (*history.Sinc
 			unkept = append(unkept, olderPart(tee, folder))
 		}
 	}
-	audited := history.Audited{At: now, Found: faultsOf(answer), Folders: map[string][]uint64{}, IDs: map[uint64]string{}}
+	audited := history.Audited{At: now, Found: faultsOf(answer), Folders: map[string][]uint64{}, Sharing: map[string][]uint64{}, IDs: map[uint64]string{}}
 	for _, folder := range answer.Folders {
 		for _, member := range folder.Members {
 			audited.Folders[folder.ID] = append(audited.Folders[folder.ID], member.Number)
+			for _, other := range member.About.Sharing {
+				number := part.Number(other.Device)
+				audited.Sharing[folder.ID] = append(audited.Sharing[folder.ID], number)
+				audited.IDs[number] = other.Device
+			}
 		}
 	}
 	for _, device := range answer.Devices {

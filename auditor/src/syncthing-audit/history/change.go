@@ -4,6 +4,7 @@ import (
 	"errors"
 
 	"github.com/syndtr/goleveldb/leveldb"
+	"golang.org/x/exp/slices"
 )
 
 // Change is that a file's bytes changed under one time and size: when it was read with the bytes before, and first with others.
@@ -71,7 +72,7 @@ func (h *History) EachChanged(devicesOf func(folder string) []uint64, take func(
 	}
 	err := h.each([]byte{ofChange}, func(key, value []byte) error {
 		folder, name, device, _, err := readName(key)
-		if err != nil {
+		if err != nil || !slices.Contains(devicesOf(folder), device) {
 			return err
 		}
 		change, err := readChange(value)
@@ -114,7 +115,6 @@ func (h *History) taken(spread *Spread) ([]uint64, error) {
 // isSpread says whether all devices that have a file have the same bytes of it, and each of these had others under that time.
 func (h *History) isSpread(spread *Spread, devices []uint64) (bool, error) {
 	var first *Reading
-	have := 0
 	for _, device := range devices {
 		value, err := h.db.Get(keyOfReading(spread.Folder, device, spread.Name), nil)
 		if errors.Is(err, leveldb.ErrNotFound) {
@@ -127,11 +127,10 @@ func (h *History) isSpread(spread *Spread, devices []uint64) (bool, error) {
 		if err != nil {
 			return false, err
 		}
-		if first != nil && first.Content != reading.Content {
+		if first != nil && first.Content != reading.Content || !slices.Contains(spread.Devices, device) {
 			return false, nil
 		}
-		have++
 		first = reading
 	}
-	return have > 0 && have == len(spread.Devices), nil
+	return first != nil, nil
 }

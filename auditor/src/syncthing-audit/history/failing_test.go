@@ -67,7 +67,7 @@ func oldHistory(t *testing.T, more int) storage.Storage {
 				t.Fatal(err)
 			}
 		}
-		if _, err := history.Keep(night(day), named("a b"), func(string, string) bool { return true }); err != nil {
+		if _, err := history.Keep(night(day), named("a b"), func(Fault) bool { return true }); err != nil {
 			t.Fatal(err)
 		}
 		if err := history.db.Close(); err != nil {
@@ -125,7 +125,7 @@ var questions = map[string]func(history *History) error{
 		return history.Take(device{"a": {bytes: 'x'}}.partOf(1, choice.Names{}), night(2))
 	},
 	"keep": func(history *History) error {
-		_, err := history.Keep(night(2), named("b c"), func(string, string) bool { return true })
+		_, err := history.Keep(night(2), named("b c"), func(Fault) bool { return true })
 		return err
 	},
 	"spread": func(history *History) error {

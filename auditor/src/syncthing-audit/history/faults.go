@@ -33,7 +33,7 @@ type News struct {
 
 // Keep keeps what an audit found, and says what is new. All is written at once: a process that ends on the way leaves the history as it was, and
 // the audit is kept later. If the same audit is kept twice, it is one, with the same news.
-func (h *History) Keep(at time.Time, found []Fault, isAudited func(folder, name string) bool) (News, error) {
+func (h *History) Keep(at time.Time, found []Fault, isAudited func(Fault) bool) (News, error) {
 	kept := &keeping{history: h, at: at.UTC().Round(0), again: map[Fault]bool{}}
 	for _, fault := range found {
 		if err := kept.find(fault); err != nil {
@@ -84,7 +84,7 @@ func (k *keeping) find(fault Fault) error {
 }
 
 // compare takes a fault that is in the history. What is mended stays there until the next audit, so that nobody misses it.
-func (k *keeping) compare(key, value []byte, isAudited func(folder, name string) bool) error {
+func (k *keeping) compare(key, value []byte, isAudited func(Fault) bool) error {
 	folder, name, device, cause, err := readName(key)
 	if err != nil {
 		return err
@@ -97,7 +97,7 @@ func (k *keeping) compare(key, value []byte, isAudited func(folder, name string)
 	case k.again[fault]:
 	case !seen.Mended.IsZero() && !seen.Mended.Equal(k.at):
 		k.batch.Delete(keyOfFault(fault))
-	case isAudited(folder, name):
+	case isAudited(fault):
 		k.news.Mended = append(k.news.Mended, fault)
 		seen.Mended = k.at
 		k.batch.Put(keyOfFault(fault), seen.bytes())

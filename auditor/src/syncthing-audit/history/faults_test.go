@@ -4,13 +4,15 @@ import (
 	"fmt"
 	"strings"
 	"testing"
+
+	"syncthing-audit/part"
 )
 
 // named makes faults of these names, at one device.
 func named(names string) []Fault {
 	faults := []Fault{}
 	for _, name := range strings.Fields(names) {
-		faults = append(faults, Fault{Folder: "docs", Name: name, Device: 7, Cause: "other-bytes"})
+		faults = append(faults, Fault{Folder: "docs", Name: name, Device: part.Number(ids[0]), Cause: "other-bytes"})
 	}
 	return faults
 }
@@ -46,7 +48,7 @@ func TestNews(t *testing.T) {
 		{"", "abc", "|||"},
 	} {
 		for _, again := range []string{"", " again"} {
-			news, err := history.Keep(night(day), named(one.found), func(_, name string) bool { return strings.Contains(one.audited, name) })
+			news, err := history.Keep(night(day), named(one.found), func(fault Fault) bool { return strings.Contains(one.audited, fault.Name) })
 			if err != nil || news.words() != one.news {
 				t.Errorf("day %d%s: %q, not %q: %v", day, again, news.words(), one.news, err)
 			}
@@ -59,7 +61,7 @@ func TestNews(t *testing.T) {
 
 // A fault that lasts says since when, and in how many audits it was found. One that comes again after it was mended is another one.
 func TestSinceWhen(t *testing.T) {
-	history, audited := opened(t), func(string, string) bool { return true }
+	history, audited := opened(t), func(Fault) bool { return true }
 	fault := named("a")[0]
 	for day, one := range []struct{ found, seen string }{
 		{"a", "1 1 1"}, {"a", "1 2 2"}, {"b", "1 2 2"}, {"a", "4 4 1"}, {"a", "4 5 2"}, {"", "4 5 2"}, {"", "none"},
@@ -84,7 +86,7 @@ func TestFaultsThatLookAlike(t *testing.T) {
 	history := opened(t)
 	faults := []Fault{{"docs", "a", 1, "x"}, {"docs", "a", 1, "xy"}, {"docs", "a", 256, "x"}, {"docs", "a\x01", 1, "x"}, {"docs", "a/b", 1, ""}, {"doc", "sa", 1, "x"}}
 	for place := range faults {
-		news, err := history.Keep(night(place), faults[:place+1], func(string, string) bool { return true })
+		news, err := history.Keep(night(place), faults[:place+1], func(Fault) bool { return true })
 		if err != nil || len(news.New) != 1 || news.New[0] != faults[place] || len(news.Lasting) != place || len(news.Mended) != 0 {
 			t.Errorf("%d: %+v, %v", place, news, err)
 		}

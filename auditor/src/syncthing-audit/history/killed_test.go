@@ -66,7 +66,7 @@ func (d dyingFile) Write(data []byte) (int, error) {
 // news, so none is lost.
 func TestKilledAtEachWrite(t *testing.T) {
 	devices := device{"a": {bytes: 'a'}, "b": {bytes: 'b'}}
-	audited := func(string, string) bool { return true }
+	audited := func(Fault) bool { return true }
 	for writes, isOver := 1, false; !isOver; writes++ {
 		files := storage.NewMemStorage()
 		left := 1 << 30

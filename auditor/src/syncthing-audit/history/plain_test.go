@@ -217,7 +217,7 @@ func TestVeryManyFaults(t *testing.T) {
 		t.Errorf("%d, %d, %d, %d", since.Count, len(since.Changed), since.New.Count, len(since.New.First))
 	}
 	one := since.New.First[0]
-	if one.Name != "n00000" || one.Folder != "docs" || one.Device != "" || one.Reason != "other-bytes" || !one.First.Equal(night(1)) || one.Audits != 1 {
+	if one.Name != "n00000" || one.Folder != "docs" || one.Device != ids[0] || one.Reason != "other-bytes" || !one.First.Equal(night(1)) || one.Audits != 1 {
 		t.Errorf("%+v", one)
 	}
 }

@@ -3,6 +3,8 @@ package history
 import (
 	"time"
 
+	"github.com/syndtr/goleveldb/leveldb/util"
+	"golang.org/x/exp/slices"
 	"syncthing-audit/part"
 )
 
@@ -73,7 +75,8 @@ func NotKept(why error) *Since {
 type Audited struct {
 	At      time.Time
 	Found   []Fault
-	Folders map[string][]uint64 // the devices of each folder that was audited
+	Folders map[string][]uint64 // the devices of each folder that were audited
+	Sharing map[string][]uint64 // other devices that share these folders
 	Names   func(folder, name string) bool
 	IDs     map[uint64]string // of devices
 }
@@ -91,10 +94,11 @@ func (h *History) Since(audit Audited) (*Since, error) {
 	if err := h.addChanged(made, &audit); err != nil {
 		return nil, err
 	}
-	news, err := h.Keep(audit.At, audit.Found, func(folder, name string) bool {
-		_, is := audit.Folders[folder]
-		return is && audit.Names(folder, name)
-	})
+	absent, err := h.absent(&audit)
+	if err != nil {
+		return nil, err
+	}
+	news, err := h.Keep(audit.At, audit.Found, func(fault Fault) bool { return audit.hasLooked(fault, absent[fault.Folder]) })
 	if err != nil {
 		return nil, err
 	}
@@ -107,6 +111,43 @@ func (h *History) Since(audit Audited) (*Since, error) {
 		}
 	}
 	return made, h.addRead(made, audit)
+}
+
+// sharing gives all devices that share a folder which was audited.
+func (a *Audited) sharing(folder string) []uint64 {
+	if len(a.Folders[folder]) == 0 {
+		return nil
+	}
+	return append(append([]uint64(nil), a.Folders[folder]...), a.Sharing[folder]...)
+}
+
+// hasLooked says whether an audit looked at all that a fault is of: its name, and its device or, where it is of all devices together, each one that was read
+// before. What nobody looked at isn't mended.
+func (a *Audited) hasLooked(fault Fault, isOneAbsent bool) bool {
+	devices, is := a.Folders[fault.Folder]
+	switch {
+	case !is || !a.Names(fault.Folder, fault.Name):
+		return false
+	case fault.Device == 0:
+		return !isOneAbsent
+	}
+	return slices.Contains(devices, fault.Device)
+}
+
+// absent says of which folders a device that was read before wasn't audited.
+func (h *History) absent(audit *Audited) (map[string]bool, error) {
+	made := map[string]bool{}
+	for folder := range audit.Folders {
+		for _, device := range audit.Sharing[folder] {
+			found := h.db.NewIterator(util.BytesPrefix(keyOfReadings(folder, device)), nil)
+			made[folder] = made[folder] || !slices.Contains(audit.Folders[folder], device) && found.Next()
+			found.Release()
+			if err := found.Error(); err != nil {
+				return nil, err
+			}
+		}
+	}
+	return made, nil
 }
 
 // list lists the first faults.
@@ -134,7 +175,7 @@ const (
 // addChanged adds the files whose bytes changed on all devices, and those whose bytes changed where they are recorded. Each is a fault of the audit, too: it
 // is new once.
 func (h *History) addChanged(made *Since, audit *Audited) error {
-	return h.EachChanged(func(folder string) []uint64 { return audit.Folders[folder] }, func(spread Spread, isEverywhere bool) error {
+	return h.EachChanged(audit.sharing, func(spread Spread, isEverywhere bool) error {
 		on, err := h.taken(&spread)
 		if err != nil {
 			return err

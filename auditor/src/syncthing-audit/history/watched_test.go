@@ -13,7 +13,7 @@ import (
 // A watch knows the names that were at fault before, and which of these a device left out or had in motion since. It knows nothing of others.
 func TestAWatchOverNamesThatWereAtFault(t *testing.T) {
 	history := opened(t)
-	if _, err := history.Keep(night(1), named("a b c d"), func(string, string) bool { return true }); err != nil {
+	if _, err := history.Keep(night(1), named("a b c d"), func(Fault) bool { return true }); err != nil {
 		t.Fatal(err)
 	}
 	watch, err := history.Watch()
