@@ -17,8 +17,8 @@ import (
 	"syncthing-audit/watch"
 )
 
-// nightsOfTest is how many nights go by, unless $YEAR says it: YEAR=365 takes some minutes.
-const nightsOfTest = 45
+// nightsOfTest is how many nights go by, unless $YEAR says it: YEAR=365 takes about a minute.
+const nightsOfTest = 70
 
 // held is what a device has of a file: its record, and the bytes on its disk.
 type held struct {
@@ -33,8 +33,10 @@ type year struct {
 	random *rand.Rand
 	room   string
 	files  map[string]*[3]held
-	off    [3]int // for how many nights a device is off yet
-	last   int64  // the greatest sequence, of each device
+	off    [3]int          // for how many nights a device is off yet
+	gone   [3]bool         // whether its part is gone meanwhile, so that it is left out
+	seen   map[string]bool // of which name and device a night has seen that it is rotten
+	last   int64           // the greatest sequence, of each device
 
 	spread    string          // the file whose rot came to all today, for the first time under its time
 	hasSpread map[string]bool // the files of which that is so
@@ -88,7 +90,37 @@ func (y *year) write(at int, made time.Time) {
 	}
 	one.Lines = append(one.Lines, &part.Line{End: &part.End{Folder: "docs", Names: int64(len(y.files)), Max: y.last, Last: true}})
 	one.write(y.t, filepath.Join(y.room, "parts", fmt.Sprintf("%d.part", at)))
-	y.sent[at] = made
+	y.sent[at], y.gone[at] = made, false
+}
+
+// leave takes the part of a device away that is off, so that it is left out.
+func (y *year) leave(at int) {
+	if err := os.Remove(filepath.Join(y.room, "parts", fmt.Sprintf("%d.part", at))); err == nil {
+		y.gone[at] = true
+	}
+}
+
+// rottenOr gives a device on which something is rotten, or this one.
+func (y *year) rottenOr(at int) int {
+	for place := 0; place < len(y.files); place++ {
+		for rotten, one := range y.files[fmt.Sprintf("file%02d", place)] {
+			if one.found != one.recorded {
+				return rotten
+			}
+		}
+	}
+	return at
+}
+
+// see notes what a night will see, told or not.
+func (y *year) see() {
+	for name := range y.files {
+		for at, one := range y.files[name] {
+			if y.off[at] == 0 {
+				y.seen[fmt.Sprint(name, at)] = y.seen[fmt.Sprint(name, at)] || one.found != one.recorded
+			}
+		}
+	}
 }
 
 // record gives the record of a file.
@@ -146,7 +178,12 @@ func (y *year) day(now time.Time) {
 		}
 	case 6:
 		if isAllOn && y.random.Intn(3) == 0 {
-			y.off[at] = 1 + y.random.Intn(25)
+			nights, isLeft := 1+y.random.Intn(25), y.random.Intn(2) == 0
+			if isLeft {
+				at = y.rottenOr(at)
+				y.leave(at)
+			}
+			y.off[at] = nights
 		}
 	}
 }
@@ -160,7 +197,7 @@ func TestAYearOfNights(t *testing.T) {
 	if said, err := strconv.Atoi(os.Getenv("YEAR")); err == nil {
 		nights = said
 	}
-	y := &year{t: t, random: rand.New(rand.NewSource(82)), room: t.TempDir(), files: map[string]*[3]held{}, hasSpread: map[string]bool{}}
+	y := &year{t: t, random: rand.New(rand.NewSource(82)), room: t.TempDir(), files: map[string]*[3]held{}, hasSpread: map[string]bool{}, seen: map[string]bool{}}
 	begin := time.Now().AddDate(0, 0, -nights-1)
 	for place := 0; place < 8; place++ {
 		one := held{1, y.next(), begin.Unix() - 1000, byte(place + 1), byte(place + 1)}
@@ -184,8 +221,9 @@ func TestAYearOfNights(t *testing.T) {
 		}
 		isLate = false
 		for at := range y.sent {
-			isLate = isLate || now.Sub(y.sent[at]) > 30*time.Hour
+			isLate = isLate || !y.gone[at] && now.Sub(y.sent[at]) > 30*time.Hour
 		}
+		y.see()
 		notify := "cat >> " + told
 		isFailing := y.random.Intn(15) == 0
 		if isFailing {
@@ -240,6 +278,19 @@ func (n *night0) killed(t *testing.T) {
 	n.auditAll()
 }
 
+// checkMended says whether a night told the end of rot that is there still: on a device that is off, say.
+func checkMended(t *testing.T, night int, y *year, name, text string) {
+	isMended := false
+	for at, one := range y.files[name] {
+		if key := fmt.Sprint(name, at); y.seen[key] && one.found == one.recorded && y.off[at] == 0 {
+			isMended, y.seen[key] = true, false
+		}
+	}
+	if strings.Contains(text, "mended: "+name+" in docs: StoreDiffers") && !isMended {
+		t.Fatalf("night %d: %s is told as mended: %s", night, name, text)
+	}
+}
+
 // checkNight says what a night told, and shouldn't have, or the other way round. It keeps which rot was told.
 func checkNight(t *testing.T, night int, y *year, status int, text string, isTold map[string]bool, isLate, isUntold, isFailing bool) {
 	rotten := y.rotten()
@@ -259,6 +310,7 @@ func checkNight(t *testing.T, night int, y *year, status int, text string, isTol
 		t.Fatalf("night %d: nobody is told that the night before told nothing: %s", night, text)
 	}
 	for name := range y.files {
+		checkMended(t, night, y, name, text)
 		now := 0
 		for at := 0; at < 3; at++ {
 			key := fmt.Sprint(name, at)
