@@ -9,7 +9,7 @@ import json
 import shutil
 import ssl
 
-from exporting import main, run
+from exporting import main
 from half_devices import Halves
 from syncthing import FOLDER, wait_until, wait_until_in_step
 
