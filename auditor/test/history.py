@@ -7,7 +7,9 @@ audit.
 
 import json
 import os
+import sys
 
+from answers import SCHEMA, STATUS_MISSING
 from exporting import Exporting, main, run
 from syncthing import wait_until
 
@@ -26,6 +28,8 @@ class History(Exporting):
     def since(self):
         """What the history says to programs, and the status."""
         ran = self.audit("--json")
+        checked = run([sys.executable, SCHEMA], input=ran.stdout)
+        self.assertIn(checked.returncode, (0, STATUS_MISSING), checked.stdout)
         return json.loads(ran.stdout)["since"], ran.returncode
 
     def rot_with_its_time(self, path):
