@@ -133,6 +133,24 @@ func TestTheBudgetOfManyNames(t *testing.T) {
 			t.Errorf("%d names on %d: %+v, not %+v", one.names, one.devices, made, one.due)
 		}
 	}
+	if few := (Budget{States: 10, Walks: 2}); few.of(16, 6) != few || few.of(17, 6).Walks != 5 {
+		t.Errorf("of two walks: %+v, %+v", few.of(16, 6), few.of(17, 6))
+	}
+}
+
+// The time of a symlink counts nowhere: Syncthing doesn't compare it. That of a file does.
+func TestTheTimeOfASymlink(t *testing.T) {
+	shape := func(kind Type, time int64) string {
+		record := &Record{Type: kind, Time: time, Mode: NoMode, Version: []Counter{{10, 1}}}
+		other := &Record{Type: File, Time: 6, Version: []Counter{{10, 1}}}
+		of := func(name string, record *Record) Name {
+			return Name{Name: name, Own: []*Record{record, record}, Views: [][]*Record{{nil, record}, {record, nil}}, Disk: make([]*Node, 2)}
+		}
+		return Shape(three()[:2], []Name{of("a", record), of("b", other)})
+	}
+	if shape(Symlink, 5) != shape(Symlink, 7) || shape(File, 5) == shape(File, 7) {
+		t.Error("the time of a symlink counts, or that of a file doesn't")
+	}
 }
 
 // A world is answered group by group, each in the words of its names.
