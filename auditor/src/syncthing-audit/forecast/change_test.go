@@ -138,18 +138,20 @@ func TestTheBudgetOfManyNames(t *testing.T) {
 	}
 }
 
-// The time of a symlink counts nowhere: Syncthing doesn't compare it. That of a file does.
+// A symlink has no time and no mode, as Syncthing compares neither; one that is deleted has the time of that.
 func TestTheTimeOfASymlink(t *testing.T) {
-	shape := func(kind Type, time int64) string {
-		record := &Record{Type: kind, Time: time, Mode: NoMode, Version: []Counter{{10, 1}}}
-		other := &Record{Type: File, Time: 6, Version: []Counter{{10, 1}}}
-		of := func(name string, record *Record) Name {
-			return Name{Name: name, Own: []*Record{record, record}, Views: [][]*Record{{nil, record}, {record, nil}}, Disk: make([]*Node, 2)}
-		}
-		return Shape(three()[:2], []Name{of("a", record), of("b", other)})
+	of := func(name string, time int64, isDeleted bool) Name {
+		record := &Record{Type: Symlink, Time: time, Mode: 0o644, Deleted: isDeleted, Version: []Counter{{10, 1}}}
+		return Name{Name: name, Own: []*Record{record, record, record}, Views: [][]*Record{make([]*Record, 3), make([]*Record, 3), make([]*Record, 3)}, Disk: make([]*Node, 3)}
 	}
-	if shape(Symlink, 5) != shape(Symlink, 7) || shape(File, 5) == shape(File, 7) {
-		t.Error("the time of a symlink counts, or that of a file doesn't")
+	_, s := loaded(of("a", 5, false), of("b", 7, false), of("c", 9, true), of("d", 11, true))
+	for n := 0; n < 2; n++ {
+		if own := s.own(0, n); own.time != 0 || own.mode != NoMode {
+			t.Errorf("%+v", own)
+		}
+	}
+	if s.own(0, 2).time >= s.own(0, 3).time {
+		t.Error("deletions have no times")
 	}
 }
 
