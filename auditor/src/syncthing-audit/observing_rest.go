@@ -90,13 +90,13 @@ func (o *observing) rescan(remote *rest.Remote) error {
 		return err
 	}
 	for place := range all {
-		one := &all[place]
-		isAsked := len(o.asked.folders) == 0 || slices.Contains(o.asked.folders, one.ID)
-		if !isAsked || one.Paused || !one.IsSharedWith(o.observer.ID.String()) {
+		folder := &all[place]
+		isAsked := len(o.asked.folders) == 0 || slices.Contains(o.asked.folders, folder.ID)
+		if !isAsked || folder.Paused || !folder.IsSharedWith(o.observer.ID.String()) {
 			continue
 		}
-		o.tellStep("scanning folder %s", shell.Quoted(one.ID))
-		if err := remote.Scan(one.ID); err != nil {
+		o.tellStep("scanning folder %s", shell.Quoted(folder.ID))
+		if err := remote.Scan(folder.ID); err != nil {
 			return err
 		}
 	}
@@ -137,8 +137,11 @@ func (o *observing) askOf(at int, remote *rest.Remote, folder string) error {
 	if err != nil {
 		return err
 	}
-	made := &part.Folder{ID: folder, Rest: &said.Rest}
-	if err := said.Configured.Tell(made, said.Devices); err != nil {
+	if said.Configured.IsEncrypted() { // with its password it is seen as others have it
+		return nil
+	}
+	about := &part.Folder{ID: folder, Rest: &said.Rest}
+	if err := said.Configured.Tell(about, said.Devices); err != nil {
 		return err
 	}
 	o.asking.mutex.Lock()
@@ -147,12 +150,12 @@ func (o *observing) askOf(at int, remote *rest.Remote, folder string) error {
 		o.asking.told[at] = map[string]*part.Folder{}
 	}
 	if had := o.asking.told[at][folder]; had != nil {
-		if had.Kind != made.Kind {
+		if had.Kind != about.Kind {
 			return errOtherwise
 		}
-		made.Rest = made.Rest.Worse(had.Rest)
+		about.Rest = about.Rest.Worse(had.Rest)
 	}
-	o.asking.told[at][folder] = made
+	o.asking.told[at][folder] = about
 	return nil
 }
 

@@ -36,6 +36,9 @@ type Device struct {
 // kinds are the words of a part for types of folders.
 var kinds = map[string]string{"sendreceive": "send-receive", "sendonly": "send-only", "receiveonly": "receive-only"}
 
+// IsEncrypted says whether it is encrypted on the device, which is an untrusted one.
+func (f *Folder) IsEncrypted() bool { return f.Type == "receiveencrypted" }
+
 // Tell has a part say what is configured of a folder, where these are the devices of the same configuration. One that is encrypted there isn't read.
 func (f *Folder) Tell(of *part.Folder, devices []Device) error {
 	kind, is := kinds[f.Type]
@@ -54,16 +57,16 @@ func (f *Folder) Tell(of *part.Folder, devices []Device) error {
 
 // pausedOf gives those devices that the folder is shared with, and that are paused.
 func (f *Folder) pausedOf(devices []Device) []string {
-	var made []string
-	for _, one := range devices {
-		if one.Paused && f.IsSharedWith(one.ID) {
-			made = append(made, one.ID)
+	var paused []string
+	for _, device := range devices {
+		if device.Paused && f.IsSharedWith(device.ID) {
+			paused = append(paused, device.ID)
 		}
 	}
-	return made
+	return paused
 }
 
 // IsSharedWith says whether the folder is shared with a device.
 func (f *Folder) IsSharedWith(id string) bool {
-	return slices.IndexFunc(f.Sharing, func(one Device) bool { return one.ID == id }) >= 0
+	return slices.IndexFunc(f.Sharing, func(device Device) bool { return device.ID == id }) >= 0
 }

@@ -52,8 +52,9 @@ func (r *Remote) Check(device string) error {
 
 // Folders gives what is configured of all folders.
 func (r *Remote) Folders() ([]configured.Folder, error) {
-	var made []configured.Folder
-	return made, r.get("config/folders", &made)
+	var folders []configured.Folder
+	err := r.get("config/folders", &folders)
+	return folders, err
 }
 
 // Ask asks what is configured of a folder, and what Syncthing does with it.
