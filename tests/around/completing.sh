@@ -53,7 +53,7 @@ done << END
 ch|check
 part -|--about --begin --data --end --folder --heed-input --help --home --jobs --leave-out --map --names --observer --paths --progress --rescan --sign --slice --still --strict --tokens -o
 run --re|--remote-program --rescan
-observe --re|--records
+observe --re|--records --rescan --rest
 run $work/ho|$work/homes
 check --l|--leave-out --lines
 export --in|--into
