@@ -92,7 +92,7 @@ type sink struct {
 	line        []byte                 // the beginning of one that isn't whole yet
 }
 
-// mostOfStep is how many bytes a line has at most that tells how far a command is.
+// mostOfStep is how many bytes of a line wait at most for its end: one that tells how far a command is has less.
 const mostOfStep = 256
 
 // take takes bytes as they come.
@@ -102,21 +102,23 @@ func (s *sink) take(data []byte) error {
 	}
 	s.line = append(s.line, data...)
 	for {
-		end := bytes.IndexByte(s.line, '\n')
-		if end < 0 && len(s.line) <= mostOfStep {
-			return nil
+		line, rest, isWhole := bytes.Cut(s.line, []byte("\n"))
+		if !isWhole {
+			break
 		}
-		line := s.line[:end+1]
-		if end < 0 {
-			line = s.line
-		}
-		if end < 0 || end > mostOfStep || !s.step(string(line[:end])) {
-			if err := s.keep(line); err != nil {
+		if !s.step(string(line)) {
+			if err := s.keep(s.line[:len(line)+1]); err != nil {
 				return err
 			}
 		}
-		s.line = s.line[len(line):]
+		s.line = rest
 	}
+	if len(s.line) <= mostOfStep {
+		return nil
+	}
+	long := s.line
+	s.line = nil
+	return s.keep(long)
 }
 
 // end takes what is left.

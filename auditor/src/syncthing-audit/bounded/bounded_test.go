@@ -108,7 +108,7 @@ func TestNoRoomForTheOutput(t *testing.T) {
 
 // Lines that tell how far a command is are given on as they come. They aren't kept, and may have more bytes than what is kept; all else is kept in its order.
 func TestSteps(t *testing.T) {
-	const script = `printf 'one\nst'; sleep 0.2; printf 'ep 1\ntwo'; sleep 0.2; printf ' step 7\n'; n=0; while [ $n -lt 9000 ]; do n=$((n+1)); echo "step $n"; done; head -c 300 /dev/zero | tr '\0' x;
+	const script = `printf 'one\n\nst'; sleep 0.2; printf 'ep 1\ntwo'; sleep 0.2; printf ' step 7\n'; n=0; while [ $n -lt 9000 ]; do n=$((n+1)); echo "step $n"; done; head -c 300 /dev/zero | tr '\0' x;
 		printf 'step 2\n'; printf three; printf output >&3`
 	limits, steps := wide, 0
 	limits.Told = 1000
@@ -121,7 +121,7 @@ func TestSteps(t *testing.T) {
 	}
 	var output strings.Builder
 	told, err := Run(exec.Command("sh", "-c", "exec 3>&1; { "+script+"; } >&2"), &output, limits)
-	expected := "one\ntwo step 7\n" + strings.Repeat("x", 300)
+	expected := "one\n\ntwo step 7\n" + strings.Repeat("x", 300)
 	if err != nil || output.String() != "output" || !strings.HasPrefix(told, expected) || !strings.HasSuffix(told, "three") || steps < 9001 {
 		t.Errorf("%q, %q, %d steps, %v", output.String(), told, steps, err)
 	}

@@ -78,15 +78,23 @@ func TestWhatChangedEverywhereWhileADeviceIsOff(t *testing.T) {
 	}
 }
 
-// A device with which nobody shares the folder any more keeps nothing from being told.
+// A device with which nobody shares the folder any more keeps nothing from being told, and is told nothing of, whether its file changed before or not.
 func TestADeviceThatIsGoneForGood(t *testing.T) {
 	before, after := device{"f": {bytes: 'a', recorded: 'a'}}, device{"f": {bytes: 'b', recorded: 'b'}}
-	history := opened(t)
-	history.auditOf(t, 0, map[int]device{0: before, 1: before}, nil)
 	of := ids
-	ids = ids[:1]
 	t.Cleanup(func() { ids = of })
-	if since := history.auditOf(t, 1, map[int]device{0: after}, nil); since.Count != 1 || len(since.Changed[0].Devices) != 1 {
-		t.Errorf("%+v", since.Changed)
+	for _, last := range []device{before, after} {
+		history := opened(t)
+		ids = of
+		history.auditOf(t, 0, map[int]device{0: before, 1: before}, nil)
+		history.auditOf(t, 1, map[int]device{0: before, 1: last}, nil)
+		ids = of[:1]
+		if since := history.auditOf(t, 2, map[int]device{0: before}, nil); since.Count+since.Takes != 0 {
+			t.Errorf("%+v, %+v", since.Changed, since.Taken)
+		}
+		since := history.auditOf(t, 3, map[int]device{0: after}, nil)
+		if since.Count != 1 || len(since.Changed[0].Devices) != 1 || since.Changed[0].Devices[0] != ids[0] || !since.Changed[0].Since.Equal(night(3)) {
+			t.Errorf("%+v", since.Changed)
+		}
 	}
 }
