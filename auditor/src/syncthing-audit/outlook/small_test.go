@@ -336,3 +336,38 @@ func TestThingsNow(t *testing.T) {
 		}
 	}
 }
+
+// Of a name each end is told once, whatever else differs at the ends, and none is missing.
+func TestDifferentEnds(t *testing.T) {
+	fewer := 0
+	for seed := int64(0); seed < 500; seed++ {
+		s, group, answer := drawn(seed)
+		for count := s.Intn(3); count > 0; count-- {
+			answer.Ends = append(answer.Ends, answer.Ends[s.Intn(len(answer.Ends))])
+		}
+		due, told := map[string]bool{}, map[string]bool{}
+		textOf := func(things []Thing) string {
+			text := ""
+			for _, thing := range things {
+				text += fmt.Sprint(thing.Members, keyOf(thing.Type, thing.Content, string(thing.Target), thing.IsCopy))
+			}
+			return text
+		}
+		for place := range answer.Ends {
+			for _, things := range withMeetings(thingsOf(&answer.Ends[place])["a"]) {
+				due[textOf(things)] = true
+			}
+		}
+		ends := newJudge(group, answer, nil).endsOf(&group.Names[0])
+		for _, things := range ends {
+			told[textOf(things)] = true
+		}
+		if len(ends) != len(due) || !reflect.DeepEqual(told, due) {
+			t.Fatalf("%d: %d ends, not %d", seed, len(ends), len(due))
+		}
+		fewer += count(len(due) < len(answer.Ends))
+	}
+	if fewer < 20 {
+		t.Errorf("%d had an end twice: too few were drawn", fewer)
+	}
+}

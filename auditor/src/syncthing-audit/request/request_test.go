@@ -1,6 +1,12 @@
 package request
 
-import "testing"
+import (
+	"reflect"
+	"testing"
+
+	"google.golang.org/protobuf/encoding/protowire"
+	"syncthing-audit/message"
+)
 
 // By the type a request has no hash, or one drawn at random.
 func TestRequests(t *testing.T) {
@@ -14,5 +20,33 @@ func TestRequests(t *testing.T) {
 			t.Fatal(request, err)
 		}
 		drawn[*request.drawn] = true
+	}
+}
+
+// A request for a length asks for one byte behind it, by a hash drawn at random and the weak hash of nothing. One for a block has neither.
+func TestWhatARequestSays(t *testing.T) {
+	length, err := ForLength("a/b", 7)
+	if err != nil {
+		t.Fatal(err)
+	}
+	for _, one := range []struct {
+		request Request
+		size    int32
+		due     map[protowire.Number]interface{}
+	}{
+		{length, 1, map[protowire.Number]interface{}{1: uint64(5), 2: "docs", 3: "a/b", 4: uint64(7), 5: uint64(1), 6: string(length.drawn[:]), 8: uint64(1)}},
+		{ForBlock("b", 131072, 99), 99, map[protowire.Number]interface{}{1: uint64(5), 2: "docs", 3: "b", 4: uint64(131072), 5: uint64(99)}},
+	} {
+		told := map[protowire.Number]interface{}{}
+		err := message.Each(one.request.Message(5, "docs"), func(field message.Field) error {
+			told[field.Number] = field.Value
+			if field.Text != nil {
+				told[field.Number] = string(field.Text)
+			}
+			return nil
+		})
+		if err != nil || !reflect.DeepEqual(told, one.due) || one.request.Size() != one.size {
+			t.Errorf("%v, not %v: %v", told, one.due, err)
+		}
 	}
 }

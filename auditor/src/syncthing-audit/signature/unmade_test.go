@@ -93,3 +93,17 @@ func TestWithoutAPlaceForFiles(t *testing.T) {
 		t.Errorf("a key that was refused stands there: %v", err)
 	}
 }
+
+// The program that signs is in a session of its own, without a terminal, asks nobody for a passphrase, and tells in English.
+func TestHowTheProgramIsCalled(t *testing.T) {
+	useProgram(t, `read -r _ _ _ _ _ session _ < /proc/$$/stat; echo "$LC_ALL $SSH_ASKPASS_REQUIRE $((session == $$))"`)
+	t.Setenv("LC_ALL", "de_DE.UTF-8")
+	file, err := os.Open(written(t, "one.part", "a part", 0o600))
+	if err != nil {
+		t.Fatal(err)
+	}
+	defer file.Close()
+	if told, err := run(file, nil); err != nil || string(told) != "C never 1\n" {
+		t.Errorf("%q, %v", told, err)
+	}
+}
