@@ -1,6 +1,7 @@
 package watch
 
 import (
+	"fmt"
 	"strings"
 	"testing"
 	"time"
@@ -150,5 +151,39 @@ func TestMetricsAreThoseOfPrometheus(t *testing.T) {
 	}
 	if empty := (Measured{Status: 2}).Text(); strings.Contains(empty, "names") || strings.Contains(empty, "left_out") || strings.Contains(text, `"none"`) {
 		t.Errorf("what isn't known is told: %s", empty)
+	}
+}
+
+// A word that isn't given is told, in whichever of several elements it lacks.
+func TestWordsThatAreNotGiven(t *testing.T) {
+	const observed, folder = `<observed id="A" address="tcp://a:22000"/>`, `<folder id="docs"/>`
+	for _, row := range []struct{ was, is, told string }{
+		{observed, `<observed id="" address="b"/>` + observed, `<observed id="..">`}, {observed, observed + `<observed id="" address="b"/>`, `<observed id="..">`},
+		{observed, `<observed id="B" address=""/>` + observed, `<observed address="..">`}, {observed, observed + `<observed id="B"/>`, `<observed address="..">`},
+		{folder, `<folder id=""/>` + folder, `<folder id="..">`}, {folder, folder + `<folder id=""/>`, `<folder id="..">`},
+		{`<mail to="me"/>`, `<mail to=""/>`, `<mail to="..">`}, {`<mail to="me"/>`, `<mail to="me&#10;Bcc: you"/>`, `<mail to="..">`}, {`<mail to="me"/>`, `<mail to="me&#13;Bcc: you"/>`, `<mail to="..">`},
+	} {
+		_, err := parse([]byte(strings.Replace(all, row.was, row.is, 1)))
+		if err == nil || !strings.Contains(err.Error(), row.told+" isn't given") && !strings.Contains(err.Error(), strings.Replace(row.told, "..", "", 1)+" is empty") {
+			t.Errorf("%s: %v", row.is, err)
+		}
+	}
+}
+
+// The values of a metric stand in the order of their labels.
+func TestTheOrderOfValues(t *testing.T) {
+	made, text := &metric{name: "m", help: "h", values: map[string]float64{}}, strings.Builder{}
+	for letter := 'a'; letter <= 'z'; letter++ {
+		made.values[`folder="`+string(letter)+`"`] = float64(letter)
+	}
+	made.write(&text)
+	lines := strings.Split(strings.TrimSpace(text.String()), "\n")[2:]
+	for place, line := range lines {
+		if line != fmt.Sprintf(`syncthing_audit_m{folder="%c"} %d`, 'a'+place, 'a'+place) {
+			t.Errorf("%d: %s", place, line)
+		}
+	}
+	if len(lines) != 26 {
+		t.Errorf("%d lines", len(lines))
 	}
 }
