@@ -1,0 +1,33 @@
+package document
+
+import (
+	"testing"
+
+	"syncthing-audit/part"
+)
+
+// The hashes of a file's blocks are a list, of whatever length.
+func TestBlocksAsAList(t *testing.T) {
+	const zeros = `"0000000000000000000000000000000000000000000000000000000000000000"`
+	one := [32]byte{31: 0x1f}
+	for text, hashes := range map[string][][32]byte{
+		`,"blocks":[]`: nil, `,"blocks":[` + zeros + `]`: {{}}, `,"blocks":[` + zeros + `,"000000000000000000000000000000000000000000000000000000000000001f",` + zeros + `]`: {{}, one, {}},
+	} {
+		made := &writer{}
+		if made.blocks(hashes); string(made.written) != text {
+			t.Errorf("%s, not %s", made.written, text)
+		}
+	}
+}
+
+// A row that takes all the room of a document has one, and a byte less is too little.
+func TestARowThatTakesAllRoom(t *testing.T) {
+	_, size := NewBuilder(twoDevices(), false, 1<<20).encode(rowOf("a", 1, 5))
+	for room, has := range map[int]bool{size: true, size + 1: true, size - 1: false} {
+		builder := NewBuilder(twoDevices(), false, 1<<20)
+		builder.room = room
+		if full, out := builder.Add(rowOf("a", 1, 5)); full != nil || (out == nil) != has || out != nil && out.Kind != part.Large {
+			t.Errorf("%d bytes, %d are needed: %+v", room, size, out)
+		}
+	}
+}
