@@ -60,7 +60,7 @@ func TestWhatCannotLookDamaged(t *testing.T) {
 
 // A content is that of zeros alone if its size and its blocks are, and no larger than is tried.
 func TestContentsOfZeros(t *testing.T) {
-	for _, size := range []int64{1, protocol.MinBlockSize, protocol.MinBlockSize + 1, 3 * protocol.MinBlockSize} {
+	for _, size := range []int64{1, protocol.MinBlockSize, protocol.MinBlockSize + 1, 3 * protocol.MinBlockSize, mostBlocks * protocol.MinBlockSize} {
 		content := part.Content{Size: size, BlockSize: protocol.MinBlockSize}
 		if isZeros(content) {
 			t.Errorf("%d bytes of another hash are zeros", size)
@@ -84,5 +84,32 @@ func TestContentsOfZeros(t *testing.T) {
 	}
 	if isZeros(part.Content{BlockSize: protocol.MinBlockSize}) || isZeros(part.Content{Size: (mostBlocks + 1) * protocol.MinBlockSize, BlockSize: protocol.MinBlockSize}) {
 		t.Error("an empty file, or one of too many blocks, is tried")
+	}
+}
+
+// A block is of zeros if what was found or recorded there has their hash, and both are there. The last block has the length that is left: nothing of a file
+// without bytes.
+func TestBlocksOfZeros(t *testing.T) {
+	pair := func(recorded, found *part.Hash, place int64) *part.Node {
+		return &part.Node{Differ: &part.Differ{Count: 1, First: part.Pair{Recorded: recorded, Found: found}, Ranges: [][2]int64{{place, place}}}}
+	}
+	whole, one, none, other := hashOfZeros(protocol.MinBlockSize), hashOfZeros(1), hashOfZeros(0), part.Hash{7}
+	for place, row := range []struct {
+		disk     *part.Node
+		size     int64
+		has, had bool
+	}{
+		{pair(&other, &whole, 0), protocol.MinBlockSize, true, false}, {pair(&whole, &other, 0), protocol.MinBlockSize, false, true},
+		{pair(&whole, nil, 0), protocol.MinBlockSize, false, false}, {pair(nil, &whole, 0), protocol.MinBlockSize, false, false}, {pair(nil, nil, 0), protocol.MinBlockSize, false, false},
+		{pair(&other, &one, 1), protocol.MinBlockSize + 1, true, false}, {pair(&one, &other, 1), protocol.MinBlockSize + 1, false, true},
+		{pair(&other, &whole, 1), protocol.MinBlockSize + 1, false, false}, {pair(&other, &none, 0), 0, false, false}, {pair(&none, &other, 1), protocol.MinBlockSize, false, false},
+		{&part.Node{}, protocol.MinBlockSize, false, false}, {&part.Node{Differ: &part.Differ{First: part.Pair{Recorded: &whole, Found: &whole}}}, protocol.MinBlockSize, false, false},
+	} {
+		row.disk.Size = row.size
+		row.disk.Contents = []part.Content{{Size: row.size, BlockSize: protocol.MinBlockSize}}
+		content := &part.Content{Size: row.size, BlockSize: protocol.MinBlockSize}
+		if has, had := hasZeros(row.disk, content), hadZeros(row.disk, content); has != row.has || had != row.had {
+			t.Errorf("%d: it has zeros: %v, and had: %v", place, has, had)
+		}
 	}
 }
