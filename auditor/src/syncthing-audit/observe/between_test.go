@@ -4,6 +4,8 @@ import (
 	"context"
 	"errors"
 	"os"
+	"path/filepath"
+	"reflect"
 	"strings"
 	"testing"
 
@@ -224,4 +226,45 @@ func TestWhatABudgetChooses(t *testing.T) {
 			t.Errorf("%q aren't read: %v", notRead, err)
 		}
 	}
+}
+
+// A version that a device tells in letters is read, or is none: of an unknown device, of no value, of too great a value, or of one device twice.
+func TestVersionsInLetters(t *testing.T) {
+	devices := map[string]uint64{"AAAAAAA": 7, "BBBBBBB": 3, "CCCCCCC": 0}
+	for _, one := range []struct {
+		counters []string
+		due      part.Version
+	}{
+		{nil, nil}, {[]string{"AAAAAAA:1"}, part.Version{{7, 1}}}, {[]string{"AAAAAAA:1", "BBBBBBB:2"}, part.Version{{3, 2}, {7, 1}}},
+		{[]string{"AAAAAAA:9223372036854775807"}, part.Version{{7, 1<<63 - 1}}}, {[]string{"AAAAAAA:9223372036854775808"}, nil}, {[]string{"AAAAAAA:0"}, nil}, {[]string{"AAAAAAA:x"}, nil},
+		{[]string{"AAAAAAA"}, nil}, {[]string{"CCCCCCC:1"}, nil}, {[]string{"DDDDDDD:1"}, nil}, {[]string{"AAAAAAA:1", "AAAAAAA:2"}, nil}, {[]string{"BBBBBBB:2", "AAAAAAA:1", "AAAAAAA:1"}, nil},
+		{[]string{"AAAAAAA:1", "DDDDDDD:1"}, nil},
+	} {
+		if read := versionOf(one.counters, devices); !reflect.DeepEqual(read, one.due) {
+			t.Errorf("%q: %v, not %v", one.counters, read, one.due)
+		}
+	}
+}
+
+// What is kept of a device is for its user alone, and one run at a time has it.
+func TestWhoHasWhatIsKept(t *testing.T) {
+	directory := filepath.Join(t.TempDir(), "kept", "docs")
+	kept, err := OpenKept(directory)
+	if err != nil {
+		t.Fatal(err)
+	}
+	for _, path := range []string{directory, filepath.Dir(directory)} {
+		if about, err := os.Stat(path); err != nil || about.Mode().Perm() != 0o700 {
+			t.Errorf("%v, %v", about.Mode(), err)
+		}
+	}
+	if again, err := OpenKept(directory); again != nil || !errors.Is(err, ErrBusy) {
+		t.Errorf("%v", err)
+	}
+	kept.Close()
+	again, err := OpenKept(directory)
+	if err != nil {
+		t.Fatal(err)
+	}
+	again.Close()
 }
