@@ -10,7 +10,9 @@ import (
 	"github.com/syncthing/syncthing/lib/config"
 	"github.com/syncthing/syncthing/lib/db"
 	"github.com/syncthing/syncthing/lib/protocol"
+	"syncthing-audit/choice"
 	"syncthing-audit/leftover"
+	"syncthing-audit/part"
 )
 
 // put writes a file of a home.
@@ -53,7 +55,7 @@ var faultsOfHomes = []struct {
 	}, "config.xml"},
 	{"a switch that isn't one", func(t *testing.T, dir string) {
 		replaced(t, filepath.Join(dir, "config.xml"), "<syncXattrs>true", "<syncXattrs>x")
-	}, "config.xml"},
+	}, "config.xml: "},
 	{"the configuration of a newer Syncthing", func(t *testing.T, dir string) {
 		replaced(t, filepath.Join(dir, "config.xml"), `version="37"`, `version="1000"`)
 	}, "version 1000 is of a newer Syncthing"},
@@ -207,5 +209,64 @@ func TestRoomForNoIndex(t *testing.T) {
 	t.Setenv("TMPDIR", t.TempDir())
 	if made, err := roomFor(filepath.Join(t.TempDir(), "none")); err == nil || made != "" {
 		t.Errorf("%q, %v", made, err)
+	}
+}
+
+// What Syncthing's packages panic with is an error of the folder, and so is what they pass over, as where the index lacks a list of blocks. Whoever wants no
+// more names is told nothing of those.
+func TestAnIndexWithoutAListOfBlocks(t *testing.T) {
+	err := func() (err error) {
+		defer recovered("docs", &err)
+		panic("odd")
+	}()
+	if err == nil || err.Error() != "folder docs: its index can't be read: odd" {
+		t.Error(err)
+	}
+	dir, _ := aHome(t)
+	opened := openDatabase(t, filepath.Join(dir, databaseName))
+	lists, err := opened.NewPrefixIterator([]byte{db.KeyTypeBlockList})
+	if err != nil {
+		t.Fatal(err)
+	}
+	count := 0
+	for lists.Next() {
+		if err := opened.Delete(lists.Key()); err != nil {
+			t.Fatal(err)
+		}
+		count++
+	}
+	lists.Release()
+	opened.Close()
+	if count == 0 {
+		t.Fatal("it has no lists of blocks")
+	}
+	home, err := Open(dir, "")
+	if err != nil {
+		t.Fatal(err)
+	}
+	defer home.Close()
+	index, err := home.Index(home.Config.Folders[0])
+	if err != nil {
+		t.Fatal(err)
+	}
+	defer index.Close()
+	for what, read := range map[string]func(take func(Entry) bool) error{
+		"own": func(take func(Entry) bool) error { return index.Own(choice.Names{}, take) },
+		"view": func(take func(Entry) bool) error {
+			return index.View(part.View{Device: otherDevice.String()}, choice.Names{}, take)
+		},
+	} {
+		err := read(func(Entry) bool { return true })
+		if err == nil || !strings.HasPrefix(err.Error(), "folder docs: its index can't be read: it has ") {
+			t.Errorf("%s: %v", what, err)
+		}
+	}
+	for _, names := range []choice.Names{{Prefix: nameOfSequence(1)}, {Prefix: nameOfSequence(2)}} {
+		if err := index.Own(names, func(Entry) bool { return true }); err == nil || !strings.Contains(err.Error(), "it has 1 entries") {
+			t.Errorf("%+v: %v", names, err)
+		}
+	}
+	if err := index.Own(choice.Names{Prefix: "none"}, func(Entry) bool { return true }); err != nil {
+		t.Error(err)
 	}
 }

@@ -221,17 +221,23 @@ func viewedEntry(entry protocol.FileInfo) Entry {
 // entries reads what the index has of one device.
 func (i *Index) entries(of protocol.DeviceID, names choice.Names, greatest int64, read func(protocol.FileInfo) Entry, take func(Entry) bool) (err error) {
 	defer recovered(i.Config.ID, &err)
+	given, isWanted := int64(0), true
 	adapt.Have(i.snapshot.WithHave, of, func(entry protocol.FileInfo) bool {
 		if !names.Has(i.Config.ID, entry.Name) {
 			return !names.IsPast(entry.Name)
 		}
+		given++
 		next := read(entry)
 		if next.Record != nil && (entry.Sequence < 1 || entry.Sequence > greatest) {
 			next = leftOut(entry, i.kindOfOddSequence(), fmt.Sprintf("its sequence %d isn't 1 to %d", entry.Sequence, greatest))
 		}
-		return take(next)
+		isWanted = take(next)
+		return isWanted
 	})
-	return nil
+	if !isWanted {
+		return nil
+	}
+	return i.checkCount(of, names, given)
 }
 
 // kindOfOddSequence gives the kind of an entry whose sequence is above the greatest one. It is left out. The copy of a

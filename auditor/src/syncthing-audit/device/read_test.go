@@ -36,7 +36,7 @@ func indexInMemory(t *testing.T, isLive bool, own, others []protocol.FileInfo) *
 	t.Cleanup(snapshot.Release)
 	about := config.FolderConfiguration{ID: "docs", Path: t.TempDir(), Devices: []config.FolderDeviceConfiguration{{DeviceID: protocol.DeviceID{9}}, {DeviceID: otherDevice},
 		{DeviceID: protocol.DeviceID{3}}}}
-	return &Index{home: &Home{ID: protocol.DeviceID{9}, isLive: isLive}, Config: about, files: files, snapshot: snapshot}
+	return &Index{home: &Home{ID: protocol.DeviceID{9}, isLive: isLive, backend: memory}, Config: about, files: files, snapshot: snapshot}
 }
 
 // toldEntries gives the names that a reading gives, with why one is left out.
