@@ -116,7 +116,7 @@ func (o *observing) fail(at int, what string, err error) {
 		o.devices[at].Close()
 	}
 	o.failed[at], o.devices[at] = err, nil
-	if o.news.fails(o.addresses[at].given, what) {
+	if o.news.fails(o.addresses[at].given, what, err) {
 		outside.Printf(o.log, "syncthing-audit: %s: %s: %v\n", o.addresses[at].given, what, err)
 	}
 }

@@ -1,11 +1,15 @@
 package main
 
 import (
+	"errors"
 	"fmt"
+	"regexp"
 	"time"
+
+	"syncthing-audit/wire"
 )
 
-// news says what is new of devices that fail, look by look: a device that fails again at the same step is no news.
+// news says what is new of devices that fail, look by look: a device that fails again at the same step and in the same way is no news.
 type news struct {
 	now     func() time.Time
 	failing map[string]*failing // by what is told of
@@ -13,7 +17,7 @@ type news struct {
 
 // failing is a device that failed at the last looks.
 type failing struct {
-	what  string // at which step
+	what  string // at which step, and how
 	looks int
 	since time.Time
 }
@@ -22,7 +26,8 @@ type failing struct {
 func newNews() *news { return &news{now: time.Now, failing: map[string]*failing{}} }
 
 // fails takes that something failed at a look, and says whether it is news.
-func (n *news) fails(of, what string) bool {
+func (n *news) fails(of, what string, why error) bool {
+	what += ": " + wayOf(why)
 	had := n.failing[of]
 	if had == nil {
 		had = &failing{since: n.now()}
@@ -32,6 +37,18 @@ func (n *news) fails(of, what string) bool {
 	isNew := had.what != what
 	had.what = what
 	return isNew
+}
+
+// digits are what may differ from look to look where nothing else does: ports, say.
+var digits = regexp.MustCompile("[0-9]+")
+
+// wayOf says how something failed: that another device answers is news where nobody did before.
+func wayOf(why error) string {
+	var refusal wire.Refusal
+	if errors.As(why, &refusal) {
+		return refusal.Error()
+	}
+	return digits.ReplaceAllString(why.Error(), "0")
 }
 
 // works takes that something didn't fail at a look, and says how it failed before; nothing where it didn't.

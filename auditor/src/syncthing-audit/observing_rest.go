@@ -56,7 +56,7 @@ func (o *observing) dropRest(at int, what string, err error) {
 	o.asking.mutex.Unlock()
 	o.mutex.Lock()
 	defer o.mutex.Unlock()
-	if o.news.fails(o.keyOfRest(at), what) {
+	if o.news.fails(o.keyOfRest(at), what, err) {
 		outside.Printf(o.log, "syncthing-audit: %s: --rest: %s: %v; what the wire doesn't show of it isn't known\n", o.addresses[at].given, what, err)
 	}
 }
