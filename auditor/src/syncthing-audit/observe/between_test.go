@@ -268,3 +268,47 @@ func TestWhoHasWhatIsKept(t *testing.T) {
 	}
 	again.Close()
 }
+
+// A device is known by the first letters of its id, but where two begin alike: of these nobody knows which is meant.
+func TestDevicesByTheirFirstLetters(t *testing.T) {
+	one, alike, other := protocol.DeviceID{0: 1, 7: 1}, protocol.DeviceID{0: 1, 7: 2}, protocol.DeviceID{0: 9}
+	letters := func(id protocol.DeviceID) string { return id.String()[:lettersOfShort] }
+	if letters(one) != letters(alike) || part.Number(one.String()) == part.Number(alike.String()) {
+		t.Fatal("they don't begin alike")
+	}
+	for place, row := range []struct {
+		sharing []protocol.DeviceID
+		known   []protocol.DeviceID
+		due     uint64
+	}{{nil, nil, part.Number(one.String())}, {nil, []protocol.DeviceID{one}, part.Number(one.String())}, {[]protocol.DeviceID{one, other}, []protocol.DeviceID{other, one}, part.Number(one.String())},
+		{[]protocol.DeviceID{alike}, nil, 0}, {nil, []protocol.DeviceID{alike}, 0}, {[]protocol.DeviceID{alike, one}, []protocol.DeviceID{one}, 0}} {
+		folder := &Folder{of: one}
+		for _, id := range row.sharing {
+			folder.said.Devices = append(folder.said.Devices, wire.Sharing{Device: id})
+		}
+		if numbers := folder.devicesByLetters(row.known); numbers[letters(one)] != row.due || len(row.sharing) == 2 && row.sharing[1] == other && numbers[letters(other)] != part.Number(other.String()) {
+			t.Errorf("%d: %v", place, numbers)
+		}
+	}
+}
+
+// Where what was kept can't be read, it isn't said that the device didn't go back.
+func TestWhatWasKeptCannotBeRead(t *testing.T) {
+	kept, err := OpenKept(filepath.Join(t.TempDir(), "docs"))
+	if err != nil {
+		t.Fatal(err)
+	}
+	defer kept.Close()
+	for _, index := range []*wire.Index{kept.last, kept.next} {
+		if err := index.Put(fileOf("a", 5, true)); err != nil {
+			t.Fatal(err)
+		}
+	}
+	if from, err := kept.WentBackFrom(); from != 0 || err != nil {
+		t.Errorf("%d, %v", from, err)
+	}
+	kept.last.Close()
+	if from, err := kept.WentBackFrom(); err == nil {
+		t.Errorf("%d", from)
+	}
+}
