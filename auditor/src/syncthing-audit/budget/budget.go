@@ -59,14 +59,14 @@ func keyOf(folder, name string) []byte { return append(append([]byte(folder), 0)
 // choose counts what waits how long, and then chooses names in the order of folders and names, as far as their turn and the bytes go.
 func (p *Plan) choose(ctx context.Context, asked Asked) error {
 	faults, others := &queue{costs: map[int64]int64{}}, &queue{costs: map[int64]int64{}}
-	queueOf := func(folder string, one *name) *queue {
-		if one.bytes <= asked.Bytes/2 && asked.IsFault(folder, one.name) {
+	queueOf := func(folder string, name *name) *queue {
+		if name.bytes <= asked.Bytes/2 && asked.IsFault(folder, name.name) {
 			return faults
 		}
 		return others
 	}
-	err := p.eachName(ctx, func(folder string, one *name) error {
-		queueOf(folder, one).add(one)
+	err := p.eachName(ctx, func(folder string, name *name) error {
+		queueOf(folder, name).add(name)
 		return nil
 	})
 	if err != nil {
@@ -76,12 +76,12 @@ func (p *Plan) choose(ctx context.Context, asked Asked) error {
 	others.limit(asked.Bytes - spent)
 	var batch leveldb.Batch
 	counts := newCounts(p.places)
-	err = p.eachName(ctx, func(folder string, one *name) error {
-		if !queueOf(folder, one).takes(one) {
-			counts.wait(one)
+	err = p.eachName(ctx, func(folder string, name *name) error {
+		if !queueOf(folder, name).takes(name) {
+			counts.wait(name)
 			return nil
 		}
-		batch.Put(keyOf(folder, one.name), nil)
+		batch.Put(keyOf(folder, name.name), nil)
 		if batch.Len() < mostAtOnce {
 			return nil
 		}
@@ -100,11 +100,11 @@ const mostAtOnce = 10000
 
 // Keep keeps that the names were asked for at a time, in these folders at these devices.
 func (p *Plan) Keep(to *history.History, at int64, isOf func(folder string, device uint64) bool) error {
-	for _, one := range p.places {
-		if !isOf(one.Folder, one.Device) {
+	for _, place := range p.places {
+		if !isOf(place.Folder, place.Device) {
 			continue
 		}
-		if err := p.keepOf(to, one, at); err != nil {
+		if err := p.keepOf(to, place, at); err != nil {
 			return err
 		}
 	}

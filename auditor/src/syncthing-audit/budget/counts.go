@@ -14,15 +14,15 @@ type counts struct {
 
 func newCounts(places []Place) *counts {
 	made := &counts{places: places, of: make([]history.Waiting, len(places))}
-	for at, one := range places {
-		made.of[at].Folder, made.of[at].Number = one.Folder, one.Device
+	for at, place := range places {
+		made.of[at].Folder, made.of[at].Number = place.Folder, place.Device
 	}
 	return made
 }
 
 // wait counts a name that isn't asked for now.
-func (c *counts) wait(one *name) {
-	for _, file := range one.files {
+func (c *counts) wait(name *name) {
+	for _, file := range name.files {
 		of := &c.of[file.at]
 		of.Files++
 		of.Bytes += file.bytes
@@ -41,9 +41,9 @@ func (c *counts) wait(one *name) {
 // told gives the places where something waits.
 func (c *counts) told() []history.Waiting {
 	made := []history.Waiting{}
-	for _, one := range c.of {
-		if one.Files > 0 {
-			made = append(made, one)
+	for _, waiting := range c.of {
+		if waiting.Files > 0 {
+			made = append(made, waiting)
 		}
 	}
 	return made

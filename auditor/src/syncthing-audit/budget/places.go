@@ -71,18 +71,18 @@ func HasBytes(entry device.Entry) bool {
 }
 
 // eachName gives the names of all folders, rising by folder and name.
-func (p *Plan) eachName(ctx context.Context, take func(folder string, one *name) error) error {
+func (p *Plan) eachName(ctx context.Context, take func(folder string, at *name) error) error {
 	folders := map[string][]int{}
 	ids := []string{}
-	for at, one := range p.places {
-		if folders[one.Folder] == nil {
-			ids = append(ids, one.Folder)
+	for at, place := range p.places {
+		if folders[place.Folder] == nil {
+			ids = append(ids, place.Folder)
 		}
-		folders[one.Folder] = append(folders[one.Folder], at)
+		folders[place.Folder] = append(folders[place.Folder], at)
 	}
 	sort.Strings(ids)
 	for _, id := range ids {
-		if err := p.mergeFolder(ctx, folders[id], func(one *name) error { return take(id, one) }); err != nil {
+		if err := p.mergeFolder(ctx, folders[id], func(name *name) error { return take(id, name) }); err != nil {
 			return err
 		}
 	}
@@ -116,9 +116,9 @@ func (p *Plan) mergeFolder(ctx context.Context, places []int, take func(*name) e
 		made := &source{files: make(chan file, 256), err: make(chan error, 1), at: at}
 		sources = append(sources, made)
 		go func(place Place) {
-			made.err <- place.eachFile(ctx, p.history, func(one file) error {
+			made.err <- place.eachFile(ctx, p.history, func(file file) error {
 				select {
-				case made.files <- one:
+				case made.files <- file:
 					return nil
 				case <-ctx.Done():
 					return ctx.Err()
@@ -129,8 +129,8 @@ func (p *Plan) mergeFolder(ctx context.Context, places []int, take func(*name) e
 	}
 	err := merge(sources, take)
 	cancel()
-	for _, one := range sources {
-		for range one.files { // until it is at its end: it reads what the caller may close
+	for _, source := range sources {
+		for range source.files { // until it is at its end: it reads what the caller may close
 		}
 	}
 	return err
@@ -141,8 +141,8 @@ var errNoMore = errors.New("no more")
 
 // merge gives the names of sources, rising.
 func merge(sources []*source, take func(*name) error) error {
-	for _, one := range sources {
-		if err := one.advance(); err != nil {
+	for _, source := range sources {
+		if err := source.advance(); err != nil {
 			return err
 		}
 	}
@@ -163,9 +163,9 @@ func merge(sources []*source, take func(*name) error) error {
 // nextName takes the least name of all sources.
 func nextName(sources []*source) (*name, error) {
 	var least *string
-	for _, one := range sources {
-		if !one.isEnd && (least == nil || one.next.name < *least) {
-			name := one.next.name
+	for _, source := range sources {
+		if !source.isEnd && (least == nil || source.next.name < *least) {
+			name := source.next.name
 			least = &name
 		}
 	}
@@ -173,16 +173,16 @@ func nextName(sources []*source) (*name, error) {
 		return nil, errNoMore
 	}
 	made := &name{name: *least}
-	for _, one := range sources {
-		if one.isEnd || one.next.name != *least {
+	for _, source := range sources {
+		if source.isEnd || source.next.name != *least {
 			continue
 		}
-		if len(made.files) == 0 || one.next.at < made.at {
-			made.at = one.next.at
+		if len(made.files) == 0 || source.next.at < made.at {
+			made.at = source.next.at
 		}
-		made.bytes += one.next.bytes
-		made.files = append(made.files, placed{one.next, one.at})
-		if err := one.advance(); err != nil {
+		made.bytes += source.next.bytes
+		made.files = append(made.files, placed{source.next, source.at})
+		if err := source.advance(); err != nil {
 			return nil, err
 		}
 	}

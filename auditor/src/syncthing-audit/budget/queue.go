@@ -10,7 +10,7 @@ type queue struct {
 }
 
 // add adds a name.
-func (q *queue) add(one *name) { q.costs[one.at] += one.bytes }
+func (q *queue) add(name *name) { q.costs[name.at] += name.bytes }
 
 // limit says how many bytes are taken, and gives how many of them are.
 func (q *queue) limit(bytes int64) int64 {
@@ -40,13 +40,13 @@ func (q *queue) first() int64 {
 }
 
 // takes says whether a name is taken. Names are asked about in their order, each once.
-func (q *queue) takes(one *name) bool {
-	if q.isAll || one.at < q.turn {
+func (q *queue) takes(name *name) bool {
+	if q.isAll || name.at < q.turn {
 		return true
 	}
-	if one.at > q.turn || q.left <= 0 {
+	if name.at > q.turn || q.left <= 0 {
 		return false
 	}
-	q.left -= one.bytes
+	q.left -= name.bytes
 	return true
 }

@@ -102,11 +102,11 @@ func (h *History) Since(audit Audited) (*Since, error) {
 	if err != nil {
 		return nil, err
 	}
-	for _, one := range []struct {
+	for _, kind := range []struct {
 		faults []Fault
 		to     *List
 	}{{news.New, &made.New}, {news.Lasting, &made.Lasting}, {news.Mended, &made.Mended}, {news.Unasked, &made.Unasked}} {
-		if *one.to, err = h.list(one.faults, audit.IDs); err != nil {
+		if *kind.to, err = h.list(kind.faults, audit.IDs); err != nil {
 			return nil, err
 		}
 	}
@@ -214,12 +214,12 @@ func add(to *[]Changed, count *int64, spread *Spread, on []uint64, audit *Audite
 		return
 	}
 	before := spread.Change.Before
-	one := Changed{Folder: spread.Folder, Name: part.Bytes(spread.Name), Before: before.At, Since: spread.Change.Since.At, Size: before.Content.Size,
+	changed := Changed{Folder: spread.Folder, Name: part.Bytes(spread.Name), Before: before.At, Since: spread.Change.Since.At, Size: before.Content.Size,
 		Block: before.Content.BlockSize, Hash: before.Content.Hash.String()}
 	for _, device := range on {
-		one.Devices = append(one.Devices, audit.IDs[device])
+		changed.Devices = append(changed.Devices, audit.IDs[device])
 	}
-	*to = append(*to, one)
+	*to = append(*to, changed)
 }
 
 func (h *History) addRead(made *Since, audit Audited) error {

@@ -65,28 +65,28 @@ func AnswerOf(audit string, at time.Time, status int, text string, told *summary
 		return made
 	}
 	made.Seen = at
-	for _, one := range told.Devices {
-		made.Devices = append(made.Devices, Device{one.ID, outside.Escaped(one.Name), one.Read})
+	for _, device := range told.Devices {
+		made.Devices = append(made.Devices, Device{device.ID, outside.Escaped(device.Name), device.Read})
 	}
-	for _, one := range told.Folders {
-		made.Folders = append(made.Folders, folderOf(told, one))
+	for _, folder := range told.Folders {
+		made.Folders = append(made.Folders, folderOf(told, folder))
 	}
 	made.addLeftOut(append(append([]summary.LeftOut{}, told.LeftOut...), told.Earlier...))
 	return made
 }
 
 // folderOf gives a folder with its devices.
-func folderOf(told *summary.Summary, one *summary.Folder) Folder {
-	made := Folder{ID: one.ID, Called: shell.Folder(one.ID, one.Label), Verdict: verdictOf(one), Names: one.Names, Wrong: one.Wrong}
-	if one.Live != nil {
-		made.Moving = one.Live.Moving
+func folderOf(told *summary.Summary, folder *summary.Folder) Folder {
+	made := Folder{ID: folder.ID, Called: shell.Folder(folder.ID, folder.Label), Verdict: verdictOf(folder), Names: folder.Names, Wrong: folder.Wrong}
+	if folder.Live != nil {
+		made.Moving = folder.Live.Moving
 	}
-	wrong, listed := wrongAt(one)
-	for _, member := range one.Devices {
-		cell := Cell{Device: member.Device, Wrong: wrong[member.Device], IsLeast: listed < one.Wrong}
+	wrong, listed := wrongAt(folder)
+	for _, member := range folder.Devices {
+		cell := Cell{Device: member.Device, Wrong: wrong[member.Device], IsLeast: listed < folder.Wrong}
 		if told.Since != nil {
 			for _, read := range told.Since.Read {
-				if read.Folder == one.ID && read.Device == member.Device {
+				if read.Folder == folder.ID && read.Device == member.Device {
 					cell.Files, cell.Bytes, cell.Oldest, cell.OldestName = read.Files, read.Bytes, read.Oldest, shell.Path(string(read.OldestName))
 				}
 			}
@@ -97,9 +97,9 @@ func folderOf(told *summary.Summary, one *summary.Folder) Folder {
 }
 
 // wrongAt counts the names that are wrong at each device as far as they are listed, and all that are listed.
-func wrongAt(one *summary.Folder) (map[string]int64, int64) {
+func wrongAt(folder *summary.Folder) (map[string]int64, int64) {
 	made, listed := map[string]int64{}, int64(0)
-	for _, file := range one.Files {
+	for _, file := range folder.Files {
 		at := map[string]bool{}
 		for _, fault := range file.Faults {
 			at[fault.Device] = true
@@ -111,7 +111,7 @@ func wrongAt(one *summary.Folder) (map[string]int64, int64) {
 			listed++
 		}
 	}
-	for _, group := range one.Groups {
+	for _, group := range folder.Groups {
 		for _, device := range group.Devices {
 			made[device] += group.Names
 		}
@@ -121,13 +121,13 @@ func wrongAt(one *summary.Folder) (map[string]int64, int64) {
 }
 
 // verdictOf says in words how a folder is.
-func verdictOf(one *summary.Folder) string {
+func verdictOf(folder *summary.Folder) string {
 	switch {
-	case one.Verdict == summary.NotInStep:
+	case folder.Verdict == summary.NotInStep:
 		return NotInStep
-	case one.Verdict == summary.AsFar:
+	case folder.Verdict == summary.AsFar:
 		return AsFar
-	case one.Firm == finding.IsFirm:
+	case folder.Firm == finding.IsFirm:
 		return "in step and firm"
 	}
 	return InStep
@@ -142,21 +142,21 @@ const (
 
 // addLeftOut adds what was left out: to the list of that and, of a folder on a device, to its cell.
 func (a *Answer) addLeftOut(all []summary.LeftOut) {
-	for _, one := range all {
-		why, called := outside.Escaped(one.Why), outside.Escaped(one.Device)
-		if one.Folder != "" {
-			called = shell.Folder(one.Folder, "")
-			if one.Device != "" {
-				called += " of " + outside.Escaped(one.Device)
+	for _, leftOut := range all {
+		why, called := outside.Escaped(leftOut.Why), outside.Escaped(leftOut.Device)
+		if leftOut.Folder != "" {
+			called = shell.Folder(leftOut.Folder, "")
+			if leftOut.Device != "" {
+				called += " of " + outside.Escaped(leftOut.Device)
 			}
 		}
 		a.LeftOut = append(a.LeftOut, Left{called, why})
-		if one.Device == "" {
+		if leftOut.Device == "" {
 			continue
 		}
 		for at := range a.Folders {
-			if folder := &a.Folders[at]; folder.ID == one.Folder {
-				folder.leaveOut(a.columnOf(one.Device), why)
+			if folder := &a.Folders[at]; folder.ID == leftOut.Folder {
+				folder.leaveOut(a.columnOf(leftOut.Device), why)
 			}
 		}
 	}
@@ -165,9 +165,9 @@ func (a *Answer) addLeftOut(all []summary.LeftOut) {
 // columnOf gives the id of a device that is named by that or by its name. One that wasn't audited has a column, too.
 func (a *Answer) columnOf(word string) string {
 	word = outside.Escaped(word)
-	for _, one := range a.Devices {
-		if one.ID == word || one.Name == word {
-			return one.ID
+	for _, device := range a.Devices {
+		if device.ID == word || device.Name == word {
+			return device.ID
 		}
 	}
 	a.Devices = append(a.Devices, Device{ID: word})
@@ -177,8 +177,8 @@ func (a *Answer) columnOf(word string) string {
 // leaveOut notes why a folder is left out on a device.
 func (f *Folder) leaveOut(device, why string) {
 	for at := range f.Cells {
-		if one := &f.Cells[at]; one.Device == device {
-			one.LeftOut = why
+		if cell := &f.Cells[at]; cell.Device == device {
+			cell.LeftOut = why
 			return
 		}
 	}

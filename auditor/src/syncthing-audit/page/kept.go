@@ -57,8 +57,8 @@ func (k *Kept) Add(night Night, answers []Answer) {
 		k.Nights = k.Nights[over:]
 	}
 	before := map[string]Answer{}
-	for _, one := range k.Answers {
-		before[one.Audit] = one
+	for _, answer := range k.Answers {
+		before[answer.Audit] = answer
 	}
 	for at := range answers {
 		if had := before[answers[at].Audit]; answers[at].Seen.IsZero() {

@@ -76,8 +76,8 @@ type view struct {
 func Write(to io.Writer, kept *Kept, at time.Time, by string) error {
 	shown := view{sign: sign{"none", "!", "no audit yet"}, Title: "Audit of Syncthing devices", Signs: []sign{signOf(0), signOf(6), signOf(1), signOf(-1), {"no", "·", "no audit"}}}
 	shown.Made = fmt.Sprintf("Made by %s at %s. Nothing on this page changes by itself.", by, stamp(at, at))
-	for _, one := range kept.Answers {
-		shown.Answers = append(shown.Answers, one.view(at))
+	for _, answer := range kept.Answers {
+		shown.Answers = append(shown.Answers, answer.view(at))
 	}
 	shown.addHead(kept, at)
 	shown.addDays(kept, at)
@@ -148,18 +148,18 @@ func (a *Answer) view(at time.Time) answerView {
 	if shown.Seen && !a.Seen.Equal(a.At) {
 		shown.Stale = fmt.Sprintf("There was no answer %s. This is how it was %s.", stamp(a.At, at), stamp(a.Seen, at))
 	}
-	for _, one := range a.Devices {
-		column := columnView{id: one.ID, Called: one.Name}
-		if one.Name == "" {
-			column.Called = one.ID
+	for _, device := range a.Devices {
+		column := columnView{id: device.ID, Called: device.Name}
+		if device.Name == "" {
+			column.Called = device.ID
 		}
-		if !one.Read.IsZero() {
-			column.Read = "read " + stamp(one.Read, at) + ", " + ago(one.Read, at)
+		if !device.Read.IsZero() {
+			column.Read = "read " + stamp(device.Read, at) + ", " + ago(device.Read, at)
 		}
 		shown.Columns = append(shown.Columns, column)
 	}
-	for _, one := range a.Folders {
-		shown.Rows = append(shown.Rows, one.view(shown.Columns, at))
+	for _, folder := range a.Folders {
+		shown.Rows = append(shown.Rows, folder.view(shown.Columns, at))
 	}
 	return shown
 }
@@ -189,13 +189,13 @@ func (f *Folder) sign() sign {
 
 // cell gives what is to be seen of the folder on a device.
 func (f *Folder) cell(of columnView, at time.Time) cellView {
-	for _, one := range f.Cells {
-		if one.Device != of.id {
+	for _, cell := range f.Cells {
+		if cell.Device != of.id {
 			continue
 		}
-		shown := cellView{sign: f.signAt(one), Device: of.Called, Read: of.Read}
-		if one.Files > 0 {
-			shown.More = append(shown.More, counted(one.Files, "file")+", "+size(one.Bytes)+" read", "longest ago: "+stamp(one.Oldest, at)+", "+ago(one.Oldest, at)+" ("+one.OldestName+")")
+		shown := cellView{sign: f.signAt(cell), Device: of.Called, Read: of.Read}
+		if cell.Files > 0 {
+			shown.More = append(shown.More, counted(cell.Files, "file")+", "+size(cell.Bytes)+" read", "longest ago: "+stamp(cell.Oldest, at)+", "+ago(cell.Oldest, at)+" ("+cell.OldestName+")")
 		}
 		return shown
 	}
@@ -203,15 +203,15 @@ func (f *Folder) cell(of columnView, at time.Time) cellView {
 }
 
 // signAt says how the folder is on a device.
-func (f *Folder) signAt(one Cell) sign {
+func (f *Folder) signAt(cell Cell) sign {
 	switch {
-	case one.LeftOut != "":
-		return sign{"part", "○", "left out: " + one.LeftOut}
-	case one.Wrong > 0 && one.IsLeast:
-		return sign{"bad", "✗", "at least " + counted(one.Wrong, "name") + " wrong here"}
-	case one.Wrong > 0:
-		return sign{"bad", "✗", counted(one.Wrong, "name") + " wrong here"}
-	case one.IsLeast:
+	case cell.LeftOut != "":
+		return sign{"part", "○", "left out: " + cell.LeftOut}
+	case cell.Wrong > 0 && cell.IsLeast:
+		return sign{"bad", "✗", "at least " + counted(cell.Wrong, "name") + " wrong here"}
+	case cell.Wrong > 0:
+		return sign{"bad", "✗", counted(cell.Wrong, "name") + " wrong here"}
+	case cell.IsLeast:
 		return sign{"part", "○", "nothing wrong here as far as listed"}
 	case f.Verdict == NotInStep:
 		return sign{"good", "✓", "nothing wrong here"}

@@ -22,8 +22,8 @@ var kinds = map[int]struct{ kind, sign, words string }{
 
 // kindOf says how a status shows.
 func kindOf(status int) (kind, sign, words string) {
-	if one, is := kinds[status]; is {
-		return one.kind, one.sign, one.words
+	if shown, is := kinds[status]; is {
+		return shown.kind, shown.sign, shown.words
 	}
 	return "none", "!", "no answer"
 }
@@ -66,12 +66,12 @@ func dateOf(at time.Time) time.Time {
 // numbers says what a night found.
 func (n Night) numbers() string {
 	told := ""
-	for _, one := range []struct {
+	for _, part := range []struct {
 		count int64
 		word  string
 	}{{n.Wrong, "wrong"}, {n.New, "new"}, {n.Mended, "mended"}} {
-		if one.count > 0 {
-			told += fmt.Sprintf(", %d %s", one.count, one.word)
+		if part.count > 0 {
+			told += fmt.Sprintf(", %d %s", part.count, part.word)
 		}
 	}
 	return told

@@ -34,18 +34,18 @@ func (d *Dangers) print(to io.Writer) {
 	if d == nil {
 		return
 	}
-	for _, one := range d.First {
+	for _, first := range d.First {
 		numbers := []string{}
-		for _, number := range one.Devices {
+		for _, number := range first.Devices {
 			numbers = append(numbers, strconv.FormatUint(number, 10))
 		}
-		outside.Printf(to, "first: on %s: %s", strings.Join(numbers, ", "), one.Why)
-		if one.Names > 0 {
-			outside.Printf(to, ", %d names", one.Names)
+		outside.Printf(to, "first: on %s: %s", strings.Join(numbers, ", "), first.Why)
+		if first.Names > 0 {
+			outside.Printf(to, ", %d names", first.Names)
 		}
 		outside.Print(to, "\n")
 	}
-	for _, one := range d.Disks {
-		outside.Printf(to, "not as recorded: %s %s on %d: %s, %d bytes recorded, %d found\n", one.Folder, printed(one.Name), one.Device, one.Why, one.Recorded, one.Found)
+	for _, disk := range d.Disks {
+		outside.Printf(to, "not as recorded: %s %s on %d: %s, %d bytes recorded, %d found\n", disk.Folder, printed(disk.Name), disk.Device, disk.Why, disk.Recorded, disk.Found)
 	}
 }

@@ -7,13 +7,13 @@ import (
 )
 
 // whereOut names the folder and the device of what was left out, as far as it is of one.
-func whereOut(one finding.Refusal) string {
+func whereOut(refusal finding.Refusal) string {
 	words := []string{}
-	if one.Folder != "" {
-		words = append(words, "folder "+one.Folder)
+	if refusal.Folder != "" {
+		words = append(words, "folder "+refusal.Folder)
 	}
-	if one.Device != "" {
-		words = append(words, "device "+one.Device)
+	if refusal.Device != "" {
+		words = append(words, "device "+refusal.Device)
 	}
 	return strings.Join(words, ", ")
 }

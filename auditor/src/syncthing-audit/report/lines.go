@@ -35,7 +35,7 @@ func Lines(to io.Writer, answer *finding.Answer, dangers *Dangers) {
 		outside.Printf(to, "folder %s: %d names, %d deleted, %d devices\n", folder.ID, folder.Names, folder.Deleted, len(folder.Members))
 	}
 	for _, folder := range answer.Folders {
-		folder.EachFailure(func(one *finding.Failure) { outside.Println(to, ask.Line(folder.ID, one)) })
+		folder.EachFailure(func(failure *finding.Failure) { outside.Println(to, ask.Line(folder.ID, failure)) })
 	}
 	for _, folder := range answer.Folders {
 		firm(to, folder)
@@ -66,10 +66,10 @@ func firm(to io.Writer, folder *finding.Folder) {
 	case finding.NotAsked:
 		outside.Printf(to, "firm wasn't asked: %s\n", folder.ID)
 	case finding.NotFirm:
-		folder.EachLoose(func(one *finding.Failure) { outside.Printf(to, "not firm: %s\n", ask.Line(folder.ID, one)) })
+		folder.EachLoose(func(failure *finding.Failure) { outside.Printf(to, "not firm: %s\n", ask.Line(folder.ID, failure)) })
 	}
-	for _, one := range folder.Unsure() {
-		outside.Printf(to, "%s: %s on %d: %s\n", folder.HowFirm().CallUnsure(), folder.ID, folder.Members[one.Member].Number, one.Words())
+	for _, unsure := range folder.Unsure() {
+		outside.Printf(to, "%s: %s on %d: %s\n", folder.HowFirm().CallUnsure(), folder.ID, folder.Members[unsure.Member].Number, unsure.Words())
 	}
 }
 
@@ -81,40 +81,40 @@ func Rest(to io.Writer, answer *finding.Answer) {
 		permissions(to, folder)
 		damaged(to, folder)
 		leftOut(to, folder)
-		for _, one := range folder.Members {
-			if one.Near > 0 {
-				outside.Printf(to, "times taken for the same: %s %d files on %d, by less than %d s\n", folder.ID, one.Near, one.Number, one.About.TimeWindow)
+		for _, member := range folder.Members {
+			if member.Near > 0 {
+				outside.Printf(to, "times taken for the same: %s %d files on %d, by less than %d s\n", folder.ID, member.Near, member.Number, member.About.TimeWindow)
 			}
-			if count := one.Temporary; count != nil && count.Names > 0 {
-				outside.Printf(to, "temporary: %s %d names, %d bytes on %d\n", folder.ID, count.Names, count.Bytes, one.Number)
+			if count := member.Temporary; count != nil && count.Names > 0 {
+				outside.Printf(to, "temporary: %s %d names, %d bytes on %d\n", folder.ID, count.Names, count.Bytes, member.Number)
 			}
 		}
 	}
 	for _, folder := range answer.Folders {
 		own(to, answer, folder)
 	}
-	for _, one := range answer.LeftOut {
-		outside.Printf(to, "left out: %s: %s\n", whereOut(one), one.Why)
+	for _, refusal := range answer.LeftOut {
+		outside.Printf(to, "left out: %s: %s\n", whereOut(refusal), refusal.Why)
 	}
-	for _, one := range answer.Earlier {
-		outside.Printf(to, "of another moment: folder %s, device %s: %s\n", one.Folder, one.Device, one.Why)
+	for _, refusal := range answer.Earlier {
+		outside.Printf(to, "of another moment: folder %s, device %s: %s\n", refusal.Folder, refusal.Device, refusal.Why)
 	}
-	for _, one := range answer.Observers {
-		outside.Printf(to, "observer, not asked: folder %s, device %s\n", one.Folder, one.Device)
+	for _, observer := range answer.Observers {
+		outside.Printf(to, "observer, not asked: folder %s, device %s\n", observer.Folder, observer.Device)
 	}
 	unasked(to, answer)
-	for _, one := range answer.Devices {
-		if one.Index != nil {
-			outside.Printf(to, "maybe an old index: on %d, %s\n", one.Number, ageOf(one.Index))
+	for _, device := range answer.Devices {
+		if device.Index != nil {
+			outside.Printf(to, "maybe an old index: on %d, %s\n", device.Number, ageOf(device.Index))
 		}
-		if one.Newer != nil {
-			outside.Printf(to, "maybe an old index: on %d, %s\n", one.Number, besides(one.Newer))
+		if device.Newer != nil {
+			outside.Printf(to, "maybe an old index: on %d, %s\n", device.Number, besides(device.Newer))
 		}
-		if one.ToRepair {
-			outside.Printf(to, "to be repaired: the index on %d\n", one.Number)
+		if device.ToRepair {
+			outside.Printf(to, "to be repaired: the index on %d\n", device.Number)
 		}
-		if one.IsUnsigned {
-			outside.Printf(to, "not signed: the part of %d\n", one.Number)
+		if device.IsUnsigned {
+			outside.Printf(to, "not signed: the part of %d\n", device.Number)
 		}
 	}
 }
@@ -143,8 +143,8 @@ func own(to io.Writer, answer *finding.Answer, folder *finding.Folder) {
 // isn't known.
 func unasked(to io.Writer, answer *finding.Answer) {
 	for _, device := range answer.Devices {
-		for _, one := range device.Unasked {
-			outside.Printf(to, "not asked for: folder %s on %d\n", one.ID, device.Number)
+		for _, unasked := range device.Unasked {
+			outside.Printf(to, "not asked for: folder %s on %d\n", unasked.ID, device.Number)
 		}
 		if device.IsSilent {
 			outside.Printf(to, "not told: other folders of %d\n", device.Number)
@@ -162,18 +162,18 @@ func unasked(to io.Writer, answer *finding.Answer) {
 
 // unwon prints what each device has of each name without a winner.
 func unwon(to io.Writer, folder *finding.Folder) {
-	folder.Unwon.Each(func(one *finding.Unwon) {
-		for _, at := range one.At {
-			outside.Printf(to, "no winner: %s %s on %d: %s\n", folder.ID, ask.Printed(one.Name), folder.Members[at.Member].Number, at.Kind)
+	folder.Unwon.Each(func(unwon *finding.Unwon) {
+		for _, at := range unwon.At {
+			outside.Printf(to, "no winner: %s %s on %d: %s\n", folder.ID, ask.Printed(unwon.Name), folder.Members[at.Member].Number, at.Kind)
 		}
 	})
 }
 
 // permissions prints names whose permissions differ.
 func permissions(to io.Writer, folder *finding.Folder) {
-	folder.Permissions.Each(func(one *finding.Permissions) {
-		outside.Printf(to, "permissions: %s %s", folder.ID, ask.Printed(one.Name))
-		for member, bits := range one.At {
+	folder.Permissions.Each(func(permissions *finding.Permissions) {
+		outside.Printf(to, "permissions: %s %s", folder.ID, ask.Printed(permissions.Name))
+		for member, bits := range permissions.At {
 			if bits.Has {
 				outside.Printf(to, " %d index %04o", folder.Members[member].Number, bits.Index)
 			}
@@ -187,27 +187,27 @@ func permissions(to io.Writer, folder *finding.Folder) {
 
 // damaged prints of which names a disk itself fails to give what it has, or has something else than its own index says.
 func damaged(to io.Writer, folder *finding.Folder) {
-	folder.Damaged.Each(func(one *finding.Damaged) {
-		for _, at := range one.At {
+	folder.Damaged.Each(func(damaged *finding.Damaged) {
+		for _, at := range damaged.At {
 			kind := "damaged"
 			if at.IsRot {
 				kind = "differs"
 			}
-			outside.Printf(to, "%s: %s %s on %d: %s\n", kind, folder.ID, printed(string(one.Name)), folder.Members[at.Member].Number, at.Why)
+			outside.Printf(to, "%s: %s %s on %d: %s\n", kind, folder.ID, printed(string(damaged.Name)), folder.Members[at.Member].Number, at.Why)
 		}
 	})
 }
 
 // leftOut prints what was left out on request, and what is outside the folder.
 func leftOut(to io.Writer, folder *finding.Folder) {
-	for _, one := range folder.LeftOut {
-		for _, why := range one.Why {
+	for _, leftOut := range folder.LeftOut {
+		for _, why := range leftOut.Why {
 			device := "-"
 			if why.Member >= 0 {
 				device = strconv.FormatUint(folder.Members[why.Member].Number, 10)
 			}
-			outside.Printf(to, "left out: %s %s on %s: %s (%s, %d names, %d bytes)\n", folder.ID, printed(one.Name), device, why.Why,
-				why.Kind, one.Names, one.Bytes)
+			outside.Printf(to, "left out: %s %s on %s: %s (%s, %d names, %d bytes)\n", folder.ID, printed(leftOut.Name), device, why.Why,
+				why.Kind, leftOut.Names, leftOut.Bytes)
 		}
 	}
 	if more := folder.Unlisted.LeftOut; more.Names > 0 {
@@ -227,13 +227,13 @@ func printed(name string) string {
 }
 
 // placeOf says at which device and name something is refused, as far as it is of one.
-func placeOf(one finding.Refusal) string {
+func placeOf(refusal finding.Refusal) string {
 	place := ""
-	if one.Device != "" {
-		place += ", device " + one.Device
+	if refusal.Device != "" {
+		place += ", device " + refusal.Device
 	}
-	if one.Name != "" {
-		place += ", name " + shell.Path(one.Name)
+	if refusal.Name != "" {
+		place += ", name " + shell.Path(refusal.Name)
 	}
 	return place
 }
@@ -245,21 +245,21 @@ const mostAlike = 5
 func tellRefusals(to io.Writer, all []finding.Refusal) {
 	type alike struct{ folder, label, device, kind string }
 	told, more := map[alike]int{}, []alike{}
-	for _, one := range all {
-		same := alike{one.Folder, one.Label, one.Device, one.Kind}
-		if one.Name != "" && one.Kind != "" {
+	for _, refusal := range all {
+		same := alike{refusal.Folder, refusal.Label, refusal.Device, refusal.Kind}
+		if refusal.Name != "" && refusal.Kind != "" {
 			told[same]++
 		}
 		switch {
-		case told[same] <= mostAlike || one.Name == "":
-			outside.Printf(to, "syncthing-audit: refused: folder %s%s: %s\n", shell.Folder(one.Folder, one.Label), placeOf(one), one.Why)
+		case told[same] <= mostAlike || refusal.Name == "":
+			outside.Printf(to, "syncthing-audit: refused: folder %s%s: %s\n", shell.Folder(refusal.Folder, refusal.Label), placeOf(refusal), refusal.Why)
 		case told[same] == mostAlike+1:
 			more = append(more, same)
 		}
 	}
-	for _, one := range more {
-		outside.Printf(to, "syncthing-audit: refused: folder %s%s: %d more of the kind %s\n", shell.Folder(one.folder, one.label),
-			placeOf(finding.Refusal{Device: one.device}), told[one]-mostAlike, one.kind)
+	for _, alike := range more {
+		outside.Printf(to, "syncthing-audit: refused: folder %s%s: %d more of the kind %s\n", shell.Folder(alike.folder, alike.label),
+			placeOf(finding.Refusal{Device: alike.device}), told[alike]-mostAlike, alike.kind)
 	}
 }
 
@@ -275,19 +275,19 @@ func Refusals(to io.Writer, answer *finding.Answer) {
 		}
 	}
 	tellRefusals(to, answer.Refusals)
-	for _, one := range answer.Devices {
-		if one.Index != nil {
-			outside.Printf(to, "syncthing-audit: maybe an old index: device %s, %s. Where Syncthing has its database elsewhere, name it as --data DIR\n", one.ID, ageOf(one.Index))
+	for _, device := range answer.Devices {
+		if device.Index != nil {
+			outside.Printf(to, "syncthing-audit: maybe an old index: device %s, %s. Where Syncthing has its database elsewhere, name it as --data DIR\n", device.ID, ageOf(device.Index))
 		}
-		if one.Newer != nil {
-			outside.Printf(to, "syncthing-audit: maybe an old index: device %s, %s. %s\n", one.ID, besides(one.Newer), one.Newer.WhatToDo())
+		if device.Newer != nil {
+			outside.Printf(to, "syncthing-audit: maybe an old index: device %s, %s. %s\n", device.ID, besides(device.Newer), device.Newer.WhatToDo())
 		}
-		if one.ToRepair {
-			outside.Printf(to, "syncthing-audit: to be repaired: the index of device %s. Start Syncthing there, and let it finish\n", one.ID)
+		if device.ToRepair {
+			outside.Printf(to, "syncthing-audit: to be repaired: the index of device %s. Start Syncthing there, and let it finish\n", device.ID)
 		}
 	}
-	for _, one := range answer.Refusals {
-		add(one.Kind)
+	for _, refusal := range answer.Refusals {
+		add(refusal.Kind)
 	}
 	for _, kind := range part.Kinds {
 		if more := answer.Unlisted[kind]; more > 0 {

@@ -21,17 +21,17 @@ func live(to io.Writer, folder *finding.Folder) {
 		spent = fmt.Sprintf("%.3f s", folder.Live.Seconds)
 	}
 	outside.Printf(to, "still: %s %s, in motion: %d names\n", folder.ID, spent, folder.Live.Moving)
-	for _, one := range folder.Live.Names {
-		for _, at := range one.At {
-			outside.Printf(to, "in motion: %s %s on %d: %s\n", folder.ID, printed(string(one.Name)), folder.Members[at.Member].Number,
+	for _, moving := range folder.Live.Names {
+		for _, at := range moving.At {
+			outside.Printf(to, "in motion: %s %s on %d: %s\n", folder.ID, printed(string(moving.Name)), folder.Members[at.Member].Number,
 				strings.Join(at.Why, ", "))
 		}
 	}
 	if more := folder.Live.Moving - int64(len(folder.Live.Names)); more > 0 {
 		outside.Printf(to, "in motion: %s and %d names more\n", folder.ID, more)
 	}
-	for _, one := range folder.Live.Unheard {
-		outside.Printf(to, "not heard of: %s on %d of %d: %d names\n", folder.ID, folder.Members[one.Member].Number, folder.Members[one.Of].Number,
-			one.Names)
+	for _, unheard := range folder.Live.Unheard {
+		outside.Printf(to, "not heard of: %s on %d of %d: %d names\n", folder.ID, folder.Members[unheard.Member].Number, folder.Members[unheard.Of].Number,
+			unheard.Names)
 	}
 }

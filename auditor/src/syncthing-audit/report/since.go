@@ -19,30 +19,30 @@ func Since(to io.Writer, since *history.Since) {
 	if since.Before != nil {
 		outside.Printf(to, "since: %s\n", since.Before.Format(time.RFC3339))
 	}
-	for _, one := range since.Changed {
-		outside.Printf(to, "changed everywhere: %s %s between %s and %s\n", one.Folder, printed(string(one.Name)), one.Before.Format(time.RFC3339), one.Since.Format(time.RFC3339))
+	for _, changed := range since.Changed {
+		outside.Printf(to, "changed everywhere: %s %s between %s and %s\n", changed.Folder, printed(string(changed.Name)), changed.Before.Format(time.RFC3339), changed.Since.Format(time.RFC3339))
 	}
 	if more := since.Count - int64(len(since.Changed)); more > 0 {
 		outside.Printf(to, "changed everywhere: %d more\n", more)
 	}
-	for _, one := range since.Taken {
-		for _, device := range one.Devices {
-			outside.Printf(to, "changed and recorded: %s %s on %d between %s and %s\n", one.Folder, printed(string(one.Name)), part.Number(device), one.Before.Format(time.RFC3339),
-				one.Since.Format(time.RFC3339))
+	for _, changed := range since.Taken {
+		for _, device := range changed.Devices {
+			outside.Printf(to, "changed and recorded: %s %s on %d between %s and %s\n", changed.Folder, printed(string(changed.Name)), part.Number(device), changed.Before.Format(time.RFC3339),
+				changed.Since.Format(time.RFC3339))
 		}
 	}
 	if more := since.Takes - int64(len(since.Taken)); more > 0 {
 		outside.Printf(to, "changed and recorded: %d more\n", more)
 	}
-	for _, one := range []struct {
+	for _, kind := range []struct {
 		word string
 		list history.List
 	}{{"new", since.New}, {"lasts", since.Lasting}, {"mended", since.Mended}, {"not looked at", since.Unasked}} {
-		for _, fault := range one.list.First {
-			outside.Printf(to, "%s: %s %s %s%s since %s\n", one.word, fault.Reason, fault.Folder, printed(string(fault.Name)), onDevice(fault.Device), fault.First.Format(time.RFC3339))
+		for _, fault := range kind.list.First {
+			outside.Printf(to, "%s: %s %s %s%s since %s\n", kind.word, fault.Reason, fault.Folder, printed(string(fault.Name)), onDevice(fault.Device), fault.First.Format(time.RFC3339))
 		}
-		if more := one.list.Count - int64(len(one.list.First)); more > 0 {
-			outside.Printf(to, "%s: %d more\n", one.word, more)
+		if more := kind.list.Count - int64(len(kind.list.First)); more > 0 {
+			outside.Printf(to, "%s: %d more\n", kind.word, more)
 		}
 	}
 	for _, read := range since.Read {
@@ -50,12 +50,12 @@ func Since(to io.Writer, since *history.Since) {
 			outside.Printf(to, "read: %s %d files, %d bytes on %d, the oldest %s %s\n", read.Folder, read.Files, read.Bytes, part.Number(read.Device), read.Oldest.Format(time.RFC3339), printed(string(read.OldestName)))
 		}
 	}
-	for _, one := range since.Waiting {
+	for _, waiting := range since.Waiting {
 		oldest := ""
-		if one.Oldest != nil {
-			oldest = ", the oldest of the others " + one.Oldest.Format(time.RFC3339)
+		if waiting.Oldest != nil {
+			oldest = ", the oldest of the others " + waiting.Oldest.Format(time.RFC3339)
 		}
-		outside.Printf(to, "not read: %s %d files, %d bytes on %d, %d never%s\n", one.Folder, one.Files, one.Bytes, part.Number(one.Device), one.Never, oldest)
+		outside.Printf(to, "not read: %s %d files, %d bytes on %d, %d never%s\n", waiting.Folder, waiting.Files, waiting.Bytes, part.Number(waiting.Device), waiting.Never, oldest)
 	}
 	if since.Unkept != "" {
 		outside.Printf(to, "not kept in the history: %s\n", since.Unkept)

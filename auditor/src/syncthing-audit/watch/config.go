@@ -52,11 +52,11 @@ type Path struct {
 // Maps gives where the paths of the device's configuration are on its machine.
 func (d *Device) Maps() (device.Maps, error) {
 	made := device.Maps{}
-	for _, one := range d.Paths {
-		if strings.Contains(one.From, "=") {
-			return nil, fmt.Errorf("<map from=%q>: a path with = isn't taken", one.From)
+	for _, path := range d.Paths {
+		if strings.Contains(path.From, "=") {
+			return nil, fmt.Errorf("<map from=%q>: a path with = isn't taken", path.From)
 		}
-		read, err := device.ParseMap(one.From + "=" + one.To)
+		read, err := device.ParseMap(path.From + "=" + path.To)
 		if err == nil {
 			err = made.Add(read)
 		}
@@ -130,11 +130,11 @@ type element struct{ XMLName xml.Name }
 
 // check says which attribute or element isn't known.
 func (u unknown) check(in string) error {
-	for _, one := range u.Attributes {
-		return fmt.Errorf("<%s> has no attribute %s", in, shell.Printable(one.Name.Local))
+	for _, attr := range u.Attributes {
+		return fmt.Errorf("<%s> has no attribute %s", in, shell.Printable(attr.Name.Local))
 	}
-	for _, one := range u.Elements {
-		return fmt.Errorf("<%s> has no element <%s>", in, shell.Printable(one.XMLName.Local))
+	for _, element := range u.Elements {
+		return fmt.Errorf("<%s> has no element <%s>", in, shell.Printable(element.XMLName.Local))
 	}
 	return nil
 }
@@ -194,35 +194,35 @@ func (c *Config) check() error {
 func (c *Config) checkKnown() error {
 	errs := []error{c.unknown.check("watch")}
 	add := func(of unknown, in string) { errs = append(errs, of.check(in)) }
-	for _, one := range c.Devices {
-		add(one.unknown, "device")
-		for _, path := range one.Paths {
+	for _, device := range c.Devices {
+		add(device.unknown, "device")
+		for _, path := range device.Paths {
 			add(path.unknown, "map")
 		}
 	}
-	for _, one := range c.Parts {
-		add(one.unknown, "parts")
+	for _, parts := range c.Parts {
+		add(parts.unknown, "parts")
 	}
-	for _, one := range c.Observed {
-		add(one.unknown, "observed")
+	for _, observed := range c.Observed {
+		add(observed.unknown, "observed")
 	}
-	for _, one := range c.Folders {
-		add(one.unknown, "folder")
+	for _, folder := range c.Folders {
+		add(folder.unknown, "folder")
 	}
-	for _, one := range c.Slices {
-		add(one.unknown, "slices")
+	for _, slices := range c.Slices {
+		add(slices.unknown, "slices")
 	}
-	for _, one := range c.Budget {
-		add(one.unknown, "budget")
+	for _, budget := range c.Budget {
+		add(budget.unknown, "budget")
 	}
-	for _, one := range append(append(append([]Place(nil), c.State...), c.Metrics...), c.Page...) {
-		add(one.unknown, "state>, <metrics> or <page")
+	for _, place := range append(append(append([]Place(nil), c.State...), c.Metrics...), c.Page...) {
+		add(place.unknown, "state>, <metrics> or <page")
 	}
-	for _, one := range c.Mail {
-		add(one.unknown, "mail")
+	for _, mail := range c.Mail {
+		add(mail.unknown, "mail")
 	}
-	for _, one := range append(append([]Command(nil), c.Notify...), c.Ping...) {
-		add(one.unknown, "notify> or <ping")
+	for _, command := range append(append([]Command(nil), c.Notify...), c.Ping...) {
+		add(command.unknown, "notify> or <ping")
 	}
 	for _, err := range errs {
 		if err != nil {
@@ -246,27 +246,27 @@ func (c *Config) checkCounts() error {
 // checkDevices says what is wrong with the devices and folders, and which word is empty.
 func (c *Config) checkDevices() error {
 	empty := map[string]bool{}
-	for _, one := range c.Devices {
-		empty["device place"] = empty["device place"] || one.Place == ""
-		if _, err := one.Maps(); err != nil {
+	for _, device := range c.Devices {
+		empty["device place"] = empty["device place"] || device.Place == ""
+		if _, err := device.Maps(); err != nil {
 			return err
 		}
 	}
-	for _, one := range c.Observed {
-		empty["observed id"] = empty["observed id"] || one.ID == ""
-		empty["observed address"] = empty["observed address"] || one.Address == ""
+	for _, observed := range c.Observed {
+		empty["observed id"] = empty["observed id"] || observed.ID == ""
+		empty["observed address"] = empty["observed address"] || observed.Address == ""
 	}
-	for _, one := range c.Folders {
-		empty["folder id"] = empty["folder id"] || one.ID == ""
+	for _, folder := range c.Folders {
+		empty["folder id"] = empty["folder id"] || folder.ID == ""
 	}
-	for _, one := range c.Parts {
-		empty["parts directory"] = one.Directory == ""
+	for _, parts := range c.Parts {
+		empty["parts directory"] = parts.Directory == ""
 	}
-	for _, one := range c.Budget {
-		empty["budget bytes"] = one.Bytes == ""
+	for _, budget := range c.Budget {
+		empty["budget bytes"] = budget.Bytes == ""
 	}
-	for _, one := range c.Mail {
-		empty["mail to"] = one.To == "" || strings.ContainsAny(one.To, "\r\n")
+	for _, mail := range c.Mail {
+		empty["mail to"] = mail.To == "" || strings.ContainsAny(mail.To, "\r\n")
 	}
 	for word, is := range empty {
 		if is {
@@ -287,20 +287,20 @@ func (c *Config) checkDevices() error {
 // checkNumbers says which number isn't taken, and puts those that aren't given in place.
 func (c *Config) checkNumbers() error {
 	for at := range c.Parts {
-		one := &c.Parts[at]
-		if one.Hours == 0 {
-			one.Hours = usualHours
+		parts := &c.Parts[at]
+		if parts.Hours == 0 {
+			parts.Hours = usualHours
 		}
-		if !(one.Hours > 0 && one.Hours <= mostHours) {
-			return fmt.Errorf("hours=\"%v\" isn't taken: it is above 0, and at most %d", one.Hours, mostHours)
+		if !(parts.Hours > 0 && parts.Hours <= mostHours) {
+			return fmt.Errorf("hours=\"%v\" isn't taken: it is above 0, and at most %d", parts.Hours, mostHours)
 		}
 	}
-	for _, one := range c.Slices {
-		if one.Count < 1 || one.Count > choice.MostSlices {
-			return fmt.Errorf("count=\"%d\" isn't taken: slices are 1 to %d", one.Count, choice.MostSlices)
+	for _, slices := range c.Slices {
+		if slices.Count < 1 || slices.Count > choice.MostSlices {
+			return fmt.Errorf("count=\"%d\" isn't taken: slices are 1 to %d", slices.Count, choice.MostSlices)
 		}
-		if one.Hour < 0 || one.Hour > 23 {
-			return fmt.Errorf("hour=\"%d\" isn't taken: it is 0 to 23", one.Hour)
+		if slices.Hour < 0 || slices.Hour > 23 {
+			return fmt.Errorf("hour=\"%d\" isn't taken: it is 0 to 23", slices.Hour)
 		}
 	}
 	return nil

@@ -97,9 +97,9 @@ func (m Measured) Text() string {
 			continue
 		}
 		spread.add(float64(answer.Since.Count))
-		for _, one := range answer.Since.Read {
-			if one.Files > 0 {
-				oldest.add(float64(one.Oldest.Unix()), "folder", one.Folder, "device", one.Device, "name", called[one.Device])
+		for _, read := range answer.Since.Read {
+			if read.Files > 0 {
+				oldest.add(float64(read.Oldest.Unix()), "folder", read.Folder, "device", read.Device, "name", called[read.Device])
 			}
 		}
 	}

@@ -28,15 +28,15 @@ func News(told *summary.Summary, isOfParts bool, before Limits) ([]string, Limit
 			lines = append(lines, outside.Sprintf("%s: %s: %s", called, placeOf(what.Folder, what.Device), why))
 		}
 	}
-	for _, one := range told.LeftOut {
-		add(one, "left out", one.Why, 1)
+	for _, left := range told.LeftOut {
+		add(left, "left out", left.Why, 1)
 	}
 	nights := 1
 	if isOfParts {
 		nights = 2
 	}
-	for _, one := range told.Earlier {
-		add(one, "of another moment", one.Why, nights)
+	for _, left := range told.Earlier {
+		add(left, "of another moment", left.Why, nights)
 	}
 	ended := 0
 	for key := range before {
@@ -67,18 +67,18 @@ func faults(since *history.Since) []string {
 	if since == nil {
 		return lines
 	}
-	for _, one := range []struct {
+	for _, kind := range []struct {
 		called string
 		all    history.List
 	}{{"new", since.New}, {"mended", since.Mended}} {
-		for place, fault := range one.all.First {
+		for place, fault := range kind.all.First {
 			if place == mostNews {
 				break
 			}
-			lines = append(lines, outside.Sprintf("%s: %s in %s: %s", one.called, shell.Path(string(fault.Name)), shell.Folder(fault.Folder, ""), fault.Reason))
+			lines = append(lines, outside.Sprintf("%s: %s in %s: %s", kind.called, shell.Path(string(fault.Name)), shell.Folder(fault.Folder, ""), fault.Reason))
 		}
-		if one.all.Count > mostNews {
-			lines = append(lines, outside.Sprintf("%s: %d more", one.called, one.all.Count-mostNews))
+		if kind.all.Count > mostNews {
+			lines = append(lines, outside.Sprintf("%s: %d more", kind.called, kind.all.Count-mostNews))
 		}
 	}
 	if since.Unkept != "" {

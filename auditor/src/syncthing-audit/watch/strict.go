@@ -38,12 +38,12 @@ func checkText(text []byte) error {
 }
 
 // checkElement says what is wrong with an element by itself.
-func checkElement(one xml.StartElement, depth int) error {
-	name, seen := shell.Printable(one.Name.Local), map[string]bool{}
-	if depth > 0 && len(one.Attr) == 0 {
+func checkElement(startElement xml.StartElement, depth int) error {
+	name, seen := shell.Printable(startElement.Name.Local), map[string]bool{}
+	if depth > 0 && len(startElement.Attr) == 0 {
 		return fmt.Errorf("<%s> says nothing: it has no attribute", name)
 	}
-	for _, attribute := range one.Attr {
+	for _, attribute := range startElement.Attr {
 		called := shell.Printable(attribute.Name.Local)
 		switch {
 		case seen[called]:

@@ -17,13 +17,13 @@ import (
 // errors are of those that failed.
 func (c *Config) Tell(subject, text string, log io.Writer) []error {
 	subject, errs := outside.Escaped(subject), []error{}
-	for _, one := range c.Mail {
-		if err := mail(one.To, subject, text, log); err != nil {
+	for _, address := range c.Mail {
+		if err := mail(address.To, subject, text, log); err != nil {
 			errs = append(errs, fmt.Errorf("it can't be mailed: %w", err))
 		}
 	}
-	for _, one := range c.Notify {
-		if err := runShell(one.Command, text, log, "SUBJECT="+subject); err != nil {
+	for _, command := range c.Notify {
+		if err := runShell(command.Command, text, log, "SUBJECT="+subject); err != nil {
 			errs = append(errs, fmt.Errorf("<notify>: %w", err))
 		}
 	}
@@ -33,8 +33,8 @@ func (c *Config) Tell(subject, text string, log io.Writer) []error {
 // PingAll tells whoever waits for it that an audit was made.
 func (c *Config) PingAll(log io.Writer) []error {
 	errs := []error{}
-	for _, one := range c.Ping {
-		if err := runShell(one.Command, "", log); err != nil {
+	for _, command := range c.Ping {
+		if err := runShell(command.Command, "", log); err != nil {
 			errs = append(errs, fmt.Errorf("<ping>: %w", err))
 		}
 	}
