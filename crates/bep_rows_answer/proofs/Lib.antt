@@ -1,4 +1,5 @@
 mod Above
 mod LineFacts
+mod Settled
 mod SoFar
 mod Streamed

@@ -4,4 +4,5 @@ pub mod Lines
 pub mod Rows
 pub mod Input
 pub mod Stream
+pub mod Told
 pub mod inner

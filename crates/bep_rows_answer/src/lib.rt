@@ -11,8 +11,10 @@ mod input;
 mod lines;
 mod rows;
 mod stream;
+mod told;
 
 pub use counts::FolderCount;
 pub use input::{MAX_LINE, Next};
 pub use rows::Rows;
 pub use stream::rows_text;
+pub use told::rows_and_tell;

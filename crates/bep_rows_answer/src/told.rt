@@ -1,0 +1,26 @@
+//! A stream of rows is answered, and the exit status says how.
+ghost use Rattle.std.specs.Prelude.{◌≡◌};
+ghost use Rattle.bep_rows_answer.specs.Told.{IsRowsTold, SaysSettledRows};
+
+use crate::stream::rows_text;
+use bep_answer::end;
+use bep_machine::{settled_stays_put, settled_stays_settled};
+use std::io::{Read, Write};
+
+/// Answers a stream of rows as `rows_text` does; tells why there is no answer on standard error, and answers the exit status:
+/// 0 settled, 1 not settled, 2 a line refused, 4 out of memory, 5 a read or write fault.
+pub fn rows_and_tell<P: AllocGlobal + Eprint, R: Read, W: Write>(
+    rt: &P,
+    reader: &mut R,
+    writer: &mut W,
+) -> u8
+    ensures told { IsRowsTold (R.remaining reader.old) (R.remaining reader.new) (W.contents writer.old) (W.contents writer.new) result }
+    ensures settled { result ≡ 0 → SaysSettledRows (R.remaining reader.old) (R.remaining reader.new) }
+{
+    settled_stays_put();
+    settled_stays_settled();
+    match rows_text(rt.alloc(), reader, writer) {
+        Ok(outcome) => end(rt, Ok((outcome, None))),
+        Err(error) => end(rt, Err(error)),
+    }
+}
