@@ -26,7 +26,8 @@ CHECKS = {"check": {0, 1, 2}, "firm": {0, 1, 2}, "converge": {0, 1, 2}, "explain
           "explain --certify": {0, 1, 2}, "explain --certify --json": {0, 1, 2}, "explain --certify --firm": {0, 1, 2},
           "explain --converge": {0, 1, 2}, "explain --converge --json": {0, 1, 2}}
 RUNS = {"run": {0, 1, 2}, "run --document": {0, 1, 2}, "run --turns 1": {0, 1, 2}}
-ALL = CHECKS | RUNS
+STREAMS = {"rows": {0, 1, 2}}
+ALL = CHECKS | RUNS | STREAMS
 
 
 def run(program, command, document):
@@ -53,7 +54,22 @@ def first_reason(answer):
     return answer[0].partition(b"\n")[0].removeprefix(b"not settled: ").removeprefix(b"not converging: ")
 
 
-def contradictions(program, told):
+def rows_contradictions(program, stream, answer, status):
+    """The same of the answer to a stream of rows: what was answered before a refusal stands."""
+    last = answer.rpartition(b"\n")[0].rpartition(b"\n")[2]
+    yield "rows and its last line", (status == 2) != last.startswith(b"line ")
+    if status == 2 and last.startswith(b"line "):
+        before = stream.split(b"\n")[:int(last.split()[1][:-1]) - 1]
+        so_far = run(program, "rows", b"\n".join(before) + b"\n")[0]
+        yield "rows and rows of the lines before", bool(before) and not so_far.startswith(answer.removesuffix(last + b"\n"))
+    elif status in (0, 1):
+        from row_texts import document_of
+        checked, as_document = run(program, "check --certify", document_of(stream))
+        verdict = [line for line in answer.splitlines() if not line.startswith(b"folder ")][-1:]
+        yield "rows and check --certify", as_document != 2 and (as_document, checked.splitlines()[:1]) != (status, verdict)
+
+
+def contradictions(program, document, told):
     """The pairs of commands of which the one contradicts the other, each with whether it does."""
     status = {command: one[1] for command, one in told.items()}
     if "check" in told:
@@ -83,24 +99,26 @@ def contradictions(program, told):
         refused, last = status["run"] == 2, told["run --turns 1"][0].rpartition(b"\n")[0].rpartition(b"\n")[2]
         yield "run and run --turns", refused != (status["run --turns 1"] == 2) or status["run"] == 0 != status["run --turns 1"]
         yield "run --turns and its last line", refused == last.startswith(b"run fits: ")
+    if "rows" in told:
+        yield from rows_contradictions(program, document, *told["rows"])
 
 
 def faults(program, document, commands):
     """What is at fault in how the program answers the document, by command or pair of commands; '' where nothing is."""
     told = {command: run(program, command, document) for command in commands}
     found = {command: fault(command, status) for command, (_, status) in told.items()}
-    for pair, is_so in contradictions(program, told):
+    for pair, is_so in contradictions(program, document, told):
         found[pair] = "they contradict each other" if is_so else ""
     return found
 
 
 def drawn(seed, until):
-    """Documents with the commands that read them, until that time."""
+    """Documents, and streams of rows, with the commands that read them, until that time."""
     from fuzzing.drawing import Drawing
     drawing = Drawing(seed)
     while time.monotonic() < until:
-        document, is_scenario = drawing.document()
-        yield document, ALL if drawing.made.happens(0.05) else RUNS if is_scenario else CHECKS
+        document, commands = drawing.stream_or_document()
+        yield document, ALL if drawing.made.happens(0.05) else {"check": CHECKS, "run": RUNS, "rows": STREAMS}[commands]
 
 
 def kept(document):

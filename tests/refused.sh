@@ -1,7 +1,7 @@
 #!/usr/bin/env bash
 # refused.sh PROGRAM PLAIN SECOND: refuses the program one call after the other, each growth of its memory, each read and
 # each write of standard output, until none is left to refuse. Without memory it must end with status 4, after a refused read
-# or write with status 5, and it must have written nothing; or it made do without the call, and then answers as ever. An
+# or write with status 5, and it must have written nothing, of a stream of rows a beginning of the answer; or it made do without the call, and then answers as ever. An
 # interrupted read or write isn't tried again, nor one that takes nothing. Where each read gives and each write takes a few
 # bytes alone it answers as ever. SECOND, crates/second_try, asks once more for whatever memory was wanting for, and must then
 # tell as ever; of bytes that are no document it tells what two workers make of them. The last line is 'N passed, M failed',
@@ -47,13 +47,23 @@ is_as_ever() {
   [ "$status" = "$ever" ] && cmp -s "$work/out" "$work/ever"
 }
 
+# Whether the last run wrote nothing; with STREAMED, whether it wrote a beginning of the answer, as to rows, which are answered
+# as they come.
+has_kept_back() {
+  if [ -n "${STREAMED:-}" ]; then
+    cmp -s -n "$(wc -c < "$work/out")" "$work/out" "$work/ever"
+  else
+    [ ! -s "$work/out" ]
+  fi
+}
+
 # refuse KIND STATUS DOCUMENT WORDS..: refuses the first, the second and each further call of the kind, of which there must
 # be one.
 refuse() {
   local kind=$1 wanted=$2 document=$3 number=1
   shift 3
   while run_refused "$kind" "$number" "$document" "$@"; [ -e "$work/refused" ]; do
-    if [ "$status" = "$wanted" ] && [ ! -s "$work/out" ]; then
+    if [ "$status" = "$wanted" ] && has_kept_back; then
       passed=$((passed + 1))
     elif [ "$kind" = GROWTH ] && is_as_ever; then
       passed=$((passed + 1))
@@ -146,6 +156,7 @@ refuse_growth() {
 refuse_all examples/one-equal-file.json check
 refuse_all examples/cut-alone.json certify
 refuse_all examples/scenarios/conflict.json run
+STREAMED=yes refuse_all examples/rows/file-missing-in-store.jsonl rows
 # Without memory nothing is said of an old file in a view, where its deletion is known everywhere else.
 for words in check firm converge certify 'certify --partial' explain 'explain --firm' 'explain --json' 'explain --firm --json' \
   'check --certify' 'firm --certify' 'explain --certify' 'explain --certify --json' 'explain --certify --firm' 'explain --converge' 'explain --converge --json'; do
@@ -163,11 +174,13 @@ done
 head -c 262145 /dev/zero > "$work/zeros"
 try_again "$work/zeros"
 cut_off examples/one-equal-file.json check
+cut_off examples/rows/file-missing-in-store.jsonl rows
 REFUSE_WITH=interruption refuse READ 5 examples/one-equal-file.json check
 REFUSE_WITH=interruption refuse WRITE 5 examples/one-equal-file.json check
 REFUSE_WITH=nothing refuse WRITE 5 examples/one-equal-file.json check
 for bytes in 1 2 3 50; do
   in_pieces "$bytes" examples/one-equal-file.json check
+  in_pieces "$bytes" examples/rows/in-step.jsonl rows
 done
 
 echo "$passed passed, $failed failed"

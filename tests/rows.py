@@ -145,13 +145,13 @@ def following(row, commands):
 
 
 def first_rows(rows):
-    """Of each document of examples/ the first row that reads it by `check` or `run` alone; nothing where none does."""
+    """Of each document of examples/ the first row that reads it by `check`, `run` or `rows` alone; nothing where none does."""
     first = {}
     for row in rows:
-        read = row.reads("check") or row.reads("run")
+        read = row.reads("check") or row.reads("run") or row.reads("rows")
         if read:
             first.setdefault(read, row)
-    files = (file.relative_to(TOP).as_posix() for file in sorted((TOP / "examples").rglob("*.json")))
+    files = (file.relative_to(TOP).as_posix() for file in sorted((TOP / "examples").rglob("*.json*")))
     return {file: first.get(file) for file in files}
 
 

@@ -4,11 +4,11 @@ _syncaudit() {
   local before=${COMP_WORDS[COMP_CWORD - 1]}
   COMPREPLY=()
   if [ "$before" = '<' ]; then
-    mapfile -t COMPREPLY < <(compgen -f -X '!*.json' -- "$word"; compgen -d -- "$word")
+    mapfile -t COMPREPLY < <(compgen -f -X '!*.json' -- "$word"; compgen -f -X '!*.jsonl' -- "$word"; compgen -d -- "$word")
   elif [ "$COMP_CWORD" = 1 ]; then
-    mapfile -t COMPREPLY < <(compgen -W 'check firm converge certify explain run help --help --version' -- "$word")
+    mapfile -t COMPREPLY < <(compgen -W 'check firm converge certify explain rows run help --help --version' -- "$word")
   elif [ "$COMP_CWORD" = 2 ] && [ "$before" = help ]; then
-    mapfile -t COMPREPLY < <(compgen -W 'check firm converge certify explain run' -- "$word")
+    mapfile -t COMPREPLY < <(compgen -W 'check firm converge certify explain rows run' -- "$word")
   elif [ "$COMP_CWORD" = 2 ] && { [ "$before" = check ] || [ "$before" = firm ]; }; then
     mapfile -t COMPREPLY < <(compgen -W '--certify --help' -- "$word")
   elif [ "$COMP_CWORD" = 2 ] && [ "$before" = certify ]; then

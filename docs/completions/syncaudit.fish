@@ -1,11 +1,12 @@
 # Completion of syncaudit for fish: put this file into share/fish/vendor_completions.d or ~/.config/fish/completions.
-set -l commands check firm converge certify explain run
+set -l commands check firm converge certify explain rows run
 complete -c syncaudit -f
 complete -c syncaudit -n "not __fish_seen_subcommand_from $commands help" -a check -d 'Audit the check document on standard input'
 complete -c syncaudit -n "not __fish_seen_subcommand_from $commands help" -a firm -d 'Ask whether the check document is firm too'
 complete -c syncaudit -n "not __fish_seen_subcommand_from $commands help" -a converge -d 'Ask whether the cut comes right by itself'
 complete -c syncaudit -n "not __fish_seen_subcommand_from $commands help" -a certify -d 'Write the check document with the certificate of its cut'
 complete -c syncaudit -n "not __fish_seen_subcommand_from $commands help" -a explain -d 'Tell all that keeps the check document from being settled'
+complete -c syncaudit -n "not __fish_seen_subcommand_from $commands help" -a rows -d 'Audit a stream of rows, one for each name'
 complete -c syncaudit -n "not __fish_seen_subcommand_from $commands help" -a run -d 'Make the steps of a scenario and audit where they lead'
 complete -c syncaudit -n "not __fish_seen_subcommand_from $commands help" -a help -d 'Tell how to use the program'
 complete -c syncaudit -n "__fish_seen_subcommand_from help; and not __fish_seen_subcommand_from $commands" -a "$commands"

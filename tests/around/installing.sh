@@ -4,7 +4,7 @@
 release_of release
 rm -rf "$place/out/built"
 mkdir -p "$place/docs" "$place/auditor"
-cp docs/documents.md docs/reasons.md docs/*.schema.json docs/*.1 "$place/docs"
+cp docs/documents.md docs/reasons.md docs/rows.md docs/*.schema.json docs/*.1 "$place/docs"
 cp -r docs/completions "$place/docs"
 cp -r auditor/completions auditor/syncthing-audit.1 auditor/audit.schema.json "$place/auditor"
 cp -r examples "$place"
@@ -16,7 +16,7 @@ examples_named() {
     for command in $(helped); do
       help_of "$command"
     done
-  } | tr -d '\\' | grep -o 'examples/[a-z/-]*\.json' | sort -u
+  } | tr -d '\\' | grep -oE 'examples/[a-z/-]*\.jsonl?' | sort -u
 }
 
 expect "no example in the help and the man page: $(examples_named)" [ "$(examples_named | wc -l)" -ge 4 ]
@@ -43,7 +43,7 @@ files=(bin/syncaudit lib/syncaudit/syncaudit lib/syncaudit/waiting.sh share/man/
   share/zsh/site-functions/_syncaudit share/fish/vendor_completions.d/syncaudit.fish
   share/bash-completion/completions/syncthing-audit share/zsh/site-functions/_syncthing-audit
   share/fish/vendor_completions.d/syncthing-audit.fish
-  share/doc/syncaudit/documents.md share/doc/syncaudit/reasons.md share/doc/syncaudit/check-document.schema.json
+  share/doc/syncaudit/documents.md share/doc/syncaudit/reasons.md share/doc/syncaudit/rows.md share/doc/syncaudit/check-document.schema.json
   share/doc/syncaudit/explanation.schema.json share/doc/syncaudit/scenario.schema.json
   share/doc/syncaudit/audit.schema.json)
 mapfile -O "${#files[@]}" -t files < <(examples_named | sed 's,^,share/doc/syncaudit/,')

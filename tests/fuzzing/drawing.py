@@ -1,5 +1,5 @@
-"""Documents drawn at random from those of `examples/`: changed as trees, as bytes, or both. The mistakes in trees are those
-of the second reading (`second/documents.py`)."""
+"""Documents drawn at random from those of `examples/`: changed as trees, as bytes, or both; and streams of rows. The mistakes in
+trees are those of the second reading (`second/documents.py`, `second/row_texts.py`)."""
 
 import json
 import sys
@@ -8,7 +8,8 @@ from pathlib import Path
 TOP = Path(__file__).resolve().parents[2]
 sys.path.insert(0, str(TOP / "second"))
 
-from documents import Documents, holder_of  # noqa: E402
+from documents import holder_of  # noqa: E402
+from row_texts import Streams  # noqa: E402
 
 # Bytes that mean something to a reader of JSON, of names and of numbers.
 WORDS = [b'{', b'}', b'[', b']', b',', b':', b'"', b'\\', b'\\u0000', b'\\ud800', b'\0', b'\xff', b'\xc3\xa9', b'-', b'0',
@@ -30,7 +31,8 @@ class Drawing:
     """Documents by a seed, each with whether it is a scenario."""
 
     def __init__(self, seed):
-        self.made = Documents(seed)
+        self.streams = Streams(seed)
+        self.made = self.streams.made
         self.random = self.made.random
         paths = sorted((TOP / "examples").rglob("*.json"))
         self.texts = [path.read_bytes() for path in paths]
@@ -86,6 +88,17 @@ class Drawing:
         else:
             tree = self.tree(is_scenario)
             data = self.made.written(self.grown(tree) if self.made.happens(0.03) else tree)
+        return self.with_slips(data), is_scenario
+
+    def with_slips(self, data):
+        """The bytes with some slips, most often with none."""
         for _ in range(self.random.choice([0, 0, 0, 0, 1, 1, 2, 5])):
             data = self.slipped(data)
-        return data, is_scenario
+        return data
+
+    def stream_or_document(self):
+        """The bytes of one, and a command that is to read it."""
+        if self.made.happens(0.15):
+            return self.with_slips(self.streams.bytes()), "rows"
+        document, is_scenario = self.document()
+        return document, "run" if is_scenario else "check"

@@ -13,7 +13,7 @@ is_turns() {
 reads_document() (
   command=${1-}
   case $command in
-    check | firm | converge | certify | explain | run) shift ;;
+    check | firm | converge | certify | explain | rows | run) shift ;;
     *) exit 1 ;;
   esac
   met=

@@ -18,7 +18,7 @@ use Rattle.clap.specs.declared.parser.matches.ArgMatches.TheViews.{out-ArgMatche
 use Rattle.bep_words.specs.Mode.{Asks, IsCommand, ending_of, extent_of, form_of, goal_of, program, under_of}
 use Rattle.bep_words.specs.Turns.{turns_of}
 use Rattle.bep_words.specs.declared.mode.Mode.{Mode}
-use Rattle.bep_words.specs.declared.mode.Mode.TheVariants.{Check, Firm, Converge, Certify, Explain, Run}
+use Rattle.bep_words.specs.declared.mode.Mode.TheVariants.{Check, Firm, Converge, Certify, Explain, Rows, Run}
 
 -- a command that takes a flag of its own
 pub flagged : (app : App) (rule : Rule) (before made : Command) (arg : Arg) → IsCommand app before → rule_of arg ≡ rule → arg.global ≡ false → AddsArg before arg made → IsCommand (with_rule app rule) made
@@ -170,28 +170,29 @@ level_none s names h words has below required none =
 
 -- the program's own subcommands
 abbrev IsMode : Text → Type 0
-IsMode name = (name ≡ codes "check") ⊎ ((name ≡ codes "firm") ⊎ ((name ≡ codes "converge") ⊎ ((name ≡ codes "certify") ⊎ ((name ≡ codes "explain") ⊎ (name ≡ codes "run")))))
+IsMode name = (name ≡ codes "check") ⊎ ((name ≡ codes "firm") ⊎ ((name ≡ codes "converge") ⊎ ((name ≡ codes "certify") ⊎ ((name ≡ codes "explain") ⊎ ((name ≡ codes "rows") ⊎ (name ≡ codes "run"))))))
 
-abbrev names_found : Bool → Bool → Bool → Bool → Bool → Bool → Bool → Option (Text × List Text)
-names_found check firm converge certify explain run help =
-    cond check (Some (codes "check", [])) (cond firm (Some (codes "firm", [])) (cond converge (Some (codes "converge", [])) (cond certify (Some (codes "certify", [])) (cond explain (Some (codes "explain", [])) (cond run (Some (codes "run", [])) (cond help (Some (codes "help", [])) None))))))
+abbrev names_found : Bool → Bool → Bool → Bool → Bool → Bool → Bool → Bool → Option (Text × List Text)
+names_found check firm converge certify explain rows run help =
+    cond check (Some (codes "check", [])) (cond firm (Some (codes "firm", [])) (cond converge (Some (codes "converge", [])) (cond certify (Some (codes "certify", [])) (cond explain (Some (codes "explain", [])) (cond rows (Some (codes "rows", [])) (cond run (Some (codes "run", [])) (cond help (Some (codes "help", [])) None)))))))
 
-known_name : (check firm converge certify explain run help : Bool) → IfSome (option_map (λ n. n.0) (names_found check firm converge certify explain run help)) (λ name. IsMode name ⊎ (name ≡ codes "help"))
-known_name true firm converge certify explain run help = inl (inl refl)
-known_name false true converge certify explain run help = inl (inr (inl refl))
-known_name false false true certify explain run help = inl (inr (inr (inl refl)))
-known_name false false false true explain run help = inl (inr (inr (inr (inl refl))))
-known_name false false false false true run help = inl (inr (inr (inr (inr (inl refl)))))
-known_name false false false false false true help = inl (inr (inr (inr (inr (inr refl)))))
-known_name false false false false false false true = inr refl
-known_name false false false false false false false = tt
+known_name : (check firm converge certify explain rows run help : Bool) → IfSome (option_map (λ n. n.0) (names_found check firm converge certify explain rows run help)) (λ name. IsMode name ⊎ (name ≡ codes "help"))
+known_name true firm converge certify explain rows run help = inl (inl refl)
+known_name false true converge certify explain rows run help = inl (inr (inl refl))
+known_name false false true certify explain rows run help = inl (inr (inr (inl refl)))
+known_name false false false true explain rows run help = inl (inr (inr (inr (inl refl))))
+known_name false false false false true rows run help = inl (inr (inr (inr (inr (inl refl)))))
+known_name false false false false false true run help = inl (inr (inr (inr (inr (inr (inl refl))))))
+known_name false false false false false false true help = inl (inr (inr (inr (inr (inr (inr refl))))))
+known_name false false false false false false false true = inr refl
+known_name false false false false false false false false = tt
 
 only_modes : HasOnly (built program).top (names_of (built program)) IsMode
-only_modes = record { helps = refl; known = λ word. known_name _ _ _ _ _ _ _ }
+only_modes = record { helps = refl; known = λ word. known_name _ _ _ _ _ _ _ _ }
 
 -- the words name one of them
 abbrev pub NamesMode : Option Text → Type 0
-NamesMode name = (name ≡ Some (codes "check")) ⊎ ((name ≡ Some (codes "firm")) ⊎ ((name ≡ Some (codes "converge")) ⊎ ((name ≡ Some (codes "certify")) ⊎ ((name ≡ Some (codes "explain")) ⊎ (name ≡ Some (codes "run"))))))
+NamesMode name = (name ≡ Some (codes "check")) ⊎ ((name ≡ Some (codes "firm")) ⊎ ((name ≡ Some (codes "converge")) ⊎ ((name ≡ Some (codes "certify")) ⊎ ((name ≡ Some (codes "explain")) ⊎ ((name ≡ Some (codes "rows")) ⊎ (name ≡ Some (codes "run")))))))
 
 -- and no word names none
 pub not_named : NamesMode None → ⊥
@@ -200,7 +201,8 @@ not_named (inr (inl is)) = absurd cc
 not_named (inr (inr (inl is))) = absurd cc
 not_named (inr (inr (inr (inl is)))) = absurd cc
 not_named (inr (inr (inr (inr (inl is))))) = absurd cc
-not_named (inr (inr (inr (inr (inr is))))) = absurd cc
+not_named (inr (inr (inr (inr (inr (inl is)))))) = absurd cc
+not_named (inr (inr (inr (inr (inr (inr is)))))) = absurd cc
 
 entered_mode : (stop : Option (Text × List Text)) → IfSome stop (λ p. IsMode p.0) → is_some (entered (built program) stop) ≡ true
     → NamesMode (option_map (λ met. met.0) (entered (built program) stop))
@@ -210,7 +212,8 @@ entered_mode (Some p) (inr (inl is)) has = inr (inl (subst (λ name. option_map 
 entered_mode (Some p) (inr (inr (inl is))) has = inr (inr (inl (subst (λ name. option_map (λ met. met.0) (entered (built program) (Some (name, p.1))) ≡ Some (codes "converge")) (sym is) refl)))
 entered_mode (Some p) (inr (inr (inr (inl is)))) has = inr (inr (inr (inl (subst (λ name. option_map (λ met. met.0) (entered (built program) (Some (name, p.1))) ≡ Some (codes "certify")) (sym is) refl))))
 entered_mode (Some p) (inr (inr (inr (inr (inl is))))) has = inr (inr (inr (inr (inl (subst (λ name. option_map (λ met. met.0) (entered (built program) (Some (name, p.1))) ≡ Some (codes "explain")) (sym is) refl)))))
-entered_mode (Some p) (inr (inr (inr (inr (inr is))))) has = inr (inr (inr (inr (inr (subst (λ name. option_map (λ met. met.0) (entered (built program) (Some (name, p.1))) ≡ Some (codes "run")) (sym is) refl)))))
+entered_mode (Some p) (inr (inr (inr (inr (inr (inl is)))))) has = inr (inr (inr (inr (inr (inl (subst (λ name. option_map (λ met. met.0) (entered (built program) (Some (name, p.1))) ≡ Some (codes "rows")) (sym is) refl))))))
+entered_mode (Some p) (inr (inr (inr (inr (inr (inr is)))))) has = inr (inr (inr (inr (inr (inr (subst (λ name. option_map (λ met. met.0) (entered (built program) (Some (name, p.1))) ≡ Some (codes "run")) (sym is) refl))))))
 
 -- where nothing is at fault, the words name one of the program's subcommands
 asks_mode : (words : List Text) → fault_of program words ≡ [] → NamesMode (option_map (λ met. met.0) (subcommand_of program words))
@@ -227,7 +230,8 @@ mode_named words (inr (inl is)) = (Firm (under_of (subcommand_of program words))
 mode_named words (inr (inr (inl is))) = (Converge, is)
 mode_named words (inr (inr (inr (inl is)))) = (Certify (extent_of (subcommand_of program words)), (is, refl))
 mode_named words (inr (inr (inr (inr (inl is))))) = (Explain (goal_of (subcommand_of program words)) (under_of (subcommand_of program words)) (form_of (subcommand_of program words)), (is, refl, refl, refl))
-mode_named words (inr (inr (inr (inr (inr is))))) = (Run (ending_of (subcommand_of program words)) (turns_of (subcommand_of program words)), (is, refl, refl))
+mode_named words (inr (inr (inr (inr (inr (inl is)))))) = (Rows, is)
+mode_named words (inr (inr (inr (inr (inr (inr is)))))) = (Run (ending_of (subcommand_of program words)) (turns_of (subcommand_of program words)), (is, refl, refl))
 
 -- so they ask for a mode
 pub asked_mode : (words : List Text) → fault_of program words ≡ [] → (mode : Mode) × Asks words mode

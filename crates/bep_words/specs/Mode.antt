@@ -14,7 +14,7 @@ use Rattle.bep_words.specs.declared.mode.Extent.TheVariants.{All, Won}
 use Rattle.bep_words.specs.declared.mode.Goal.{Goal}
 use Rattle.bep_words.specs.declared.mode.Goal.TheVariants as goals
 use Rattle.bep_words.specs.declared.mode.Mode.{Mode}
-use Rattle.bep_words.specs.declared.mode.Mode.TheVariants.{Check, Firm, Converge, Certify, Explain, Run}
+use Rattle.bep_words.specs.declared.mode.Mode.TheVariants.{Check, Firm, Converge, Certify, Explain, Rows, Run}
 use Rattle.bep_words.specs.declared.mode.Under.{Under}
 use Rattle.bep_words.specs.declared.mode.Under.TheVariants.{Given, Winners}
 use Rattle.bep_words.specs.declared.turns.TheConstants.{MAX_TURNS}
@@ -46,6 +46,9 @@ explain_app =
 abbrev pub certify_app : App
 certify_app = with_rule (new_app (codes "certify")) (flag (codes "partial"))
 
+abbrev pub rows_app : App
+rows_app = new_app (codes "rows")
+
 abbrev pub run_app : App
 run_app = with_rule (with_rule (new_app (codes "run")) (flag (codes "document"))) turns_option
 
@@ -57,7 +60,8 @@ program =
     let converge = with_subcommand firm converge_app.top in
     let certify = with_subcommand converge certify_app.top in
     let explain = with_subcommand certify explain_app.top in
-    with_subcommand explain run_app.top
+    let rows = with_subcommand explain rows_app.top in
+    with_subcommand rows run_app.top
 
 -- a command of this shape, none of whose flags its subcommands take too
 pub record IsCommand (app : App) (command : Command) : Type 0 where
@@ -111,6 +115,7 @@ Asks words (Certify extent) = (named words ≡ Some (codes "certify")) × (exten
 Asks words (Explain goal under form) =
     (named words ≡ Some (codes "explain"))
     × (goal ≡ goal_of (subcommand_of program words)) × (under ≡ under_of (subcommand_of program words)) × (form ≡ form_of (subcommand_of program words))
+Asks words Rows = named words ≡ Some (codes "rows")
 Asks words (Run ending turns) =
     (named words ≡ Some (codes "run")) × (ending ≡ ending_of (subcommand_of program words)) × (turns ≡ turns_of (subcommand_of program words))
 
@@ -121,6 +126,7 @@ MakesFewTurns (Firm under) = ⊤
 MakesFewTurns Converge = ⊤
 MakesFewTurns (Certify extent) = ⊤
 MakesFewTurns (Explain goal under form) = ⊤
+MakesFewTurns Rows = ⊤
 MakesFewTurns (Run ending turns) = turns ≤ MAX_TURNS
 
 -- words in which nothing is at fault ask for some mode

@@ -8,6 +8,7 @@
 //!         Mode::Firm(under) => ..,
 //!         Mode::Certify(extent) => ..,
 //!         Mode::Explain(goal, under, form) => ..,
+//!         Mode::Rows => ..,
 //!         Mode::Run(ending, turns) => ..,
 //!     }
 #![tactic(auto)]

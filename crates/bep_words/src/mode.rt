@@ -23,6 +23,8 @@ pub enum Mode {
     Certify(Extent),
     /// Tell all that keeps the check document that comes on standard input from this, under these rows, in this form.
     Explain(Goal, Under, Form),
+    /// Audit the stream of rows that comes on standard input, under the winners of its names.
+    Rows,
     /// Make the steps of the scenario that comes on standard input, have threads run the cluster for so many turns each,
     /// and write this of where that leads.
     Run(Ending, u32),
@@ -114,6 +116,14 @@ const EXPLAIN_HELP: &str =
      Exit status: 0 settled, or firm, or converging, 1 not, 2 document refused, 3 usage or help, 4 out of memory, \
      5 read or write fault";
 
+const ROWS_HELP: &str =
+    "The stream FILE is a cut name by name, a header and then a row on each line: rows.md describes it. It may be of any length.\n\n\
+     Example: syncaudit rows < examples/rows/in-step.jsonl\n\
+     It answers as it reads: a line for each name at fault, then what 'syncaudit check --certify' writes. Where a line is refused, \
+     what was answered before stands, and the last line tells its number and its fault.\n\n\
+     Exit status: 0 settled, 1 not settled, 2 a line refused, 3 usage or help, 4 out of memory, \
+     5 read or write fault";
+
 const RUN_HELP: &str =
     "The document FILE is a scenario, a cluster and its steps: documents.md describes it, and what is written.\n\n\
      Example: syncaudit run < examples/scenarios/conflict.json\n\
@@ -157,8 +167,16 @@ fn command<'a>(alloc: Global) -> Result<Command<'a>, AllocError>
     let certifies = converges.subcommand(certify)?;
     let explain = explain_command(alloc)?;
     let explains = certifies.subcommand(explain)?;
+    let rows = plain_command(
+        alloc,
+        "rows",
+        "Audits the stream of rows on standard input, in memory for one row",
+        "syncaudit rows < FILE",
+        ROWS_HELP,
+    );
+    let streams = explains.subcommand(rows)?;
     let run = run_command(alloc)?;
-    explains.subcommand(run)
+    streams.subcommand(run)
 }
 
 // The program's own level.
@@ -299,6 +317,7 @@ pub fn mode_of<'a, S: AsStr>(alloc: Global, words: &'a [S]) -> Result<Mode, Erro
             under_of(&matches),
             form_of(&matches),
         )),
+        Some("rows") => Ok(Mode::Rows),
         Some("run") => Ok(Mode::Run(ending_of(&matches), turns_of(&matches))),
         _ => unreachable!(),
     }

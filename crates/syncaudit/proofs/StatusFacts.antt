@@ -1,6 +1,6 @@
 -- What comes of words where nothing was read, since memory ran out before.
 use Rattle.std.proofs.Common.{◌≡◌, ◌∙◌, ℕ, List, [], Option, Err, inl, inr, refl, sym}
-use Rattle.std.proofs.KnownBytes.{Keeps-refl}
+use Rattle.std.proofs.KnownBytes.{Appends-nil, Keeps-refl}
 use Rattle.bep_answer.specs.Status.{status_of}
 use Rattle.bep_report.specs.declared.error.ReportError.TheVariants.{Memory}
 use Rattle.clap.specs.Words.{Text, fault_of}
@@ -11,7 +11,7 @@ use Rattle.bep_words.specs.declared.mode.Extent.TheVariants.{All, Won}
 use Rattle.bep_words.specs.declared.mode.Goal.TheVariants.{Settled}
 use Rattle.bep_words.specs.declared.mode.Goal.TheVariants as goals
 use Rattle.bep_words.specs.declared.mode.Mode.{Mode}
-use Rattle.bep_words.specs.declared.mode.Mode.TheVariants.{Check, Firm, Converge, Certify, Explain, Run}
+use Rattle.bep_words.specs.declared.mode.Mode.TheVariants.{Check, Firm, Converge, Certify, Explain, Rows, Run}
 use Rattle.bep_words.specs.declared.mode.Under.TheVariants.{Given, Winners}
 
 done_without_memory : (mode : Mode) (unread held : Option (List ℕ)) (status : ℕ) → status ≡ status_of (Err Memory) → IsDone mode unread unread held held status
@@ -28,6 +28,7 @@ done_without_memory (Explain goals.Firm Given form) unread held status told = re
 done_without_memory (Explain goals.Firm Winners form) unread held status told = record { answer = Err Memory; told = told; done = Keeps-refl held }
 done_without_memory (Explain goals.Converging Given form) unread held status told = record { answer = Err Memory; told = told; done = Keeps-refl held }
 done_without_memory (Explain goals.Converging Winners form) unread held status told = record { answer = Err Memory; told = told; done = Keeps-refl held }
+done_without_memory Rows unread held status told = record { answer = Err Memory; told = told; done = ([], Appends-nil held) }
 done_without_memory (Run Report turns) unread held status told = record {
   at_rest = λ none. record { answer = Err Memory; told = told; done = Keeps-refl held };
   live = λ some. record { answer = Err Memory; told = told; done = Keeps-refl held };
@@ -56,6 +57,7 @@ run_without_memory ask words unread held status told =
       firm = λ asks zero. absurd (isnt zero);
       firm_under_winners = λ asks zero. absurd (isnt zero);
       converging = λ asks zero. absurd (isnt zero);
+      settled_rows = λ asks zero. absurd (isnt zero);
       ends_settled = λ asks zero. absurd (isnt zero);
       lives_settled = λ turns asks some zero. absurd (isnt zero);
     }

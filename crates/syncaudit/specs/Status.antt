@@ -18,6 +18,7 @@ use Rattle.bep_play.specs.Told.{IsEndTold, IsRunTold}
 use Rattle.bep_explain.specs.document.FirmExplained.{IsFirmExplanationTold}
 use Rattle.bep_explain.specs.document.Told.{IsExplanationTold}
 use Rattle.bep_explain.specs.document.UnderWinners.{IsExplanationToldUnderWinners, IsFirmExplanationToldUnderWinners}
+use Rattle.bep_rows_answer.specs.Told.{IsRowsTold, SaysSettledRows}
 use Rattle.bep_report.specs.declared.error.ReportError.TheVariants.{Memory}
 use Rattle.clap.specs.Words.{Text, fault_of}
 use Rattle.bep_words.specs.Mode.{Asks, program}
@@ -29,7 +30,7 @@ use Rattle.bep_words.specs.declared.mode.Goal.{Goal}
 use Rattle.bep_words.specs.declared.mode.Goal.TheVariants.{Settled}
 use Rattle.bep_words.specs.declared.mode.Goal.TheVariants as goals
 use Rattle.bep_words.specs.declared.mode.Mode.{Mode}
-use Rattle.bep_words.specs.declared.mode.Mode.TheVariants.{Check, Firm, Converge, Certify, Explain, Run}
+use Rattle.bep_words.specs.declared.mode.Mode.TheVariants.{Check, Firm, Converge, Certify, Explain, Rows, Run}
 use Rattle.bep_words.specs.declared.mode.Under.{Under}
 use Rattle.bep_words.specs.declared.mode.Under.TheVariants.{Given, Winners}
 
@@ -80,13 +81,14 @@ abbrev pub IsExplaining : Goal → Under → Form → Option (List ℕ) → Opti
 IsExplaining goal Given form = IsExplainingGiven goal form
 IsExplaining goal Winners form = IsExplainingUnderWinners goal form
 
--- what came of the document in each mode
+-- what came of the document, or of the stream of rows, in each mode
 abbrev pub IsDone : Mode → Option (List ℕ) → Option (List ℕ) → Option (List ℕ) → Option (List ℕ) → ℕ → Type 0
 IsDone (Check under) = IsChecking under
 IsDone (Firm under) = IsFirming under
 IsDone Converge = IsConvergeTold
 IsDone (Certify extent) = IsCertifying extent
 IsDone (Explain goal under form) = IsExplaining goal under form
+IsDone Rows = IsRowsTold
 IsDone (Run ending turns) = IsRunning ending turns
 
 -- the words ask for a mode, and this came of the document in it
@@ -113,6 +115,7 @@ pub record IsProgramRun (words : List Text) (unread left held now : Option (List
   pub firm : Asks words (Firm Given) → status ≡ 0 → SaysFirm unread left
   pub firm_under_winners : Asks words (Firm Winners) → status ≡ 0 → SaysFirmUnderWinners unread left
   pub converging : Asks words Converge → status ≡ 0 → SaysConverging unread left
+  pub settled_rows : Asks words Rows → status ≡ 0 → SaysSettledRows unread left
   pub ends_settled : Asks words (Run Report 0) → status ≡ 0 → EndsSettled unread left
   pub lives_settled : (turns : ℕ) → Asks words (Run Report turns) → 0 < turns → status ≡ 0 → EndsLived unread left
 

@@ -10,10 +10,11 @@ ghost use Rattle.bep_answer.specs.UnderWinners.{SaysFirmUnderWinners, SaysSettle
 ghost use Rattle.bep_converge_answer.specs.Convergence.{SaysConverging};
 ghost use Rattle.bep_live.specs.Lived.{EndsLived};
 ghost use Rattle.bep_play.specs.Played.{EndsSettled};
+ghost use Rattle.bep_rows_answer.specs.Told.{SaysSettledRows};
 ghost use Rattle.bep_words.specs.Mode.{Asks, program};
 ghost use Rattle.syncaudit.specs.Status.{IsCertifying, IsChecking, IsEnd, IsEnding, IsExplaining, IsExplainingGiven, IsExplainingUnderWinners, IsFirming, IsFollowed, IsLiveEnding, IsProgramRun, IsRunning, IsUnfollowed, IsWithoutWords, status_without};
 ghost use Rattle.bep_words.specs.declared.mode.Ending.TheVariants.{Report};
-ghost use Rattle.bep_words.specs.declared.mode.Mode.TheVariants.{Check, Converge, Firm, Run};
+ghost use Rattle.bep_words.specs.declared.mode.Mode.TheVariants.{Check, Converge, Firm, Rows, Run};
 ghost use Rattle.bep_words.specs.declared.mode.Under.TheVariants.{Given, Winners};
 
 use bep_answer::{
@@ -30,6 +31,7 @@ use bep_lines::Form;
 use bep_live::{live_and_tell, live_document_and_tell};
 use bep_play::{run_and_tell, run_document_and_tell};
 use bep_report::ReportError;
+use bep_rows_answer::rows_and_tell;
 use bep_words::{Ending, Extent, Goal, Mode, Under, Unfollowed, faultless_words_ask, mode_told};
 use std::alloc::{AllocError, Global};
 use std::convert::AsStr;
@@ -74,7 +76,7 @@ fn run_all<P: AllocGlobal + Eprint + Threads + Wait + Sync, R: Read, W: Write>(
 /// Does what these words ask for, the program's name first, and answers the exit status. Words in which nothing is at
 /// fault are followed. For others, and for those that ask for help or for the version, nothing is read or written.
 ///
-/// A document is read and its answer written; why there is none is told on standard error. Only where turns are asked for are
+/// A document, or a stream of rows, is read and its answer written; why there is none is told on standard error. Only where turns are asked for are
 /// threads made, and may it wait.
 pub fn run<P: AllocGlobal + Eprint + Threads + Wait + Sync, R: Read, W: Write, S: AsStr>(
     rt: &P,
@@ -97,6 +99,8 @@ pub fn run<P: AllocGlobal + Eprint + Threads + Wait + Sync, R: Read, W: Write, S
         → result ≡ 0 → SaysFirmUnderWinners (R.remaining reader.old) (R.remaining reader.new) }
     ensures converging { Asks (map S.text words.entry.now) Converge
         → result ≡ 0 → SaysConverging (R.remaining reader.old) (R.remaining reader.new) }
+    ensures settled_rows { Asks (map S.text words.entry.now) Rows
+        → result ≡ 0 → SaysSettledRows (R.remaining reader.old) (R.remaining reader.new) }
     ensures ends_settled { Asks (map S.text words.entry.now) (Run Report 0)
         → result ≡ 0 → EndsSettled (R.remaining reader.old) (R.remaining reader.new) }
     ensures lives_settled { (turns : ℕ) → Asks (map S.text words.entry.now) (Run Report turns) → 0 < turns
@@ -109,6 +113,7 @@ pub fn run<P: AllocGlobal + Eprint + Threads + Wait + Sync, R: Read, W: Write, S
         Ok(Mode::Converge) => converge_and_tell(rt, reader, writer),
         Ok(Mode::Certify(extent)) => certify(rt, extent, reader, writer),
         Ok(Mode::Explain(goal, under, form)) => explain(rt, goal, under, form, reader, writer),
+        Ok(Mode::Rows) => rows_and_tell(rt, reader, writer),
         Ok(Mode::Run(ending, turns)) => run_scenario(rt, ending, turns, reader, writer),
         Err(Unfollowed::Memory) => end(rt, Err(ReportError::Memory)),
         Err(Unfollowed::Usage) => USAGE,

@@ -25,6 +25,9 @@ returns-in-Some-certify-clause-faults g c = no_fault _ _ c.in_ok-command.ensures
 pub returns-in-Some-explain-clause-faults : goal.returns-in-Some-explain-clause-faults
 returns-in-Some-explain-clause-faults g c = no_fault _ _ c.in_ok-command.ensures c.in_ok-matches.ensures.kinds
 
+pub returns-in-Some-rows-clause-faults : goal.returns-in-Some-rows-clause-faults
+returns-in-Some-rows-clause-faults g c = no_fault _ _ c.in_ok-command.ensures c.in_ok-matches.ensures.kinds
+
 pub returns-in-Some-run-clause-faults : goal.returns-in-Some-run-clause-faults
 returns-in-Some-run-clause-faults g c = no_fault _ _ c.in_ok-command.ensures c.in_ok-matches.ensures.kinds
 
@@ -68,6 +71,12 @@ returns-in-Some-explain-clause-asked g c =
       c.form_of.ensures ∙ ap form_of (rows_told _ _ _ c.in_ok-command.ensures c.in_ok-matches.ensures.matches),
     )
 
+pub returns-in-Some-rows-clause-asked : goal.returns-in-Some-rows-clause-asked
+returns-in-Some-rows-clause-asked g c =
+    let lent = sym (ap (option_map (λ s. s.now)) c.in-Some-rows.is) ∙ c.subcommand_name.ensures in
+    let named : c.in-Some-rows.field-0.now ≡ codes "rows" = search (rules, c.in-Some-rows.is-rows) in
+    name_told _ _ _ c.in_ok-command.ensures c.in_ok-matches.ensures.matches ∙ sym lent ∙ ap Some named
+
 pub returns-in-Some-run-clause-asked : goal.returns-in-Some-run-clause-asked
 returns-in-Some-run-clause-asked g c =
     let lent = sym (ap (option_map (λ s. s.now)) c.in-Some-run.is) ∙ c.subcommand_name.ensures in
@@ -106,7 +115,11 @@ unreachable-requires g c =
                 let one : Some w.in_default.field-0.now ≡ Some (codes "explain") = lent ∙ name in
                 let same : w.in_default.field-0.now ≡ codes "explain" = cc in
                 w.in_default.not-explain (search (rules, same, w.in_default.is))
-            | inr (inr (inr (inr (inr name)))) ↦
+            | inr (inr (inr (inr (inr (inl name))))) ↦
+                let one : Some w.in_default.field-0.now ≡ Some (codes "rows") = lent ∙ name in
+                let same : w.in_default.field-0.now ≡ codes "rows" = cc in
+                w.in_default.not-rows (search (rules, same, w.in_default.is))
+            | inr (inr (inr (inr (inr (inr name))))) ↦
                 let one : Some w.in_default.field-0.now ≡ Some (codes "run") = lent ∙ name in
                 let same : w.in_default.field-0.now ≡ codes "run" = cc in
                 w.in_default.not-run (search (rules, same, w.in_default.is))

@@ -17,6 +17,7 @@ returns-in-Ok g c =
       firm = c.run.ensures.firm;
       firm_under_winners = c.run.ensures.firm_under_winners;
       converging = c.run.ensures.converging;
+      settled_rows = c.run.ensures.settled_rows;
       ends_settled = c.run.ensures.ends_settled;
       lives_settled = c.run.ensures.lives_settled;
     })
