@@ -159,6 +159,7 @@ func TestWordsThatAreNotGiven(t *testing.T) {
 	const observed, folder = `<observed id="A" address="tcp://a:22000"/>`, `<folder id="docs"/>`
 	for _, row := range []struct{ was, is, told string }{
 		{observed, `<observed id="" address="b"/>` + observed, `<observed id="..">`}, {observed, observed + `<observed id="" address="b"/>`, `<observed id="..">`},
+		{observed, `<observed address="b"/>` + observed, `<observed id="..">`}, {observed, observed + `<observed address="b"/>`, `<observed id="..">`}, {observed, `<observed id="B"/>` + observed, `<observed address="..">`},
 		{observed, `<observed id="B" address=""/>` + observed, `<observed address="..">`}, {observed, observed + `<observed id="B"/>`, `<observed address="..">`},
 		{folder, `<folder id=""/>` + folder, `<folder id="..">`}, {folder, folder + `<folder id=""/>`, `<folder id="..">`},
 		{`<mail to="me"/>`, `<mail to=""/>`, `<mail to="..">`}, {`<mail to="me"/>`, `<mail to="me&#10;Bcc: you"/>`, `<mail to="..">`}, {`<mail to="me"/>`, `<mail to="me&#13;Bcc: you"/>`, `<mail to="..">`},
