@@ -2,6 +2,8 @@ package watch
 
 import (
 	"fmt"
+	"os"
+	"path/filepath"
 	"strings"
 	"testing"
 	"time"
@@ -186,5 +188,16 @@ func TestTheOrderOfValues(t *testing.T) {
 	}
 	if len(lines) != 26 {
 		t.Errorf("%d lines", len(lines))
+	}
+}
+
+// A state whose lock can't be had is none.
+func TestAStateWithoutALock(t *testing.T) {
+	directory := t.TempDir()
+	if err := os.Mkdir(filepath.Join(directory, nameOfLock), 0o700); err != nil {
+		t.Fatal(err)
+	}
+	if state, err := OpenState(directory); err == nil || state != nil {
+		t.Errorf("%v", state)
 	}
 }
