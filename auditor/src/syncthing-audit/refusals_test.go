@@ -230,13 +230,13 @@ func TestNothingIsLeftAfterARefusal(t *testing.T) {
 		if after := allBelow(t, room); after != before {
 			t.Errorf("%s: there were\n%s, and then\n%s", refusal.text, before, after)
 		}
-		after := openedNow(t)
-		for try := 0; try < 100 && after != opened; try++ { // LevelDB opens a directory for a moment after it was closed
+		left := openedSince(t, opened)
+		for try := 0; try < 500 && len(left) > 0; try++ { // LevelDB opens a directory for a moment after it was closed
 			time.Sleep(20 * time.Millisecond)
-			after = openedNow(t)
+			left = openedSince(t, opened)
 		}
-		if after != opened {
-			t.Errorf("%s: open were\n%s, and then\n%s", refusal.text, opened, after)
+		if len(left) > 0 {
+			t.Errorf("%s: open since then are %q", refusal.text, left)
 		}
 	}
 }
@@ -260,20 +260,30 @@ func TestAPathBelowAFile(t *testing.T) {
 	}
 }
 
-// openedNow tells which files are open.
-func openedNow(t *testing.T) string {
+// openedSince tells which files are open that weren't, each as often as it is. What an earlier test left may be closed meanwhile.
+func openedSince(t *testing.T, before map[string]int) []string {
+	var since []string
+	for path, times := range openedNow(t) {
+		for ; times > before[path]; times-- {
+			since = append(since, path)
+		}
+	}
+	return since
+}
+
+// openedNow tells which files are open, and how often each is.
+func openedNow(t *testing.T) map[string]int {
 	entries, err := os.ReadDir("/proc/self/fd")
 	if err != nil {
 		t.Skip(err)
 	}
-	var all []string
+	opened := map[string]int{}
 	for _, entry := range entries {
 		if path, err := os.Readlink("/proc/self/fd/" + entry.Name()); err == nil && !strings.HasPrefix(path, "/proc/") && !strings.HasPrefix(path, "anon_inode:") {
-			all = append(all, path)
+			opened[path]++
 		}
 	}
-	sort.Strings(all)
-	return strings.Join(all, "\n")
+	return opened
 }
 
 // allBelow tells all that stands below a directory, with sizes.
