@@ -5,6 +5,7 @@ import (
 	"os"
 	"path/filepath"
 	"testing"
+	"time"
 
 	"github.com/syndtr/goleveldb/leveldb"
 	"github.com/syndtr/goleveldb/leveldb/util"
@@ -28,7 +29,15 @@ func fill(t *testing.T, directory string) {
 	if err := opened.CompactRange(util.Range{}); err != nil {
 		t.Fatal(err)
 	}
+	for try := 0; try < 500 && len(tablesIn(directory)) > 1; try++ { // LevelDB removes tables that it has replaced some time later
+		time.Sleep(20 * time.Millisecond)
+	}
 	put(100, 200)
+}
+
+func tablesIn(directory string) []string {
+	paths, _ := filepath.Glob(filepath.Join(directory, "*.ldb"))
+	return paths
 }
 
 // theOne gives the one file of a kind.
