@@ -8,6 +8,7 @@ import (
 	"io/fs"
 	"os"
 	"path/filepath"
+	"runtime"
 	"sort"
 	"strconv"
 	"strings"
@@ -231,8 +232,9 @@ func TestNothingIsLeftAfterARefusal(t *testing.T) {
 			t.Errorf("%s: there were\n%s, and then\n%s", refusal.text, before, after)
 		}
 		left := openedSince(t, opened)
-		for try := 0; try < 500 && len(left) > 0; try++ { // LevelDB opens a directory for a moment after it was closed
-			time.Sleep(20 * time.Millisecond)
+		for try := 0; try < 600 && len(left) > 0; try++ { // the directory of an index's copy stays open until what nobody holds is collected
+			runtime.GC()
+			time.Sleep(50 * time.Millisecond)
 			left = openedSince(t, opened)
 		}
 		if len(left) > 0 {
