@@ -46,7 +46,12 @@ def say_whether_firm(written):
     return firm.answers(written)[0]
 
 
-COMMANDS = {"certify": certify, "check": answer, "explain": explain, "firm": say_whether_firm, "converge": converge.answer}
+def say_whether_it_converges(written):
+    """What `syncaudit converge` writes for the document, and its exit status."""
+    return converge.answers(written)[0]
+
+
+COMMANDS = {"certify": certify, "check": answer, "explain": explain, "firm": say_whether_firm, "converge": say_whether_it_converges}
 STATUS_OF_USAGE = 3
 
 

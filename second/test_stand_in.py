@@ -1,0 +1,23 @@
+#!/usr/bin/env python3
+"""What stands for the program in the tests of real devices answers each word that those ask."""
+
+import subprocess
+import sys
+import unittest
+from pathlib import Path
+
+TOP = Path(__file__).resolve().parent.parent
+DOCUMENT = TOP / "examples/old-file-on-its-way.json"
+
+
+class StandIn(unittest.TestCase):
+    def test_each_word_has_an_answer(self):
+        for words, first in (("check", b"not settled: FlightAhead docs a.txt on 3"), ("check --certify", b"not settled: FlightAhead docs a.txt on 3"),
+                             ("firm", b"not firm: FlightAhead docs a.txt on 3"), ("converge", b"converging"), ("explain", b"FlightAhead docs a.txt on 3")):
+            with self.subTest(words), DOCUMENT.open("rb") as document:
+                done = subprocess.run([sys.executable, TOP / "auditor/test/stand_in.py", *words.split()], stdin=document, capture_output=True)
+                self.assertEqual(done.stdout.splitlines()[:1], [first], done.stderr)
+
+
+if __name__ == "__main__":
+    unittest.main()
