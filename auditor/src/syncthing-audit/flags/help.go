@@ -27,29 +27,27 @@ func HelpOnStatuses(statuses []Status) string {
 	for _, status := range statuses {
 		texts = append(texts, status.Numbers[len(status.Numbers)-1]+" "+status.Help)
 	}
-	lines, line := []string{}, "Exit status:"
-	for _, word := range strings.Fields(strings.Join(texts, "; ") + ".") {
-		if len(line)+1+len(word) > lineWidth {
-			lines, line = append(lines, line), word
-		} else {
-			line += " " + word
-		}
-	}
-	return strings.Join(append(lines, line), "\n")
+	return strings.Join(filledLines("Exit status: ", strings.Join(texts, "; ")+".", ""), "\n")
 }
 
-// wrapped gives a text behind its head over as many lines as it takes.
+// wrapped gives a flag's text behind its head over as many lines as it takes.
 func wrapped(head, text string) []string {
-	lines, line := []string{}, head+"  "
-	if len(line) < indent {
-		line += strings.Repeat(" ", indent-len(line))
+	head += "  "
+	if len(head) < indent {
+		head += strings.Repeat(" ", indent-len(head))
 	}
+	return filledLines(head, text, strings.Repeat(" ", indent))
+}
+
+// filledLines gives a text behind its head, over lines of which each further one begins so.
+func filledLines(line, text, begin string) []string {
+	lines := []string{}
 	for place, word := range strings.Fields(text) {
 		switch {
 		case place == 0:
 			line += word
 		case len(line)+1+len(word) > lineWidth:
-			lines, line = append(lines, line), strings.Repeat(" ", indent)+word
+			lines, line = append(lines, line), begin+word
 		default:
 			line += " " + word
 		}

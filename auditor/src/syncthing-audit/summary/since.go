@@ -62,8 +62,13 @@ func (p *printer) changedEverywhere(since *history.Since) {
 			"A program that puts a file's time back after it wrote looks the same", shell.Quoted(string(changed.Name)), changed.Folder, p.day(changed.Before), p.day(changed.Since),
 			p.named.all(changed.Devices), p.day(changed.Since))
 	}
-	if more := since.Count - int64(shown(len(since.Changed))); more > 0 {
-		p.line("  and %s more (--json has %s of them)", thousands(more), thousands(int64(len(since.Changed))))
+	p.notShown(since.Count, len(since.Changed))
+}
+
+// notShown says how many files aren't shown of all, and how many of them are kept.
+func (p *printer) notShown(all int64, kept int) {
+	if more := all - int64(shown(kept)); more > 0 {
+		p.line("  and %s more (--json has %s of them)", thousands(more), thousands(int64(kept)))
 	}
 }
 
@@ -74,14 +79,12 @@ func (p *printer) changedAndRecorded(since *history.Since) {
 	}
 	p.line("%s where it is recorded so, under one time and size, and devices that lack it take it. The answer below takes it for an edit",
 		counted(since.Takes, "file has other bytes than before", "files have other bytes than before, each"))
-	for _, one := range since.Taken[:shown(len(since.Taken))] {
+	for _, taken := range since.Taken[:shown(len(since.Taken))] {
 		p.line("  %s in %s: its bytes changed between %s and %s on %s, and are recorded there. If nobody changed it, first copy it elsewhere from a device or a backup that has the bytes "+
 			"before ('syncthing-audit find' looks for them), and take no step below that sends it from %s. A program that puts a file's time back after it wrote looks the same",
-			shell.Quoted(string(one.Name)), one.Folder, p.day(one.Before), p.day(one.Since), p.named.all(one.Devices), p.named.all(one.Devices))
+			shell.Quoted(string(taken.Name)), taken.Folder, p.day(taken.Before), p.day(taken.Since), p.named.all(taken.Devices), p.named.all(taken.Devices))
 	}
-	if more := since.Takes - int64(shown(len(since.Taken))); more > 0 {
-		p.line("  and %s more (--json has %s of them)", thousands(more), thousands(int64(len(since.Taken))))
-	}
+	p.notShown(since.Takes, len(since.Taken))
 }
 
 // news says what is new since the audit before.
