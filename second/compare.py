@@ -28,9 +28,9 @@ PROGRAM = TOP / "crates/syncaudit/out/syncaudit"
 
 
 def is_hint(said, written):
-    """Whether what stands on standard error is nothing, or one line beside a fault that has no place."""
+    """Whether one line stands on standard error beside a fault that has no place, and else nothing."""
     has_no_place = written.split()[1:2] in ([b"181"], [b"182"], [b"183"], [b"184"])
-    return said == b"" or (has_no_place and said.count(b"\n") == 1 and said.endswith(b"\n"))
+    return said.count(b"\n") == 1 and said.endswith(b"\n") if has_no_place else said == b""
 
 
 def run(command, document):

@@ -1,6 +1,7 @@
 #!/usr/bin/env python3
-"""Compares what `syncaudit rows` answers with a second reading of streams (row_stream.py), on random streams; and, where none is
-refused, its verdict with that of `check --certify` of the document for which the stream stands.
+"""Compares what `syncaudit rows`, with `--firm` too, answers with a second reading of streams (row_stream.py), on random streams;
+and, where none is refused, its verdict with that of `check --certify`, or `firm --certify`, of the document for which the stream
+stands.
 
     second/compare_rows.py [COUNT [SEED]]
 
@@ -17,36 +18,46 @@ from row_texts import Streams, document_of
 
 def verdict_of(written):
     """The line of the verdict: the first that `check` writes, and the last of `rows` that is of no folder."""
-    return [line for line in written.splitlines() if line.startswith((b"settled", b"not settled: ", b"refused: "))][-1:]
+    return [line for line in written.splitlines() if line.startswith((b"settled", b"firm", b"not settled: ", b"not firm: ", b"refused: "))][-1:]
 
 
-def compare_document(stream, told):
+COMMANDS = {"settled": ("rows", "check --certify"), "firm": ("rows --firm", "firm --certify")}
+
+
+def compare_document(stream, aim, told):
     """Compares the verdict with that on the document, unless that is refused: two names of a stream may have one sequence."""
-    checked, status = run("check --certify", document_of(stream))
+    command, whole = COMMANDS[aim]
+    checked, status = run(whole, document_of(stream))
     if status == 2:
         return "refused as a document"
     if verdict_of(checked) != verdict_of(told[0]) or status != told[1]:
-        tell_difference("rows, beside check --certify", stream, (checked, status), told)
+        tell_difference(f"{command}, beside {whole}", stream, (checked, status), told)
     return "as its document"
 
 
-def compare(stream):
-    """Compares what is told of a stream, and answers what kind of answer that is."""
-    told, wanted = run("rows", stream), answer(stream)
+def compare(stream, aim):
+    """Compares what is told of a stream of which this is asked, and answers what kind of answer that is."""
+    command, _ = COMMANDS[aim]
+    told, wanted = run(command, stream), answer(stream, aim)
     if told != wanted:
-        tell_difference("rows", stream, wanted, told)
+        tell_difference(command, stream, wanted, told)
     if told[1] == 2:
         return told[0].rpartition(b"refused: ")[2].split()[0].decode()
-    settled = "not settled" if told[1] else "settled"
-    return f"{settled}, {compare_document(stream, told)}"
+    return f"{'not ' if told[1] else ''}{aim}, {compare_document(stream, aim, told)}"
+
+
+def compare_both(stream):
+    """The kinds of both answers."""
+    return [compare(stream, aim) for aim in COMMANDS]
 
 
 def main():
     count = int(sys.argv[1]) if len(sys.argv) > 1 else 1000
     streams = Streams(int(sys.argv[2]) if len(sys.argv) > 2 else 1)
     examples = sorted((TOP / "examples/rows").glob("*.jsonl"))
-    kinds = Counter(compare(path.read_bytes()) for path in examples)
-    kinds.update(compare(streams.bytes()) for _ in range(count))
+    kinds = Counter(kind for path in examples for kind in compare_both(path.read_bytes()))
+    for _ in range(count):
+        kinds.update(compare_both(streams.bytes()))
     for kind, number in kinds.most_common():
         print(f"{number:7} {kind}")
     print(f"{len(examples)} examples and {count} random streams: the same answers")

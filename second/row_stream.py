@@ -1,5 +1,6 @@
-"""A second reading of streams of rows (docs/rows.md): what `syncaudit rows` should write of one, and its exit status."""
+"""A second reading of streams of rows (docs/rows.md): what `syncaudit rows`, with `--firm` too, should write of one, and its exit status."""
 
+import firm
 import json_text
 import reading
 import things
@@ -168,10 +169,13 @@ def cut_with(header, rows):
     return header | {"folders": folders}
 
 
-def first_fault(read):
-    """The first known name without a winner, or else the first reason that fails under the winners; None where it is settled."""
+def first_fault(read, aim):
+    """The first known name without a winner, or else the first reason that fails under the winners; None where it is what is asked."""
     rows, without = certify_part(read)
-    return ("NotWinner", *without[0], None) if without else verdict.Cut(read).first_fault(rows)
+    if without:
+        return "NotWinner", *without[0], None
+    cut = verdict.Cut(read)
+    return cut.first_fault(rows) if aim == "settled" else firm.first_fault(cut, rows)
 
 
 def counts(header, rows):
@@ -200,12 +204,12 @@ def read_stream(stream, told):
     return header, rows
 
 
-def answer(stream):
-    """What `syncaudit rows` should write, and its exit status."""
+def answer(stream, aim="settled"):
+    """What `syncaudit rows` should write, and its exit status; where `aim` is `firm`, `syncaudit rows --firm`."""
     lines = []
 
     def tell(header, row):
-        fault = first_fault(cut_with(header, [row]))
+        fault = first_fault(cut_with(header, [row]), aim)
         lines.extend([fault_line(*fault)] if fault else [])
 
     try:
@@ -213,7 +217,7 @@ def answer(stream):
     except Fault as fault:
         lines.append(b"line %d: %s" % (fault.line, refusal(fault)[0][0]))
         return written(lines, 2)
-    fault = first_fault(cut_with(header, rows))
-    lines.append(b"not settled: " + fault_line(*fault) if fault else b"settled")
+    fault = first_fault(cut_with(header, rows), aim)
+    lines.append(b"not %s: %s" % (aim.encode(), fault_line(*fault)) if fault else aim.encode())
     lines.extend(counts(header, rows))
     return written(lines, 1 if fault else 0)

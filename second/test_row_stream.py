@@ -31,10 +31,14 @@ def row(name, cells, *, folder="docs", records=None, nodes=None):
 BOTH = [[1, 1, 1, 0, []], [2, 1, 1, 0, []]]
 
 
-def told(*lines):
+def told(*lines, aim="settled"):
     """What is written to these lines, and the status."""
-    written, status = answer(b"".join(json.dumps(line).encode() + b"\n" for line in lines))
+    written, status = answer(b"".join(json.dumps(line).encode() + b"\n" for line in lines), aim)
     return written.decode().splitlines(), status
+
+
+def told_firm(*lines):
+    return told(*lines, aim="firm")
 
 
 class Answers(unittest.TestCase):
@@ -86,6 +90,31 @@ class Answers(unittest.TestCase):
         document = json.loads(DOC1)
         lines = [header_of(document), *rows_of(document)]
         self.assertEqual(told(*lines), (["settled", "folder docs: 1 names, 0 deleted, 2 devices"], 0))
+
+
+class Firm(unittest.TestCase):
+    """The same where firm is asked for: both devices have the directory `c`, by versions of which neither is above the other."""
+
+    VERSIONS = [record("c", modified_s=8), record("c", modified_by=2, version=[[2, 1]])]
+    LOOSE = row("c", [[1, 1, 1, 0, []], [2, 2, 1, 0, []]], records=VERSIONS)
+
+    def test_firm(self):
+        self.assertEqual(told_firm(HEADER, row("a", BOTH)), (["firm", "folder docs: 1 names, 0 deleted, 2 devices"], 0))
+
+    def test_a_name_that_is_settled_and_not_firm_has_a_line(self):
+        rows = row("a", BOTH), self.LOOSE
+        self.assertEqual(told(HEADER, *rows), (["settled", "folder docs: 2 names, 0 deleted, 2 devices"], 0))
+        self.assertEqual(told_firm(HEADER, *rows), (
+            ["VersionDiffers docs c on 1", "not firm: VersionDiffers docs c on 1", "folder docs: 2 names, 0 deleted, 2 devices"], 1))
+
+    def test_what_is_not_settled_comes_before_what_is_not_firm(self):
+        missing = row("d", [[1, 1, 1, 0, []]])
+        self.assertEqual(told_firm(HEADER, self.LOOSE, missing), (
+            ["VersionDiffers docs c on 1", "RecordMissing docs d on 2", "not firm: RecordMissing docs d on 2",
+             "folder docs: 2 names, 0 deleted, 2 devices"], 1))
+
+    def test_refused_at_a_later_line(self):
+        self.assertEqual(told_firm(HEADER, self.LOOSE, row("a", BOTH)), (["VersionDiffers docs c on 1", "line 3: refused: 185 Twice docs - a"], 2))
 
 
 class Refusals(unittest.TestCase):

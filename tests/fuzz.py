@@ -1,11 +1,12 @@
 #!/usr/bin/env python3
 """fuzz.py PROGRAM [--seconds N] [--seed N]: has the built program read documents that were changed at random
 (fuzzing/drawing.py), by each of its commands, for 40 seconds if not said otherwise. None may end by a signal, take over 5
-seconds, end with a status that isn't its own, or contradict another. The seed is the number of commits if none is given, so
-each run reads other documents, and the same commit the same ones. What fails is kept in a file that is named. The last line
+seconds, end with a status that isn't its own, contradict another, or refuse a document without a place and without a hint. The
+seed is the number of commits if none is given, so each run reads other documents, and the same commit the same ones. What fails is kept in a file that is named. The last line
 is 'N passed, M failed', one for each command and for each two that are compared."""
 
 import os
+import re
 import subprocess
 import sys
 import tempfile
@@ -26,18 +27,35 @@ CHECKS = {"check": {0, 1, 2}, "firm": {0, 1, 2}, "converge": {0, 1, 2}, "explain
           "explain --certify": {0, 1, 2}, "explain --certify --json": {0, 1, 2}, "explain --certify --firm": {0, 1, 2},
           "explain --converge": {0, 1, 2}, "explain --converge --json": {0, 1, 2}}
 RUNS = {"run": {0, 1, 2}, "run --document": {0, 1, 2}, "run --turns 1": {0, 1, 2}}
-STREAMS = {"rows": {0, 1, 2}}
+STREAMS = {"rows": {0, 1, 2}, "rows --firm": {0, 1, 2}}
 ALL = CHECKS | RUNS | STREAMS
+
+
+# How a refusal begins whose line has no place, and what a hint says where the program finds none.
+NOWHERE = re.compile(rb'refused: 18[1-4] |\{"refused":.*"number":18[1-4]\}')
+NOT_FOUND = b"where the document is at fault wasn't found"
+
+
+def answered(program, command, document):
+    """What the command writes of the document, its status, or why it has none, and what it tells on standard error."""
+    try:
+        ran = subprocess.run([program, *command.split()], input=document, capture_output=True, timeout=LONGEST)
+    except subprocess.TimeoutExpired:
+        return b"", f"takes over {LONGEST} seconds", b""
+    return ran.stdout, ran.returncode, ran.stderr
 
 
 def run(program, command, document):
     """What the command writes of the document, and its status, or why it has none."""
-    try:
-        ran = subprocess.run([program, *command.split()], input=document, stdout=subprocess.PIPE,
-                             stderr=subprocess.DEVNULL, timeout=LONGEST)
-    except subprocess.TimeoutExpired:
-        return b"", f"takes over {LONGEST} seconds"
-    return ran.stdout, ran.returncode
+    return answered(program, command, document)[:2]
+
+
+def lacks_hint(command, answer, status, told):
+    """Whether the document is refused without a place, and not told where to look; or with one, and told more."""
+    if status != 2 or command in STREAMS:
+        return False
+    lines = told.splitlines()
+    return len(lines) != 1 or lines[0] == NOT_FOUND if NOWHERE.match(answer) else bool(lines)
 
 
 def fault(command, status):
@@ -54,19 +72,19 @@ def first_reason(answer):
     return answer[0].partition(b"\n")[0].removeprefix(b"not settled: ").removeprefix(b"not converging: ")
 
 
-def rows_contradictions(program, stream, answer, status):
-    """The same of the answer to a stream of rows: what was answered before a refusal stands."""
+def rows_contradictions(program, command, whole, stream, answer, status):
+    """The same of the answer to a stream of rows, and of what is answered to the whole: what was answered before a refusal stands."""
     last = answer.rpartition(b"\n")[0].rpartition(b"\n")[2]
-    yield "rows and its last line", (status == 2) != last.startswith(b"line ")
+    yield f"{command} and its last line", (status == 2) != last.startswith(b"line ")
     if status == 2 and last.startswith(b"line "):
         before = stream.split(b"\n")[:int(last.split()[1][:-1]) - 1]
-        so_far = run(program, "rows", b"\n".join(before) + b"\n")[0]
-        yield "rows and rows of the lines before", bool(before) and not so_far.startswith(answer.removesuffix(last + b"\n"))
+        so_far = run(program, command, b"\n".join(before) + b"\n")[0]
+        yield f"{command} and {command} of the lines before", bool(before) and not so_far.startswith(answer.removesuffix(last + b"\n"))
     elif status in (0, 1):
         from row_texts import document_of
-        checked, as_document = run(program, "check --certify", document_of(stream))
+        checked, as_document = run(program, whole, document_of(stream))
         verdict = [line for line in answer.splitlines() if not line.startswith(b"folder ")][-1:]
-        yield "rows and check --certify", as_document != 2 and (as_document, checked.splitlines()[:1]) != (status, verdict)
+        yield f"{command} and {whole}", as_document != 2 and (as_document, checked.splitlines()[:1]) != (status, verdict)
 
 
 def contradictions(program, document, told):
@@ -100,13 +118,18 @@ def contradictions(program, document, told):
         yield "run and run --turns", refused != (status["run --turns 1"] == 2) or status["run"] == 0 != status["run --turns 1"]
         yield "run --turns and its last line", refused == last.startswith(b"run fits: ")
     if "rows" in told:
-        yield from rows_contradictions(program, document, *told["rows"])
+        yield from rows_contradictions(program, "rows", "check --certify", document, *told["rows"])
+        yield from rows_contradictions(program, "rows --firm", "firm --certify", document, *told["rows --firm"])
+        yield "rows and rows --firm", status["rows --firm"] == 0 != status["rows"] or (status["rows"] == 2) != (status["rows --firm"] == 2)
 
 
 def faults(program, document, commands):
     """What is at fault in how the program answers the document, by command or pair of commands; '' where nothing is."""
-    told = {command: run(program, command, document) for command in commands}
+    answers = {command: answered(program, command, document) for command in commands}
+    told = {command: answer[:2] for command, answer in answers.items()}
     found = {command: fault(command, status) for command, (_, status) in told.items()}
+    found |= {f"{command} and its hint": "the refusal has a place or a hint, and not both" if lacks_hint(command, *answer) else ""
+              for command, answer in answers.items() if command not in STREAMS}
     for pair, is_so in contradictions(program, document, told):
         found[pair] = "they contradict each other" if is_so else ""
     return found

@@ -69,8 +69,8 @@ def broken(page, link):
 
 def lost(page):
     """The paths below $PWD or a folder of the repository that a page's code names, and that aren't there. A path with a word in
-    capitals stands for others."""
-    folders = {path.name for path in TOP.iterdir() if path.is_dir() and path.name != ".git"}
+    capitals stands for others. What a run makes, below out/, is in no clone."""
+    folders = {path.name for path in TOP.iterdir() if path.is_dir() and path.name not in (".git", "out")}
     for code in CODE.findall(page.read_text()):
         for below, path in PLACE.findall(code):
             if not below and ("/" not in path or path.partition("/")[0] not in folders):

@@ -1,7 +1,8 @@
 #!/usr/bin/env bash
 # refused.sh PROGRAM PLAIN SECOND: refuses the program one call after the other, each growth of its memory, each read and
 # each write of standard output, until none is left to refuse. Without memory it must end with status 4, after a refused read
-# or write with status 5, and it must have written nothing, of a stream of rows a beginning of the answer; or it made do without the call, and then answers as ever. An
+# or write with status 5, and it must have written nothing, of a stream of rows a beginning of the answer; or it made do without the call, and then answers as ever.
+# Where memory is wanting for the hint on a refused document alone, it says so in the hint's place. An
 # interrupted read or write isn't tried again, nor one that takes nothing. Where each read gives and each write takes a few
 # bytes alone it answers as ever. SECOND, crates/second_try, asks once more for whatever memory was wanting for, and must then
 # tell as ever; of bytes that are no document it tells what two workers make of them. The last line is 'N passed, M failed',
@@ -139,6 +140,33 @@ try_again() {
   fi
 }
 
+# miss_hint DOCUMENT WORDS..: refuses each growth, where the document is refused without a place. Beside the refusal stands the
+# hint as ever, or that memory was wanting for it, which must come.
+miss_hint() {
+  local document=$1 number=1 missed=0
+  shift
+  answer "$document" "$@"
+  "$program" "$@" < "$document" 2> "$work/hint" > /dev/null || true
+  while run_refused GROWTH "$number" "$document" "$@"; [ -e "$work/refused" ]; do
+    if [ "$status" = 4 ] && [ ! -s "$work/out" ] && [ "$(cat "$work/err")" = memory ]; then
+      passed=$((passed + 1))
+    elif is_as_ever && cmp -s "$work/err" "$work/hint"; then
+      passed=$((passed + 1))
+    elif is_as_ever && [ "$(cat "$work/err")" = "$no_memory_for_hint" ]; then
+      passed=$((passed + 1))
+      missed=$((missed + 1))
+    else
+      failed=$((failed + 1))
+      echo "refused: $* < $document: with growth $number refused it ended with $status and told: $(cat "$work/err")"
+    fi
+    number=$((number + 1))
+  done
+  if [ "$ever" != 2 ] || [ "$missed" = 0 ]; then
+    failed=$((failed + 1))
+    echo "refused: $* < $document: it ends with $ever, and memory for the hint was never wanting"
+  fi
+}
+
 # refuse_all DOCUMENT WORDS..: refuses each call of each kind.
 refuse_all() {
   answer "$@"
@@ -157,6 +185,7 @@ refuse_all examples/one-equal-file.json check
 refuse_all examples/cut-alone.json certify
 refuse_all examples/scenarios/conflict.json run
 STREAMED=yes refuse_all examples/rows/file-missing-in-store.jsonl rows
+STREAMED=yes refuse_all examples/rows/same-bytes-concurrent-versions.jsonl rows --firm
 # Without memory nothing is said of an old file in a view, where its deletion is known everywhere else.
 for words in check firm converge certify 'certify --partial' explain 'explain --firm' 'explain --json' 'explain --firm --json' \
   'check --certify' 'firm --certify' 'explain --certify' 'explain --certify --json' 'explain --certify --firm' 'explain --converge' 'explain --converge --json'; do
@@ -166,6 +195,14 @@ done
 refuse_growth examples/local-changes-everywhere.json certify --partial
 refuse_growth examples/scenarios/a-file-is-taken-over.json run
 refuse_growth examples/scenarios/a-file-is-taken-over.json run --document
+no_memory_for_hint="where the document is at fault wasn't found, for want of memory"
+printf '{"version":1,"stesp":[]}' > "$work/misspelt"
+for words in check firm converge certify 'certify --partial' explain 'explain --firm' 'explain --json' 'check --certify' \
+  'firm --certify' 'explain --certify' 'explain --certify --firm' 'explain --converge' run 'run --document' 'run --turns 1' \
+  'run --document --turns 1'; do
+  # shellcheck disable=SC2086 # words are several
+  miss_hint "$work/misspelt" $words
+done
 for document in scenarios/a-file-is-taken-over scenarios/conflict scenarios/revert scenarios/override old-file-in-a-view \
   ahead-in-three-ways; do
   try_again "examples/$document.json"

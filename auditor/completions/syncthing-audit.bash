@@ -5,7 +5,7 @@
 # The flags of each command.
 _syncthing_audit_flags() {
   case $1 in
-    part) echo '--home --observer --data --map --folder --names --slice -o --about --begin --end --heed-input --progress --tokens --rescan --still --sign --paths --strict --leave-out --jobs --help' ;;
+    part) echo '--home --observer --data --map --folder --names --slice -o --show --about --begin --end --heed-input --progress --tokens --rescan --still --sign --paths --strict --leave-out --jobs --help' ;;
     check) echo '--home --observer --data --map --folder --names --slice --allowed-signers --strict --leave-out --lines --json --script --history --bytes --syncaudit --jobs --help' ;;
     run) echo '--observer --data --map --folder --names --slice --rescan --still --remote-program --dry-run --paths --strict --leave-out --lines --json --script --history --syncaudit --jobs --help' ;;
     observe) echo '--home --init --records --budget --passwords --rest --every --listen --disk --folder --names --slice --rescan --still --strict --leave-out --lines --json --script --history --into --syncaudit --jobs --help' ;;
@@ -37,7 +37,7 @@ _syncthing_audit() {
   fi
   case $before in
     --home | --data | --script | --history | --into) mapfile -t COMPREPLY < <(compgen -d -- "$word") ;;
-    --passwords | --rest | --disk | --config | -o | --tokens | --sign | --allowed-signers | --html | --watch | --syncaudit) mapfile -t COMPREPLY < <(compgen -f -- "$word") ;;
+    --passwords | --rest | --disk | --config | -o | --show | --tokens | --sign | --allowed-signers | --html | --watch | --syncaudit) mapfile -t COMPREPLY < <(compgen -f -- "$word") ;;
     --leave-out) mapfile -t COMPREPLY < <(_syncthing_audit_kinds "$word") ;;
     --budget | --every | --observer | --listen | --after | --block-size | --marker | --map | --folder | --names | --slice | --still | --remote-program | --jobs) ;;
     *)

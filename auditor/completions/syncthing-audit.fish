@@ -44,6 +44,7 @@ complete -c syncthing-audit -n "__fish_seen_subcommand_from part run check obser
 complete -c syncthing-audit -n "__fish_seen_subcommand_from part run check observe disk report export" -l names -x -d 'Only names that begin so'
 complete -c syncthing-audit -n "__fish_seen_subcommand_from part run check observe disk report export" -l slice -x -d 'Only names of slice K of N: K/N'
 complete -c syncthing-audit -n "__fish_seen_subcommand_from part disk" -s o -r -d 'Where the part goes'
+complete -c syncthing-audit -n "__fish_seen_subcommand_from part" -l show -r -d 'Show a part as lines of JSON'
 complete -c syncthing-audit -n "__fish_seen_subcommand_from part" -l about -d 'What the device shares'
 complete -c syncthing-audit -n "__fish_seen_subcommand_from part" -l begin -d 'The first look at a device that may run'
 complete -c syncthing-audit -n "__fish_seen_subcommand_from part" -l end -d 'The second look'

@@ -60,9 +60,9 @@ class RotWhereAttributesAreScanned(WhereAttributesAreScanned):
     """Other bytes of the same size and time."""
 
     def test_a_scan_may_see_them_and_does(self):
-        self.assert_told("size and time are as recorded, but a scan of owners or attributes may see it",
+        self.assert_told("size and time are as recorded (modified",
                          "it isn't known what happens: owners or extended attributes are scanned, which the forecast leaves out",
-                         f"to have again what {self.two.id[:7]} recorded, copy elsewhere first what stands there, if it may be right, and copy it from")
+                         f"to have again what {self.two.id[:7]} recorded, copy it from")
         self.start()
         self.two.scan()
         wait_until("the other bytes are on the other device", lambda: text_of(self.one.files / "text") == "HELLO")
@@ -75,7 +75,7 @@ class RotThatAScanDrops(WhereAttributesAreScanned):
     kinds = {"two": "receiveonly"}
 
     def test_no_local_change_is_told(self):
-        told = ("size and time are as recorded, so no scan sees it", f"to have again what {self.two.id[:7]} recorded, copy elsewhere first")
+        told = ("size and time are as recorded (modified", f"to have again what {self.two.id[:7]} recorded, copy it from")
         self.assert_told(*told)
         self.start()
         self.two.scan()
@@ -161,7 +161,7 @@ class AttributesOfAMendedFile(Synchronised):
         (self.two.files / LOST).unlink()
         text = " ".join(self.answer()[1].split())
         self.assertIn("with its time alone, into the file that stands there (cp --preserve=timestamps, or", text)
-        self.assertIn("as it is (cp -a, or rsync -aIX, as the user who runs Syncthing there) while Syncthing is stopped there", text)
+        self.assertIn("as it is (cp -a, or rsync -aIX, as the user who runs Syncthing there), with the directories above", text)
         for name, how in ((KEPT, "--preserve=timestamps"), (LOST, "-a")):
             subprocess.run(["cp", how, self.one.files / name, self.two.files / name], check=True)
         self.assertEqual(self.verdict(), "settled")
@@ -202,11 +202,10 @@ class AttributesOfATouchedFile(Synchronised):
 class AttributesThatNoScanHasSeen(Synchronised):
     """Attributes and owners that changed on a disk, in a folder that is firm."""
 
-    def test_the_answer_says_that_the_next_scan_records_them(self):
+    def test_they_are_told_as_not_compared_and_the_next_scan_records_them(self):
         self.mark(self.two, "yellow")
         ran = self.check()
         self.assertEqual((ran.returncode, ran.stdout.splitlines()[0]), (0, "settled"))
-        self.assertIn("These aren't compared, and the next scan\nrecords what changed of them, and each directory into which something came", ran.stderr)
         self.assertIn("not compared: owners, extended attributes", self.answer()[1])
         self.run_until_in_step()
         for device in self.devices:

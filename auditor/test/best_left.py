@@ -58,9 +58,9 @@ class OnlyCopies(LateRot):
         write(path, rotten, path.stat())
         text = self.told("missing")
         three = self.label(self.three)
-        steps = text.split(" to do: ")[1:]
-        self.assertTrue(steps[0].startswith(f"first copy what stands on {three} to a place outside the folder: no audited device has the recorded bytes, and some of their "
-                                            "blocks are there. If no old version or backup has the file, that is the best that is left."), text)
+        self.assertIn(f" to do: look among old versions and backups: no audited device has what is recorded. Some of its blocks are on {three}. to do: the steps for it above, "
+                      "behind 'to do in', which save what is to stay.", text)
+        self.assertRegex(self.answer()[1], rf"for missing:\n +1\. on {three}: copy it elsewhere, if it is to stay: the start may take it away")
         shutil.copy(path, self.room / "saved")
         self.start()
         self.one.scan()
@@ -86,7 +86,7 @@ class OnlyCopies(LateRot):
         write(rotten, b"EARLIER", rotten.stat())
         one, two = self.label(self.one), self.label(self.two)
         text = self.told("conflict")
-        self.assertTrue(f"copy it from {two} to {one} with its time alone" in text or "the steps for it above" in text, text)
+        self.assertIn("the steps for it above", text)
         subprocess.run(["cp", "--preserve=timestamps", self.two.files / "conflict", rotten], check=True)
         self.start()
         wait_until("all have the later change", lambda: all(text_of(device.files / "conflict") == "later" for device in self.devices))
@@ -102,8 +102,9 @@ class OnlyCopies(LateRot):
         write(path, self.good["deleted"][:100], path.stat())
         text = self.told("deleted")
         two, three = self.label(self.two), self.label(self.three)
-        self.assertIn("this looks like damage, not like an edit. Before Syncthing starts or scans on", text)
-        self.assertIn(f"put the bytes back that {three} recorded: copy it from {two} to {three} with its time alone", text)
+        self.assertIn(f"{three}: looks damaged: ", text)
+        self.assertIn(f"before Syncthing starts or scans on any of these devices, copy elsewhere what is to stay. to do: to have again what {three} recorded, copy it from {two} to "
+                      f"{three} with its time alone", text)
         fates = self.foretold()
         path.rename(self.room / "moved away")
         shutil.copy(self.two.files / "deleted", self.room / "kept")
@@ -170,8 +171,8 @@ class HarmedWhileAllIsInStep(Live):
         status, text = self.read("--names", "missing")
         self.assertEqual(status, 2, text)
         one, two = (device.id[:7] for device in self.devices)
-        self.assertIn(f"all of 1 names are in motion: look again. Before that, on {two}: no scan of folder docs has seen 1 missing there. A scan deletes on all devices what is "
-                      f"missing, and sends what stands there to all, so first copy back what is to stay as it is recorded (1 on {one})", text)
+        self.assertIn(f"all of 1 names are in motion: look again. Before that, on {two}: no scan of folder docs has seen 1 missing there. A scan may delete "
+                      f"that on all devices, or send it to them, so first copy back what is to stay as it is recorded (1 on {one})", text)
 
 
 if __name__ == "__main__":

@@ -6,7 +6,6 @@ devices and without a conflict copy.
     auditor/test/converging.py DIRECTORY      with a directory for each round
 """
 
-import gzip
 import json
 import subprocess
 import sys
@@ -14,7 +13,7 @@ import tempfile
 from pathlib import Path
 
 import documents  # noqa: F401  first: it finds second/
-from exporting import built
+from exporting import built, shown
 from foretold import real_places, shapes_of
 
 import converge
@@ -43,10 +42,9 @@ def is_of_files(at):
     return b"/" not in at.name and all(record["kind"] == FILE for record in at.records)
 
 
-def names_of(part):
+def names_of(audit, part):
     """What a device has of each name, from its part."""
-    with gzip.open(part, "rt", encoding="utf-8", errors="surrogateescape") as lines:
-        told = [json.loads(line) for line in lines]
+    told = [json.loads(line) for line in shown(audit, part)]
     return {line["name"]["name"]: line["name"] for line in told if isinstance(line.get("name"), dict)}
 
 
@@ -64,7 +62,7 @@ def judge(audit, kept):
     """Prints which converging files of a round came to something else, and counts them and all."""
     made = json.loads((kept / "round.json").read_text())
     parts = [kept / f"{name}.part" for name in made["names"]]
-    had = [names_of(part) for part in parts]
+    had = [names_of(audit, part) for part in parts]
     known = {name for names in had for name in names}
     ends = [{device: shapes_of(real_places(end[device], known)) for device in made["names"]} for end in made["ends"]]
     wrong = count = 0

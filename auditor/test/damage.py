@@ -72,8 +72,7 @@ class Damage(Exporting):
         for told in (f"{FOLDER}: NOT in step, 1 name is wrong; ", f"  {two}: the disk fails to give what it has; it may be lost there (read ",
                      f"  as recorded on: {one}\n", f"  to do: see the system's log on {two} (journalctl -k, smartctl -a)"):
             self.assertIn(told, text)
-        self.assertIn("Don't delete what is damaged, and don't start Syncthing there, before that is done: a scan takes what is missing for "
-                      "deleted.", " ".join(text.split()))
+        self.assertIn("Don't delete what is damaged, and don't start Syncthing there, before that is done.", " ".join(text.split()))
         read = json.loads(subprocess.run([*words, "--json"], capture_output=True, text=True, timeout=SECONDS_TO_WAIT).stdout)
         (file,) = read["folders"][0]["files"]
         self.assertEqual([(fault["device"], fault["cause"], fault["why"]) for fault in file["faults"]],

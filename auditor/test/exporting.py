@@ -2,7 +2,6 @@
 
 import contextlib
 import functools
-import gzip
 import json
 import os
 import shutil
@@ -127,6 +126,11 @@ def is_over():
 def run(words, **options):
     """Runs a command, which fails if it takes too long, and gives what it wrote."""
     return subprocess.run(words, capture_output=True, text=True, timeout=SECONDS_TO_WAIT, **options)
+
+
+def shown(program, part):
+    """The lines of JSON that a part has."""
+    return run([program, "part", "--show", part], check=True).stdout.splitlines(keepends=True)
 
 
 class Exporting(unittest.TestCase):
@@ -255,12 +259,16 @@ class Exporting(unittest.TestCase):
         return path
 
     @classmethod
+    def shown(cls, device, *words):
+        """Makes a device's part, and gives its lines of JSON."""
+        return shown(cls.program, cls.part(device, *words))
+
+    @classmethod
     def lines(cls, program, device):
         """The lines of a device's part, as a program makes it, but for when that was."""
         made = cls.room / "made.part"
         run([program, "part", "--home", device.home, "-o", made], check=True)
-        with gzip.open(made, "rt") as part:
-            lines = [json.loads(line) for line in part]
+        lines = [json.loads(line) for line in shown(program, made)]
         del lines[0]["made"]
         return lines
 

@@ -6,7 +6,6 @@
 $SECONDS_OF_STANDING says how long firm devices are let run, which is 20 where it isn't set.
 """
 
-import gzip
 import json
 import os
 import subprocess
@@ -127,8 +126,7 @@ class Firm(Exporting):
         records of other devices."""
         made = []
         for device in self.devices:
-            with gzip.open(self.part(device), "rt") as part:
-                head, *lines = [json.loads(line) for line in part]
+            head, *lines = map(json.loads, self.shown(device))
             folder, = head["folders"]
             made.append((folder["max"], folder["views"], lines))
             made.append({path.relative_to(device.files): (path.lstat().st_mtime_ns, path.lstat().st_mode, path.is_file() and path.read_bytes())

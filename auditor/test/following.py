@@ -215,7 +215,7 @@ class Operator:
 
 def is_before(words):
     """Whether something is to be done before Syncthing starts or scans."""
-    return not re.match(r"let Syncthing run|nothing\b(?!, if it may go|, if they may go)|once what is to stay is saved|Syncthing doesn't mend", words)
+    return not re.match(r"nothing\b(?!, if it may go|, if they may go)|to have again what", words)
 
 
 def nothing(*_):
@@ -225,16 +225,6 @@ def nothing(*_):
 def run_all(operator, *_):
     """Lets Syncthing run on all devices."""
     operator.run(operator.devices, "run all")
-
-
-def run_some(operator, _, found):
-    """Lets Syncthing run on the device that is behind, and on one of those that have it."""
-    others = re.sub(r"^one of ", "", found[2])
-    if others.startswith("a device that has"):
-        return
-    others = re.sub(r" \(once .*", "", others).split(", ")
-    chosen = operator.random.choice(others)
-    operator.run([operator.by_label[found[1]], operator.by_label[chosen]], "run some")
 
 
 def save_all(operator, names, _):
@@ -264,74 +254,23 @@ def save_all_and_put(operator, names, _):
 
 
 def put_back(operator, names, found):
-    """Puts back what a device recorded, if that is wanted: an operator wants it where it looks damaged, and else rarely."""
-    words = found[0]
-    if "have again what" in words and operator.random.random() < .7:
+    """Puts back what a device recorded, if that is wanted: rarely."""
+    if operator.random.random() < .7:
         return
-    was_running = any(device.process for device in operator.devices)
+    device, source = operator.by_label[found[1]], operator.by_label[found[3]]
+    was_running = any(one.process for one in operator.devices)
+    stop([device])
     for name in names:
-        put_back_one(operator, name, words)
+        if found[2]:
+            operator.save(device, name)
+        if found[4] == "with":
+            subprocess.run(["cp", "--preserve=timestamps", source.files / name, device.files / name], check=True)
+        else:
+            operator.save(device, name)
+            (device.files / name).parent.mkdir(parents=True, exist_ok=True)
+            operator.copy(source, device, name)
     if was_running:
         operator.run(operator.devices, "run again")
-
-
-def put_back_one(operator, name, words):
-    """The same of one name."""
-    if "if it may be right" in words or "to a place outside the folder" in words:
-        at = re.search(r"(?:again what|starts or scans on|from) (\w{7})\b", words)
-        operator.save(operator.by_label[at[1]], name)
-    copied = re.search(r"copy (?:it|them|the directory (\S+), in which it is,) from (\w{7}) to (\w{7})( with (?:its|their) times? alone| as)?", words)
-    gone = re.search(r"delete (?:it|them) on (\w{7})", words)
-    if copied:
-        source, device = operator.by_label[copied[2]], operator.by_label[copied[3]]
-        stop([device])
-        what = unquoted(copied[1]) if copied[1] else name
-        if copied[1] or (copied[4] or "").startswith(" as"):
-            if os.path.lexists(device.files / what):
-                operator.save(device, what)
-            operator.copy(source, device, what)
-        else:
-            subprocess.run(["cp", "--preserve=timestamps", source.files / what, device.files / what], check=True)
-    elif gone:
-        device = operator.by_label[gone[1]]
-        operator.save(device, name)
-        stop([device])
-        remove(device.files / name)
-
-
-def touch(operator, names, found):
-    """Gives a new version to what one of two devices has."""
-    device = operator.by_label[re.sub(r"^one of ", "", found[1]).split(", ")[0]]
-    if "receiveonly" in device.kind:
-        return
-    for name in names:
-        os.utime(device.files / name)
-    operator.run([device], "run what was touched")
-    device.scan()
-
-
-def move_and_back(operator, names, found):
-    """The same for what has no conflict copies: moved away, and back."""
-    device = operator.by_label[re.sub(r"^one of ", "", found[1]).split(", ")[0]]
-    if "receiveonly" in device.kind:
-        return
-    for name in names:
-        away = operator.saved / f"moved-{name.replace('/', '-')}"
-        operator.run([device], "run before")
-        (device.files / name).rename(away)
-        device.scan()
-        away.rename(device.files / name)
-        device.scan()
-
-
-def chmod(operator, names, found):
-    """Gives a file its recorded mode, once it is copied elsewhere where that is said."""
-    for on, is_saved, mode in re.findall(f"on ({NEEDED}), (copy (?:it|them) elsewhere first if (?:it is|they are) to stay, and )?'chmod (\\d+)' ", found[0]):
-        for label in on.split(", "):
-            for name in names:
-                if is_saved:
-                    operator.save(operator.by_label[label], name)
-                (operator.by_label[label].files / name).chmod(int(mode, 8))
 
 
 def same_mode(operator, names, found):
@@ -345,33 +284,17 @@ def same_mode(operator, names, found):
 
 NEEDED = r"(?:[\w]{7}(?:, [\w]{7})*)"
 ADVICE = [
-    (r"first see that the folder's disk is mounted on ", nothing),
+    (r"look among old versions and backups: no audited device has what is recorded", nothing),
     (r"the steps for (?:it|them) above, behind 'to do in'", nothing),
     (r"choose for the whole folder what stands above", nothing),
     (r"leave (?:it|them) so, or choose something for the whole folder, as another audit says", nothing),
     (r"nothing, if (?:it|they) may go\. If not, copy (?:it|them) elsewhere", save_all),
-    (r"nothing, if (?:it|they) may go", nothing),
     (r"nothing, if the changes? (?:is|are) wanted", nothing),
-    (r"nothing is lost, whichever of these comes: let Syncthing run on all", run_all),
+    (r"nothing but the start with which the steps above end", nothing),
     (r"nothing: let Syncthing run on all", run_all),
-    (r"nothing is lost: the bytes are the same", nothing),
-    (r"let Syncthing run on all", run_all),
-    (r"let Syncthing run on (\w{7}) and on (.*?), and let them finish", run_some),
-    (r"copy elsewhere before Syncthing starts on any of these devices what is to stay of what stands on (" + NEEDED + ")", save_on),
-    (r"once what is to stay is saved, let Syncthing run on all", run_all),
     (r"copy elsewhere what is to stay\. Then, while Syncthing is stopped on all", save_all_and_put),
     (r"before Syncthing starts or scans on any of these devices, copy elsewhere what is to stay of what stands on (" + NEEDED + ")", save_on),
     (r"before Syncthing starts or scans on any of these devices, copy elsewhere what is to stay", save_all),
-    (r"before Syncthing starts or scans on (\w{7}), copy (?:it|them) from there to a place outside the folder", save_on),
-    (r"first copy what stands on (" + NEEDED + ") to a place outside the folder", save_on),
-    (r"this looks like damage, not like an edit\. Before Syncthing starts or scans on .*", put_back),
-    (r"before Syncthing starts or scans on \w{7} \(a scan takes all that was below.*", put_back),
-    (r"(?:a scan on \w{7} takes (?:it|them) for \w+\. )?[Tt]o have again what .*", put_back),
-    (r"a scan on \w{7} takes (?:it|them) for \w+$", nothing),
-    (r"'Revert Local Changes' on \w{7} deletes what was added there", nothing),
-    (r"\w{7} only sends, and takes nothing by itself", nothing),
-    (r"Syncthing doesn't mend this by itself.*? 'touch' (?:it|them) on (\S.*?) and let Syncthing scan there", touch),
-    (r"Syncthing doesn't mend this by itself.*? move (?:it|them) out of the folder on (\S.*?), let Syncthing scan there", move_and_back),
-    (r"on .*'chmod \d+' (?:it|them) if that is the right mode, before Syncthing scans there.*", chmod),
-    (r"'chmod' (?:it|them) to the same mode on (.*?): where", same_mode),
+    (r"to have again what (\w{7}) recorded, (copy elsewhere what stands there, if it may be right, and )?copy (?:it|them) from (\w{7}) to \w{7} (with|as)", put_back),
+    (r"'chmod' (?:it|them) to the mode that is right on (.*?), before Syncthing scans there", same_mode),
 ]

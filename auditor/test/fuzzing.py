@@ -21,7 +21,7 @@ SECONDS_OF_PROCESSOR = 60
 # A machine that does much else takes longer by the clock. What hangs in one execution is ended by the target itself.
 SECONDS = 600
 SECONDS_OF_GRACE = 10
-PACKAGES = {"FuzzParts": "audit", "FuzzJoins": "audit", "FuzzLooks": "audit", "FuzzReplies": "ask", "FuzzRecord": "wire"}
+PACKAGES = {"FuzzParts": "audit", "FuzzPackedParts": "part", "FuzzJoins": "audit", "FuzzLooks": "audit", "FuzzReplies": "ask", "FuzzRecord": "wire"}
 
 
 def targets():
@@ -85,6 +85,9 @@ class Fuzzing(unittest.TestCase):
 
     def test_parts(self):
         self.fuzz("FuzzParts")
+
+    def test_packed_parts(self):
+        self.fuzz("FuzzPackedParts")
 
     def test_joins(self):
         self.fuzz("FuzzJoins")

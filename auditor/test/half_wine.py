@@ -5,7 +5,6 @@ qemu-user.
     auditor/test/half_wine.py
 """
 
-import gzip
 import json
 import os
 import shutil
@@ -14,7 +13,7 @@ import tempfile
 import unittest
 from pathlib import Path
 
-from exporting import built, go_environment, is_over, main
+from exporting import built, go_environment, is_over, main, shown
 
 WINE = shutil.which("wine64") or "/usr/lib/wine/wine64"
 TOKEN = "AEAQCAI-BAEAQCA-AIBAEAQ-CAIBAEC-AQCAIBA-EAQCAIA-BAEAQCA-IBAEAQC:" + "0f" * 16
@@ -60,8 +59,7 @@ class Walks(unittest.TestCase):
         ran = subprocess.run([*words, "--after", TOKEN, "-o", self.path(part, words), f"docs={self.path(directory, words)}"], capture_output=True,
                              text=True, timeout=SECONDS, **options)
         self.assertEqual(ran.returncode, 0, ran.stderr)
-        with gzip.open(part, "rt") as lines:
-            head, *rest = map(json.loads, lines)
+        head, *rest = map(json.loads, shown(self.program, part))
         return head, {json.dumps(line["name"]["name"]): line["name"] for line in rest if "name" in line}
 
     @staticmethod

@@ -4,7 +4,6 @@
     auditor/test/large_folders.py
 """
 
-import gzip
 import json
 import os
 import tempfile
@@ -104,6 +103,7 @@ class LargeFiles(Exporting):
         self.assertEqual(lines[0], self.fault("StoreDiffers", "sparse.bin", self.one))
         self.assertEqual(lines[2:], [self.failure("StoreDiffers", "sparse.bin", self.one),
                                      self.failure("StoreDiffers", "twenty.bin", self.two),
+                                     f"first: on {self.number(self.two)}: made-safe",
                                      f"not as recorded: {FOLDER} sparse.bin on {self.number(self.one)}: over-zeros, "
                                      f"{300 * MEGA} bytes recorded, {300 * MEGA} found"])
         self.assert_blocks(self.one, "sparse.bin", (256 << 10, [[1196, 1196]]))
@@ -114,8 +114,7 @@ class LargeFiles(Exporting):
 
     def assert_blocks(self, device, name, expected):
         """A device's part tells the block size of a file and which blocks differ from the record."""
-        with gzip.open(self.part(device, "--names", name), "rt") as part:
-            lines = [json.loads(line) for line in part]
+        lines = [json.loads(line) for line in self.shown(device, "--names", name)]
         found, = [line["name"]["disk"] for line in lines if "disk" in line.get("name", ())]
         self.assertEqual((found["contents"][0]["block_size"], found["differ"]["ranges"]), expected)
 

@@ -5,7 +5,6 @@ written by Syncthing's own packages, and no device runs.
     auditor/test/manners.py
 """
 
-import gzip
 import os
 import pty
 import shutil
@@ -16,7 +15,7 @@ import unittest
 from pathlib import Path
 from types import SimpleNamespace
 
-from exporting import PROGRAM, auditor, built, in_step, is_over, main, make_endless, run, to_the_end
+from exporting import PROGRAM, auditor, built, in_step, is_over, main, make_endless, run, shown, to_the_end
 from syncthing import SECONDS_TO_WAIT, wait_until
 
 FILES = 2000
@@ -143,8 +142,7 @@ class Manners(unittest.TestCase):
         environment = {**os.environ, "TMPDIR": str(room)}
         ran = run([*words, output], env=environment)
         self.assertEqual((ran.returncode, output.stat().st_uid), (0, nobody), ran.stderr)
-        with gzip.open(output, "rt") as part:
-            of_secret = [line for line in part if '"secret"' in line]
+        of_secret = [line for line in shown(self.program, output) if '"secret"' in line]
         self.assertEqual(len(of_secret), 1)
         self.assertIn("it can't be read: open", of_secret[0])
         for path in room.rglob("device2/home"):

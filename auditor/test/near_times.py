@@ -74,7 +74,7 @@ class NearTimes(Exporting):
         self.move(1)
         lines = self.report()
         self.assertEqual((lines[0], lines.count(self.near())), (self.fault("StoreDiffers", "text", self.two), 1))
-        self.assertIn("no scan sees it", " ".join(self.read().split()))
+        self.assertIn("which no scan sees", " ".join(self.read().split()))
 
 
 if __name__ == "__main__":

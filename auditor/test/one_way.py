@@ -43,12 +43,13 @@ class ReceiveOnly(OneWay):
             self.assertEqual(self.verdict("--names", name), self.fault("LocalOnly", name, self.two))
 
     def test_what_nobody_else_has_has_no_winner(self):
+        both = ", ".join(sorted(map(str, (self.number(self.one), self.number(self.two))), key=int))
         self.assertEqual(self.report("--names", "added"),
                          [self.fault("NotWinner", "added"), f"folder {FOLDER}: 1 names, 0 deleted, 2 devices",
                           self.failure("NotWinner", "added"),
                           f"no winner: {FOLDER} added on {self.number(self.two)}: local change",
                           f"not asked for: names of {FOLDER} that don't begin with added",
-                          f"first: on {self.number(self.two)}: not-asked"])
+                          f"first: on {both}: not-asked"])
 
     def test_they_go_as_over_the_wire(self):
         shares = {share["device"]: share for share in self.document()["cut"]["folders"][0]["devices"]}
@@ -155,7 +156,7 @@ class ReceiveOnlyThatChangedItBefore(OneWay):
         self.assertEqual((self.two.files / "dropped").read_text(), "changed on two")
         self.assertEqual([path.read_text() for path in self.two.files.glob("changed.sync-conflict-*")], ["changed on two"])
         self.stop()
-        self.assertIn(f"{self.one.id[:7]}: has something else under the same version, so Syncthing takes the two for the same", self.entries()["dropped"])
+        self.assertIn(f"{self.one.id[:7]}: has something else under the same version", self.entries()["dropped"])
         self.assert_a_deletion_ends_it()
 
     def assert_a_deletion_ends_it(self):

@@ -4,7 +4,6 @@
     auditor/test/over_wire.py
 """
 
-import gzip
 import json
 import os
 import re
@@ -89,8 +88,7 @@ class OverTheWire(Exporting):
 
     def lines_of(self, device):
         """A part's head, and its lines of names, by name."""
-        with gzip.open(self.part(device), "rt") as part:
-            head, *lines = map(json.loads, part)
+        head, *lines = map(json.loads, self.shown(device))
         return head, {line["name"]["name"]: line["name"] for line in lines if "name" in line}
 
     def test_over_the_wire_as_in_parts(self):

@@ -4,13 +4,12 @@
     auditor/test/paths.py
 """
 
-import gzip
 import json
 import subprocess
 import sys
 
 from answers import SCHEMA, STATUS_MISSING
-from exporting import Exporting, main, run
+from exporting import Exporting, main, run, shown
 
 
 class Paths(Exporting):
@@ -20,7 +19,7 @@ class Paths(Exporting):
         """A part of the second device, and its text."""
         path = self.room / "with.part"
         run([self.program, "part", "--home", self.two.home, "-o", path, *words], check=True)
-        return path, gzip.decompress(path.read_bytes()).decode()
+        return path, "".join(shown(self.program, path))
 
     def assert_tells(self, words, known):
         """The answer tells these paths of both devices, and keeps to its schema."""

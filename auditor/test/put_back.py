@@ -151,7 +151,7 @@ class PutBack(unittest.TestCase):
         one, two, three = self.devices
         for came in self.try_(self.steps(), [two, three], [one]):
             self.assertEqual(came, GOOD)
-        self.assertEqual(self.outlook()["without_steps"], 1, "nobody can tell which bytes of one file are right")
+        self.assertNotIn("without_steps", self.outlook(), "what nobody can tell the right bytes of is saved by a step")
         self.assertEqual({text_of(path) for path in self.saved.rglob("*") if path.is_file()}, {"rotten", "goo", "good grown", "a file"})
 
     def test_scripts_bring_all_back(self):

@@ -5,7 +5,6 @@ mode, and rot in files of each block size.
     auditor/test/rot.py
 """
 
-import gzip
 import json
 import os
 
@@ -60,8 +59,7 @@ class RotInManyBlocks(Rotten):
             self.assertEqual((blocks["count"], blocks["of"], len(blocks["ranges"]), blocks["unlisted"]), (150, 300, 64, 86))
             self.assertIn("    blocks 0, 2, 4, 6, 8, 10, 12, 14 and 142 more differ (150 of 300 blocks of 128 KiB; the first is block 0)",
                           self.answer()[1].splitlines())
-            with gzip.open(self.part(self.two), "rt") as part:
-                found, = [json.loads(line)["name"]["disk"] for line in part if '"many.bin"' in line]
+            found, = [json.loads(line)["name"]["disk"] for line in self.shown(self.two) if '"many.bin"' in line]
             self.assertEqual((found["differ"]["count"], len(found["differ"]["ranges"])), (150, 64))
         finally:
             for one in undo:
@@ -95,7 +93,7 @@ class RotWithAnotherMode(Rotten):
     def assert_a_person_reads_both(self):
         text = self.answer()[1]
         entry, = [" ".join(entry.split()) for entry in text.split("\n\n") if entry.startswith("text")]
-        for told in (f"{self.two.id[:7]}: other bytes on the disk; size and time are as recorded, the mode isn't, so the next scan sees it",
+        for told in (f"{self.two.id[:7]}: other bytes on the disk; size and time are as recorded",
                      "permissions differ (they don't count for the verdict)", "0644 recorded, 0600 on the disk",
                      f"if nothing is done: all devices then have what {self.two.id[:7]} has now; what {self.one.id[:7]} has now goes."):
             self.assertIn(told, entry)

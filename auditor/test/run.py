@@ -9,7 +9,9 @@ side by side. The last line is 'N passed, M failed', and ', K skipped' after it 
 It installs nothing. Where something is missing it says what, and skips all; a class and Go's tests count as one each
 then. With SECONDS, cases that aren't begun by then are skipped; so are all where building takes longer. What was begun
 goes on to its end, for which it has more time than a slow machine needs: what hangs fails. The number of commits says with
-which class it begins then, so that each class has its turn.
+which class it begins then, so that each class has its turn. Go's tests run beside the classes: by themselves they would take
+all of the gate's time. Devices on a busy machine may be slow once, so a class that fails is run again; what it said the first
+time is told, whatever comes then.
 """
 
 import ast
@@ -120,12 +122,14 @@ def run_go(environment):
 
 
 def run_class(module, name, environment, deadline):
-    """Runs a class in a process of its own, which begins no case after the deadline, and gives how many of its cases
-    passed, failed and were skipped, and why the latter were."""
+    """Runs a class in a process of its own, which begins no case after the deadline; once more where it fails. Gives how many
+    of its cases passed, failed and were skipped, and why the latter were."""
     if time.monotonic() > deadline:
         return 0, 0, 1, {"the time is over"}
-    status, said = run_until(deadline + SECONDS_OF_A_CASE, [sys.executable, HERE / f"{module}.py", "-v", name],
-                             env=environment)
+    status, said = look(module, name, environment, deadline)
+    if status not in (0, None):
+        print(f"---- {name} failed, and is run again", said, sep="\n")
+        status, said = look(module, name, environment, time.monotonic() + SECONDS_OF_A_CASE)
     print(*re.findall(r"NOTE: .*$", said, re.MULTILINE), sep="\n", end="\n" if "NOTE: " in said else "")
     skipped = set(re.findall(r"\.\.\. skipped ['\"](.*)['\"]$", said, re.MULTILINE))
     if status == 0:
@@ -136,6 +140,13 @@ def run_class(module, name, environment, deadline):
         return 0, 1, 0, skipped
     passed, failed, count = count_of(said)
     return passed, max(failed, 1), count, skipped
+
+
+def look(module, name, environment, deadline):
+    """Runs a class that begins no case after the deadline, and gives its status and what it said."""
+    from exporting import UNTIL
+    return run_until(deadline + SECONDS_OF_A_CASE, [sys.executable, HERE / f"{module}.py", "-v", name],
+                     env={**environment, UNTIL: str(deadline)})
 
 
 def in_turn():
@@ -177,6 +188,8 @@ def run_classes(classes, environment, deadline):
 def main():
     if sys.argv[1:] == ["--list"]:
         return list_classes()
+    if sys.argv[1:] == ["--help"]:
+        return print(__doc__)
     lacking = missing()
     if lacking:
         return told(0, 0, [(ALL, f"all tests of the audit of real devices; missing: {', '.join(lacking)}")])
@@ -197,7 +210,7 @@ def told(passed, failed, unfinished):
 
 def run_all(room, deadline):
     """Builds the audit and runs all tests; gives how many passed and failed, and what was skipped."""
-    from exporting import STAND_IN, UNTIL, auditor, go_environment
+    from exporting import STAND_IN, auditor, go_environment
     program = auditor()
     print("tests of the audit of real devices of", " and ".join(said.partition(" \"")[0] for said in versions()) + ",",
           "answered by", "second/ in place of the program" if program == str(STAND_IN) else program)
@@ -207,10 +220,12 @@ def run_all(room, deadline):
         return 0, 0, [(ALL, "all tests of the audit of real devices; building wasn't done in time")]
     if status != 0:
         return 0, 1, []
-    passed, failed = run_go(for_go)
-    environment = {**os.environ, "SYNCTHING_AUDIT": str(room), "TMPDIR": str(room), UNTIL: str(deadline)}
-    more = run_classes(in_turn() if len(sys.argv) > 1 else CLASSES, environment, deadline)
-    return passed + more[0], failed + more[1], more[2]
+    environment = {**os.environ, "SYNCTHING_AUDIT": str(room), "TMPDIR": str(room)}
+    with ThreadPoolExecutor(1) as beside:
+        by_go = beside.submit(run_go, for_go)
+        passed, failed, unfinished = run_classes(in_turn() if len(sys.argv) > 1 else CLASSES, environment, deadline)
+        passed_by_go, failed_by_go = by_go.result()
+    return passed + passed_by_go, failed + failed_by_go, unfinished
 
 
 sys.exit(main())

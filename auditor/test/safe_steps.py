@@ -52,8 +52,8 @@ class FromWhomIsTaken(Followed):
         one, two, three = map(self.label, self.devices)
         self.assertTrue(first.startswith(f"first, on {two}: do what the steps and the entries below say to do before Syncthing starts or scans there."), first)
         self.assertEqual(list(told), ["zeta", "alpha"], "what may lose bytes doesn't come first")
-        self.assertIn(f"all devices then have what {one} has now", told["zeta"])
-        self.assertIn(f"let Syncthing run on {three} and on {one}, and let them finish", told["alpha"])
+        self.assertIn("the steps for it above", told["zeta"])
+        self.assertIn("nothing but the start with which the steps above end", told["alpha"])
         for device in (self.three, self.one):
             device.start()
         wait_until("the third device has both", lambda: all(text_of(self.three.files / name) == "binary " + name for name in self.files))
@@ -92,11 +92,11 @@ class Emptied(LateRot):
         self.harm("zeroed", "\0" * len("binary zeroed"), 100)
         one, two = self.label(self.one), self.label(self.two)
         text = " ".join(self.answer()[1].split())
-        self.assertIn(f"first, on {two}: 8 files look damaged, not edited. Copy back what is to stay, as said below, before Syncthing starts or scans there", text)
+        self.assertIn(f"first, on {two}: 8 files look damaged, not edited. Do what is said of that below before Syncthing starts or scans there", text)
         self.assertIn(f"6 names in docs: 90 bytes {two}: looks damaged: 90 bytes recorded, 0 bytes on the disk: EMPTY the first: emptied0", text)
         self.assertIn(f"{two}: looks damaged: 10 bytes recorded, 3 bytes on the disk: cut short under the recorded time (modified", text)
         self.assertIn(f"{two}: looks damaged: all of it is ZEROS (modified", text)
-        self.assertEqual(text.count(f"behind 'to do in': all devices then have what {one} has now."), 3)
+        self.assertEqual(text.count("the steps for it above, behind 'to do in'.") + text.count("the steps for them above, behind 'to do in'."), 3)
         for name in (*self.emptied, "cut", "zeroed"):
             self.mend(name, "--preserve=timestamps")
         self.assertEqual(self.verdict(), "settled")
@@ -155,9 +155,9 @@ class ModesBesideAStart(LateRot):
         one, two = self.label(self.one), self.label(self.two)
         parts = [" ".join(part.split()) for part in self.answer()[1].split("\n\n")]
         self.assertEqual(parts[1], f"first, on {two}: do what the steps and the entries below say to do before Syncthing starts or scans there. As it starts, it scans all folders")
-        self.assertIn(f"let Syncthing run on {two} and on {one}, and let them finish", next(part for part in parts if part.startswith("text (in ")))
+        self.assertIn("to do: nothing: let Syncthing run on all of these devices until it is idle", next(part for part in parts if part.startswith("text (in ")))
         for name in (KEPT, LOST):
-            self.assertIn(f"to do: on {two}, 'chmod 0644' it if that is the right mode, before Syncthing scans there: a scan takes 0600 for a change",
+            self.assertIn(f"to do: 'chmod' it to the mode that is right on {', '.join(sorted((one, two)))}, before Syncthing scans there",
                           next(part for part in parts if part.startswith(f"{name} (in ")))
         (self.two.files / KEPT).chmod(0o644)
         self.start()

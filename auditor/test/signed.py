@@ -11,7 +11,7 @@ import shutil
 import subprocess
 import unittest
 
-from exporting import NOT_SIGNED, Exporting, main, run
+from exporting import NOT_SIGNED, Exporting, main, run, shown
 from syncthing import FOLDER
 
 
@@ -61,9 +61,8 @@ class Signed(Exporting):
         self.assertIn(why, ran.stderr)
 
     def rewritten(self, path, **fields):
-        """Writes a part anew with other fields in its head."""
-        with gzip.open(path, "rt") as part:
-            head, *lines = part
+        """Writes a part anew with other fields in its head, in the older encoding."""
+        head, *lines = shown(self.program, path)
         with gzip.open(path, "wt") as part:
             part.writelines([json.dumps({**json.loads(head), **fields}) + "\n", *lines])
 

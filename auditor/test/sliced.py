@@ -10,7 +10,7 @@ import json
 import os
 import re
 
-from exporting import Exporting, in_step, main, run, without_firmness
+from exporting import Exporting, in_step, main, run, shown, without_firmness
 from live_looks import Live, rot
 from syncthing import FOLDER
 
@@ -50,8 +50,7 @@ class Slices(Exporting):
 
     def lines_of(self, path):
         """The head of a part, its names and its end."""
-        with gzip.open(path, "rt") as part:
-            lines = [json.loads(line) for line in part]
+        lines = [json.loads(line) for line in shown(self.program, path)]
         names = [line["name"] for line in lines[1:] if "name" in line]
         return lines[0], {one["name"]: one for one in names}, lines[-1]["end"]
 
@@ -198,12 +197,11 @@ class Slices(Exporting):
         """A part of 0.10.0 doesn't say how many names an index has, and is of all names."""
         whole = [self.part(device) for device in self.devices]
         for path in whole:
-            with gzip.open(path, "rt") as part:
-                lines = part.read().split("\n", 1)
-            head = json.loads(lines[0])
+            first, *lines = shown(self.program, path)
+            head = json.loads(first)
             self.assertEqual((head["version"], head["folders"][0].pop("indexed"), head.get("slice")), (1, 78, None))
             with gzip.open(path, "wt") as part:
-                part.write(json.dumps(head) + "\n" + lines[1])
+                part.writelines([json.dumps(head) + "\n", *lines])
         self.assertEqual(self.check_parts(whole).stdout, self.check().stdout)
         ran = self.check_parts(whole, *words_of(3))
         self.assertEqual(ran.returncode, 2)

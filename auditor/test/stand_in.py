@@ -1,6 +1,6 @@
 #!/usr/bin/env python3
-"""Stands for the program `syncaudit` where it isn't built: `certify`, `converge`, and `check`, `firm` and `explain`,
-each also with `--certify`, by the second reading in second/. It explains without what is indented.
+"""Stands for the program `syncaudit` where it isn't built: `certify`, `converge`, `rows --firm`, and `check`, `firm` and
+`explain`, each also with `--certify`, by the second reading in second/. It explains without what is indented.
 
     auditor/test/stand_in.py certify < CUT
     auditor/test/stand_in.py check < DOCUMENT
@@ -8,9 +8,10 @@ each also with `--certify`, by the second reading in second/. It explains withou
     auditor/test/stand_in.py explain < DOCUMENT
     auditor/test/stand_in.py check --certify < CUT
     auditor/test/stand_in.py converge < CUT
+    auditor/test/stand_in.py rows --firm < ROWS
 
 CUT is what is exported, without a certificate. Where $WITHOUT_FIRM is set, it doesn't know
-`firm`, `converge` and `--certify`, as an older program.
+`firm`, `converge`, `rows` and `--certify`, as an older program.
 """
 
 import os
@@ -19,6 +20,7 @@ import sys
 from documents import certified  # first: it finds second/
 import converge
 import firm
+import row_stream
 import under_winners
 from reports import answer, answers, printed, refusal
 from things import Fault
@@ -57,10 +59,13 @@ STATUS_OF_USAGE = 3
 
 def main():
     word, *flags = sys.argv[1:]
-    if (word in ("firm", "converge") or flags) and "WITHOUT_FIRM" in os.environ:
+    if word not in (*COMMANDS, "rows") or (word in ("firm", "converge", "rows") or flags) and "WITHOUT_FIRM" in os.environ:
         sys.exit(STATUS_OF_USAGE)
     document = sys.stdin.buffer.read()
-    said, status = under_winners.answers(document)[word] if flags else COMMANDS[word](document)
+    if word == "rows":
+        said, status = row_stream.answer(document, "firm" if flags else "settled")
+    else:
+        said, status = under_winners.answers(document)[word] if flags else COMMANDS[word](document)
     sys.stdout.buffer.write(said)
     sys.stdout.flush()
     sys.exit(status)

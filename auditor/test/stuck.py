@@ -48,6 +48,11 @@ class BelowWhatIsReplaced(Behind):
         cls.record(cls.two)
         shutil.rmtree(cls.two.files / "missing")
 
+    def are_stuck(self):
+        """Whether all names failed that do, on both devices. It keeps why: Syncthing forgets that at its next pull."""
+        self.why = [self.failed(device) for device in self.devices]
+        return {"recorded", "found", "linked"} <= self.why[0].keys() and {"recorded/in", "found/in", "linked/new"} <= self.why[1].keys()
+
     def failed(self, device):
         """Why names failed on a device."""
         return {one["path"]: one["error"] for one in self.api_errors(device)}
@@ -58,10 +63,9 @@ class BelowWhatIsReplaced(Behind):
     def test_what_is_told_comes_so(self):
         self.put_what_is_deleted()
         self.start()
-        wait_until("both are stuck", lambda: {"recorded", "found", "linked"} <= self.failed(self.one).keys()
-                   and {"recorded/in", "found/in", "linked/new"} <= self.failed(self.two).keys())
-        self.assertIn("not empty", self.failed(self.one)["recorded"])
-        self.assertIn("not a directory", self.failed(self.two)["recorded/in"])
+        wait_until("both are stuck", self.are_stuck)
+        self.assertIn("not empty", self.why[0]["recorded"])
+        self.assertIn("not a directory", self.why[1]["recorded/in"])
         self.assertEqual([path.name for path in (self.one.files / "recorded").iterdir()], ["in"])
         for device in self.devices:
             wait_until("what is kept is there, and its directory", lambda: text_of(device.files / "missing/in") == NEW)

@@ -63,7 +63,7 @@ class TakenBeforeTheScan(Behind):
         """Of what comes before a scan nothing is foretold, since devices scan as they start; the steps are made while Syncthing is stopped."""
         for name in names:
             self.assertIn(self.fates[name]["fate"], ("right", "lost", "depends", "changed"), name)
-            self.assertIn("first see that the folder's disk is mounted" if self.fates[name]["fate"] != "right" else "", self.told[name])
+            self.assertIn("is mounted before Syncthing starts or scans there" if self.fates[name]["fate"] != "right" else "", " ".join(self.told.values()))
 
     def start_before_a_scan(self):
         """Starts both devices, the first one with its names in place again, which go once its first scan is over: so the other one takes what it recorded

@@ -8,7 +8,7 @@ import gzip
 import json
 import xml.etree.ElementTree as xml
 
-from exporting import Exporting, in_step, main, run
+from exporting import Exporting, in_step, main, run, shown
 from live_looks import rot
 from syncthing import FOLDER, Device
 
@@ -118,8 +118,7 @@ class OtherFolders(Exporting):
     def test_a_part_of_an_older_program(self):
         """It doesn't say which folders it hasn't, and that is told."""
         parts = [self.part(device, "--folder", FOLDER) for device in self.devices]
-        with gzip.open(parts[0], "rt") as file:
-            head, *lines = file.readlines()
+        head, *lines = shown(self.program, parts[0])
         read = json.loads(head)
         del read["other_folders"]
         with gzip.open(parts[0], "wt") as file:
@@ -338,7 +337,7 @@ class OwnFolders(Exporting):
                     wrong = [one for one in json.loads(self.told("check", *inputs, "--json")[1])["folders"] if one["names_wrong"]]
                     self.assertEqual([(one["id"], [at["device"] for at in one["devices"]], one["not_shared"]) for one in wrong],
                                      [("default", [device.id], True)])
-                    self.assertIn("look among old versions and backups for a file with the recorded bytes", " ".join(self.told("check", *inputs)[1].split()))
+                    self.assertIn("look among old versions and backups: no audited device has what is recorded", " ".join(self.told("check", *inputs)[1].split()))
 
     def test_a_folder_that_is_shared_with_a_device_that_is_missing(self):
         """There is another device to compare it with, and that is told."""

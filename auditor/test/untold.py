@@ -19,11 +19,15 @@ SECONDS_OF_WATCHING = 15
 class WithEntries(Exporting):
     """Devices of which a person reads what is wrong."""
 
-    def entry(self):
-        """What a person reads of the file, in one line."""
+    def text(self):
+        """What a person reads."""
         ran = self.on_homes("check", [device.home for device in self.devices], "--syncaudit", self.auditor)
         self.assertEqual(ran.returncode, 1, ran.stderr)
-        return {entry.split("  (in ")[0]: " ".join(entry.split()) for entry in ran.stdout.split("\n\n")}["text"]
+        return ran.stdout
+
+    def entry(self):
+        """What a person reads of the file, in one line."""
+        return {entry.split("  (in ")[0]: " ".join(entry.split()) for entry in self.text().split("\n\n")}["text"]
 
 
 class ChangesThatNobodyTells(WithEntries):
@@ -67,7 +71,7 @@ class ChangesThatNobodyTells(WithEntries):
         self.assertTrue(self.two.shows_up_to_date())
         self.assertEqual((self.two.files / "text").read_text(), "hello")
         self.stop()
-        self.assertIn(f"{self.two.id[:7]} has heard of later changes of {self.one.id[:7]} and not of this one, as after a power cut there", self.entry())
+        self.assertIn(f"{self.two.id[:7]} has heard of later changes of those who have it, and not of this one: stop Syncthing on {self.two.id[:7]}, and start it there once by ", self.entry())
         self.start_with_reset(self.two)
         self.one.start()
         wait_until("the change is told", lambda: (self.two.files / "text").read_text() == "changed on one")
@@ -95,7 +99,7 @@ class AChangeThatIsHeardAndNotTaken(WithEntries):
         self.stop()
         told = self.entry()
         self.assertNotIn("--reset-deltas", told)
-        self.assertIn("whether a disk is full, and whether Syncthing's page lists 'Failed Items'", told)
+        self.assertIn("whether a disk is full, and whether Syncthing's page lists 'Failed Items'", self.text())
         (self.two.home / "config.xml").write_text(config)
         self.start()
         wait_until_in_step(self.one, self.two)

@@ -64,13 +64,12 @@ class WaitingNames(Live):
         self.assertIn("As recorded: " + ", ".join(sorted(f"1 on {name}" for name in (one, two))), first[1])
         for line in first:
             self.assertIn("before Syncthing starts or scans there, also for an entry below", line)
-        self.assertIn(f"to do: first what stands above for {two}", rest)
         moving = rest.partition("in motion in ")[2]
-        order = [moving.find(word) for word in ("before a scan:", f"{EMPTIED}: {two}: EMPTY: 0 bytes found of 17 bytes recorded", "then: audit again after a scan")]
+        order = [moving.find(word) for word in ("before a scan:", f"{EMPTIED}: {two}: looks damaged: 17 bytes recorded, 0 bytes on the disk: EMPTY (modified ", "then: audit again after a scan")]
         self.assertEqual(order, sorted(order), moving)
         self.assertNotIn(-1, order, moving)
-        self.assertIn(f"{CUT}: {three}: CUT SHORT: 4 bytes found of 13 bytes recorded, under the recorded time; as recorded on {', '.join(sorted((one, two)))}", moving)
-        self.assertIn(f"{MISSING}: {two}: MISSING: 17 bytes recorded; as recorded on {', '.join(sorted((one, three)))}", moving)
+        self.assertIn(f"{CUT}: {three}: looks damaged: 13 bytes recorded, 4 bytes on the disk: cut short under the recorded time (modified ", moving)
+        self.assertIn(f"{MISSING}: {two}: missing on the disk; as recorded on {', '.join(sorted((one, three)))}", moving)
         self.mend(self.two, EMPTIED, MISSING)
         self.mend(self.three, CUT)
         self.mend(self.two, ROTTEN)

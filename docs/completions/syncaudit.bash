@@ -15,6 +15,8 @@ _syncaudit() {
     mapfile -t COMPREPLY < <(compgen -W '--partial --help' -- "$word")
   elif [ "$COMP_CWORD" = 2 ] && [ "$before" = explain ]; then
     mapfile -t COMPREPLY < <(compgen -W '--json --firm --converge --certify --help' -- "$word")
+  elif [ "$COMP_CWORD" = 2 ] && [ "$before" = rows ]; then
+    mapfile -t COMPREPLY < <(compgen -W '--firm --help' -- "$word")
   elif [ "$COMP_CWORD" = 2 ] && [ "$before" = run ]; then
     mapfile -t COMPREPLY < <(compgen -W '--document --turns --help' -- "$word")
   elif [ "$COMP_CWORD" = 2 ]; then

@@ -51,7 +51,7 @@ while IFS='|' read -r words expected; do
 done << END
 ''|--about --help --version check disk export find observe part report run sum watch
 ch|check
-part -|--about --begin --data --end --folder --heed-input --help --home --jobs --leave-out --map --names --observer --paths --progress --rescan --sign --slice --still --strict --tokens -o
+part -|--about --begin --data --end --folder --heed-input --help --home --jobs --leave-out --map --names --observer --paths --progress --rescan --show --sign --slice --still --strict --tokens -o
 run --re|--remote-program --rescan
 observe --re|--records --rescan --rest
 run $work/ho|$work/homes

@@ -26,7 +26,7 @@ static const struct command commands[] = {
     {{"explain", "--certify"}, "012"}, {{"explain", "--certify", "--json"}, "012"},
     {{"explain", "--certify", "--firm"}, "012"},
     {{"explain", "--converge"}, "012"}, {{"explain", "--converge", "--json"}, "012"},
-    {{"rows"}, "012"},
+    {{"rows"}, "012"},            {{"rows", "--firm"}, "012"},
     {{"run"}, "012"},             {{"run", "--document"}, "012"},
     {{"run", "--turns", "1"}, "012"},
 };

@@ -1,9 +1,10 @@
 #!/usr/bin/env python3
 """How fast real folders are audited, and with how much memory.
 
-    tools/bench/devices.py [--auditor FILE] [--runs N] [--room DIR] [hash] [join] [wrong] [export] [sum]
+    tools/bench/devices.py [--auditor FILE] [--runs N] [--room DIR] [hash] [small] [join] [wrong] [export] [sum]
 
-'hash' audits two devices with 3.2 GB in 800 files, beside `sha256sum` of all of them on as many cores. 'join' audits
+'hash' audits two devices with 3.2 GB in 800 files, beside `sha256sum` of all of them on as many cores. 'small' makes the
+part of a device with 100,000 files of 1 KB, beside `sha256sum` of them, from memory and from the disk. 'join' audits
 three devices with 10,000, 30,000 and 100,000 names by their parts, and says what 1,000,000 would take. 'wrong' audits
 three devices by their parts: 100,000 and 300,000 names, each of which is rotten on one of them, and 60,000 names of 1,012
 bytes with rot in 150 blocks each. It says whether memory stays under 300 MB. 'export' writes the documents of three
@@ -37,6 +38,8 @@ LONG, BYTES_OF_LONG = 60_000, 40_000_000
 MOST_MEMORY = 300
 MOST_SECONDS = 90  # of the audit of the last of SIZES
 MOST_TIMES = 1.3  # of the seconds of sha256sum
+SMALL, BYTES_OF_SMALL = 100_000, 1024
+MOST_TIMES_OF_SMALL = 2  # of the processor seconds of sha256sum
 NOT_IN_STEP = 1
 
 
@@ -103,6 +106,41 @@ def measure_hashing(room, asked):
     tell(f"audit of {DEVICES} devices with them", audit)
     tell_goal("times the seconds of sha256sum", audit[0] / plain[0], MOST_TIMES)
     shutil.rmtree(folder)
+
+
+def let_go(folder):
+    """Has the system let go of all files that it has in memory, as the audit does before it reads them."""
+    for path in folder.rglob("*"):
+        if path.is_file():
+            with path.open("rb") as file:
+                os.posix_fadvise(file.fileno(), 0, 0, os.POSIX_FADV_DONTNEED)
+
+
+def measure_small(room, asked):
+    """A device with many small files, beside sha256sum."""
+    folder = room / "small"
+    sample(room, "--devices", 2, "--files", SMALL, "--bytes", BYTES_OF_SMALL, folder)
+    files = folder / "device1/files"
+    sums = ["sh", "-c", f"find {files} -type f -print0 | xargs -0 -P {os.cpu_count()} sha256sum"]
+    measured(sums)  # all files are in memory
+    warm = min((measured(sums) for _ in range(asked.runs)), key=processor_of)
+    tell(f"sha256sum of {SMALL:,} files from memory", warm)
+    cold = []
+    for _ in range(asked.runs):
+        let_go(files)
+        cold.append(measured(sums))
+    tell("the same from the disk", min(cold, key=processor_of))
+    words = [room / PROGRAM, "part", "--home", folder / "device1/home", "-o", room / "small.part"]
+    part = min((measured(words) for _ in range(asked.runs)), key=processor_of)
+    tell("part of the device with them", part)
+    for where, sha in (("from memory", warm), ("from the disk", min(cold, key=processor_of))):
+        tell_goal(f"times the processor seconds of sha256sum {where}", processor_of(part) / processor_of(sha), MOST_TIMES_OF_SMALL)
+    shutil.rmtree(folder)
+
+
+def processor_of(figures):
+    """The processor seconds of what was measured."""
+    return figures[1]
 
 
 def on_line(values, size):
@@ -174,7 +212,7 @@ def measure_sum(room, asked):
         shutil.rmtree(into)
 
 
-MEASURES = {"hash": measure_hashing, "join": measure_joining, "wrong": measure_wrong, "export": measure_export,
+MEASURES = {"hash": measure_hashing, "small": measure_small, "join": measure_joining, "wrong": measure_wrong, "export": measure_export,
             "sum": measure_sum}
 
 

@@ -3,13 +3,8 @@
 # and peak memory, as text, as JSON and with --firm.
 #
 #     tools/bench/explaining.sh [KIND MEGABYTES ..]
-set -euo pipefail
-top=$(cd "$(dirname "$0")/../.." && pwd)
-work=$(mktemp -d)
-trap 'rm -rf "$work"' EXIT
-
-. "$top/tools/release/choose.sh"
-choose
+# shellcheck source=tools/bench/head.sh
+. "$(dirname "$0")/head.sh"
 
 [ $# -gt 0 ] || set -- names 8 names 16 names 32 names 64 repeated 18.8 falling 7.9 contents 18.8 ahead 16 unknown 4
 while [ $# -gt 1 ]; do

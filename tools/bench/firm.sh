@@ -1,15 +1,9 @@
 #!/usr/bin/env bash
 # Measures 'syncaudit firm' and 'syncaudit converge' beside 'syncaudit check' on settled documents near the limits
 # (make_document.py has their kinds): seconds of the whole process (the best of RUNS runs each) and peak memory.
-set -euo pipefail
+# shellcheck source=tools/bench/head.sh
+. "$(dirname "$0")/head.sh"
 runs=${1:-3}
-top=$(cd "$(dirname "$0")/../.." && pwd)
-work=$(mktemp -d)
-trap 'rm -rf "$work"' EXIT
-
-. "$top/tools/release/choose.sh"
-choose
-. "$top/tools/bench/measure.sh"
 
 for kind in settled flights devices names; do
   make_document "$kind"

@@ -2,16 +2,10 @@
 # Measures 'syncaudit rows' on settled streams of 100,000 and 1,000,000 rows (make_rows.py), each of a file on three devices:
 # processor time a row, and that peak memory is that of one row; and on 4,000 rows beside 'check --certify' of the document for which
 # they stand. RUNS runs each (3 if not given), of which the best counts; and ROWS rows in place of 1,000,000.
-set -euo pipefail
+# shellcheck source=tools/bench/head.sh
+. "$(dirname "$0")/head.sh"
 runs=${1:-3}
 most=${2:-1000000}
-top=$(cd "$(dirname "$0")/../.." && pwd)
-work=$(mktemp -d)
-trap 'rm -rf "$work"' EXIT
-
-. "$top/tools/release/choose.sh"
-choose
-. "$top/tools/bench/measure.sh"
 
 # make_stream ROWS: the stream of so many rows is the document that is measured from now on.
 make_stream() {

@@ -2,15 +2,10 @@
 # steps.sh [STEPS]: how many steps a second `syncaudit run` makes of a scenario of STEPS steps (100,000 where there is no
 # word) over 512 names and over 4096, with its reading and the audit of its end (the best of 3 runs), and its greatest
 # memory. The program is the one that ./syncaudit runs.
-set -euo pipefail
+# shellcheck source=tools/bench/head.sh
+. "$(dirname "$0")/head.sh"
 steps=${1:-100000}
 runs=3
-top=$(cd "$(dirname "$0")/../.." && pwd)
-work=$(mktemp -d)
-trap 'rm -rf "$work"' EXIT
-. "$top/tools/release/choose.sh"
-choose
-. "$top/tools/bench/measure.sh"
 
 for names in 512 4096; do
   "$top/tools/bench/make_scenario.py" "$names" "$steps" > "$work/document"

@@ -5,8 +5,13 @@
 //	tools/mutants/run [--turn K/N] [--sample N [--seed S]] [--seconds S] [--jobs N] PACKAGE..
 //	tools/mutants/run --again FILE PACKAGE..    only those that an earlier run, whose output this is, says survived
 //	tools/mutants/run --classes MODULE:CLASS,.. [--sample N] PACKAGE..    what classes of real devices fail for (classes.go)
+//	tools/mutants/run --beyond rest [--seconds S] [--jobs N]    where classes of real devices come, and no Go test does (beyond.go)
+//	tools/mutants/run --table [PACKAGE..]    the last figure of each package in results.csv, and whether it is as asked (table.go)
 //
-// Each mutant that all tests let pass is printed with file, line and change. One that stands in same.txt, with the reason why
+// With --record, each package's figure goes into results.csv.
+//
+// Each mutant that all tests let pass is printed with file, line and change, and each for which they took too long: that counts as seen, but on a
+// busy machine may be chance, and --again tries it, too. One that stands in same.txt, with the reason why
 // nobody could see it, isn't counted. A line there of a package that is tried, and that names none of its mutants, has failed.
 // The last line is 'N passed, M failed'. A mutant that a test sees has passed.
 package main
@@ -17,6 +22,7 @@ import (
 	"fmt"
 	"math/rand"
 	"os"
+	"path/filepath"
 	"regexp"
 	"sort"
 	"strings"
@@ -43,7 +49,10 @@ func main() {
 	jobs := flag.Int("jobs", 2, "how many at once")
 	most := flag.Float64("most", 5, "how many of a hundred mutants may survive")
 	classes := flag.String("classes", "", "in place of Go's tests, these classes of auditor/test: MODULE:CLASS,..")
+	beyond := flag.String("beyond", "", "to which places these classes come and no Go test does: MODULE:CLASS,.., or rest: all of which that isn't known")
 	same := flag.String("same", "", "the file of mutants that are the same program")
+	table := flag.String("table", "", "the file of figures, of which the last one of each package is told")
+	recorded := flag.String("record", "", "the file of figures, to which those of this run are added")
 	again := flag.String("again", "", "the output of an earlier run: only the mutants that survived it")
 	flag.Parse()
 	given := asked{sample: *sample, seed: *seed, jobs: *jobs, most: *most}
@@ -59,6 +68,27 @@ func main() {
 	}
 	if given.again, err = readSurvivors(*again); err != nil {
 		fail(err)
+	}
+	if *recorded != "" && (given.again != nil || given.turns > 1) {
+		fail(fmt.Errorf("--record goes with a sample, or with all mutants"))
+	}
+	if *table != "" {
+		figures, err := figuresIn(*table)
+		if err != nil {
+			fail(err)
+		}
+		passed, failed, skipped, err := tellFigures(os.Stdout, figures, flag.Args(), given.most)
+		if err != nil {
+			fail(err)
+		}
+		end(passed, failed, skipped)
+		return
+	}
+	if *beyond != "" {
+		if err := tellBeyond(*beyond, filepath.Dir(*same), given); err != nil {
+			fail(err)
+		}
+		return
 	}
 	if *classes != "" {
 		for _, path := range flag.Args() {
@@ -80,9 +110,19 @@ func main() {
 		if !counts.isEnough(given.most) {
 			failed += counts.survived
 		}
-		fmt.Printf("%s: %d mutants seen, %d survived (%.1f %%), %d the same, %d not compiled, %d not begun\n", path, counts.seen, counts.survived,
-			counts.share(), counts.same, counts.notCompiled, counts.left)
+		fmt.Printf("%s: %d mutants in all: %d seen, of these %d hung, %d survived (%.1f %%), %d the same, %d not compiled, %d not begun\n", path, counts.all, counts.seen,
+			counts.hung, counts.survived, counts.share(), counts.same, counts.notCompiled, counts.left)
+		if *recorded != "" {
+			if err := record(*recorded, path, counts, given); err != nil {
+				fail(err)
+			}
+		}
 	}
+	end(passed, failed, skipped)
+}
+
+// end prints the last line, and ends with a failure where there was one.
+func end(passed, failed, skipped int) {
 	fmt.Printf("%d passed, %d failed", passed, failed)
 	if skipped > 0 {
 		fmt.Printf(", %d skipped", skipped)
@@ -124,7 +164,7 @@ func readSame(path string) (map[string]bool, error) {
 	return keys, lines.Err()
 }
 
-// readSurvivors reads the keys of the mutants that a run's output says survived; nothing where no file is named.
+// readSurvivors reads the keys of the mutants that a run's output says survived or hung; nothing where no file is named.
 func readSurvivors(path string) (map[string]bool, error) {
 	if path == "" {
 		return nil, nil
@@ -140,10 +180,10 @@ func readSurvivors(path string) (map[string]bool, error) {
 }
 
 // A survivor's line, as counts.count prints it.
-var survivor = regexp.MustCompile(`^survived.*\.go:\d+: (.*)$`)
+var survivor = regexp.MustCompile(`^(?:survived|hung).*?\.go:\d+: (.*)$`)
 
 // counts is how many mutants of a package had which outcome.
-type counts struct{ seen, survived, same, notCompiled, left, stale int }
+type counts struct{ all, seen, hung, survived, same, notCompiled, left, stale int }
 
 // isEnough says whether so few survived that the package counts as tested.
 func (c counts) isEnough(most float64) bool {
@@ -178,6 +218,7 @@ func judge(path string, given asked) (counts, error) {
 		return counts{}, err
 	}
 	counts, err := tryAll(on, due, given)
+	counts.all = len(due)
 	for _, line := range staleOf(path, given.same, due) {
 		counts.stale++
 		fmt.Printf("same.txt has no mutant of that name: %s\n", line)
@@ -299,6 +340,10 @@ func (c *counts) count(tried keyed, became outcome) {
 		c.notCompiled++
 	case seen:
 		c.seen++
+	case hung:
+		c.seen++
+		c.hung++
+		fmt.Printf("hung: %s:%d: %s\n", tried.file, tried.line, tried.name)
 	case survived:
 		c.survived++
 		fmt.Printf("survived: %s:%d: %s\n", tried.file, tried.line, tried.name)

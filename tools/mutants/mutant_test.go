@@ -124,15 +124,16 @@ func TestEachLineNamesAMutant(t *testing.T) {
 	}
 }
 
-// What a run prints of a mutant that survived names it for the next run.
+// What a run prints of a mutant that survived or hung names it for the next run.
 func TestSurvivorsAreReadAgain(t *testing.T) {
 	file := filepath.Join(t.TempDir(), "output")
-	text := "survived: /x/p.go:7: p/p.go f: operator <=: a < b\nsurvived, and no test comes to it: /x/q.go:9: p/q.go g: one more: 0 #2\np: 5 mutants seen, 2 survived\n"
+	text := "survived: /x/p.go:7: p/p.go f: operator <=: a < b\nsurvived, and no test comes to it: /x/q.go:9: p/q.go g: one more: 0 #2\n" +
+		"hung: /x/p.go:7: p/p.go f: constant true: false\np: 5 mutants seen, 2 survived\n"
 	if err := os.WriteFile(file, []byte(text), 0o600); err != nil {
 		t.Fatal(err)
 	}
 	keys, err := readSurvivors(file)
-	if expected := map[string]bool{"p/p.go f: operator <=: a < b": true, "p/q.go g: one more: 0 #2": true}; err != nil || !reflect.DeepEqual(keys, expected) {
+	if expected := map[string]bool{"p/p.go f: operator <=: a < b": true, "p/q.go g: one more: 0 #2": true, "p/p.go f: constant true: false": true}; err != nil || !reflect.DeepEqual(keys, expected) {
 		t.Errorf("%v, %v", keys, err)
 	}
 	if keys, err := readSurvivors(""); keys != nil || err != nil {

@@ -92,7 +92,7 @@ func (r *reader) addNumber(literal *ast.BasicLit) {
 }
 
 // Functions that answer the same when their arguments are swapped.
-var isSymmetric = map[string]bool{"reflect.DeepEqual": true, "bytes.Equal": true, "os.SameFile": true, "strings.EqualFold": true}
+var isSymmetric = map[string]bool{"reflect.DeepEqual": true, "bytes.Equal": true, "os.SameFile": true, "strings.EqualFold": true, "slices.Equal": true, "max": true, "min": true}
 
 // addSwaps adds the mutants of a call with two neighbouring arguments swapped. Where their types differ it isn't compiled.
 func (r *reader) addSwaps(call *ast.CallExpr) {

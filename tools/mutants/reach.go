@@ -16,6 +16,9 @@ const longestAlone = 10 * time.Minute
 // A quick test is tried before all that take longer.
 const quick = 300 * time.Millisecond
 
+// On a busy machine a test counts as quick that takes at most this part of what all take.
+const quickPart = 20
+
 // reach is what a package's tests run through: for each mutant, by its number, the tests that come to it.
 type reach struct {
 	tests  []string
@@ -35,9 +38,12 @@ func (b *bench) reachOf() (*reach, error) {
 			continue
 		}
 		log := filepath.Join(b.room, "reached")
+		if err := makeLog(log); err != nil {
+			return nil, err
+		}
 		began := time.Now()
-		if !b.runs(b.together, b.room, longestAlone, "-1", log, "-test.run", "^"+name+"$") {
-			return nil, fmt.Errorf("the test %s of %s fails without a mutant", name, b.packagePath)
+		if b.runs(b.together, b.room, longestAlone, unswitched, log, "-test.run", "^"+name+"$") != survived {
+			return nil, fmt.Errorf("the test %s of %s fails without a mutant: %s", name, b.packagePath, b.told.String())
 		}
 		found.tests = append(found.tests, name)
 		found.took[name] = time.Since(began)
@@ -60,9 +66,6 @@ func (r *reach) sum() time.Duration {
 // note notes the mutants that a test came to.
 func (r *reach) note(name, log string) error {
 	text, err := os.ReadFile(log)
-	if os.IsNotExist(err) {
-		return nil
-	}
 	if err != nil {
 		return err
 	}
@@ -71,17 +74,36 @@ func (r *reach) note(name, log string) error {
 		if err != nil {
 			return err
 		}
-		r.coming[number] = append(r.coming[number], name)
+		if of := r.coming[number]; len(of) == 0 || of[len(of)-1] != name { // several processes of a test may come there
+			r.coming[number] = append(of, name)
+		}
 	}
 	return os.Remove(log)
+}
+
+// makeLog makes the file in which it is noted to what a program comes, also where that becomes another user.
+func makeLog(path string) error {
+	if err := os.WriteFile(path, nil, 0o600); err != nil {
+		return err
+	}
+	for directory := filepath.Dir(path); directory != filepath.Dir(directory) && directory != filepath.Clean(os.TempDir()); directory = filepath.Dir(directory) {
+		if err := os.Chmod(directory, 0o711); err != nil {
+			return err
+		}
+	}
+	return os.Chmod(path, 0o666)
 }
 
 // groups gives the tests that come to a mutant, the quick ones first, and how long each group may take.
 func (r *reach) groups(number int) []group {
 	var short, long group
+	most := quick
+	if part := r.sum() / quickPart; part > most {
+		most = part
+	}
 	for _, name := range r.coming[number] {
 		to := &long
-		if r.took[name] < quick {
+		if r.took[name] < most {
 			to = &short
 		}
 		to.tests = append(to.tests, name)

@@ -23,7 +23,12 @@ import (
 	mutantAtomic "sync/atomic"
 )
 
-var mutantNow = func() int { number, _ := mutantNumber.Atoi(mutantOS.Getenv("MUTANT_NOW")); return number }()
+var mutantNow = func() int {
+	if number, err := mutantNumber.Atoi(mutantOS.Getenv("MUTANT_NOW")); err == nil {
+		return number
+	}
+	return mutantElse
+}()
 
 func mutantIs(number int) bool {
 	if mutantNow < 0 {
@@ -36,7 +41,11 @@ func mutantReached(number int) {
 	if mutantAtomic.LoadUint32(&mutantHad[number]) != 0 || mutantAtomic.SwapUint32(&mutantHad[number], 1) != 0 {
 		return
 	}
-	file, err := mutantOS.OpenFile(mutantOS.Getenv("MUTANT_REACHED"), mutantOS.O_APPEND|mutantOS.O_CREATE|mutantOS.O_WRONLY, 0o600)
+	log := mutantOS.Getenv("MUTANT_REACHED")
+	if own, err := mutantOS.Executable(); log == "" && err == nil {
+		log = own + ".reached"
+	}
+	file, err := mutantOS.OpenFile(log, mutantOS.O_APPEND|mutantOS.O_CREATE|mutantOS.O_WRONLY, 0o600)
 	if err == nil {
 		file.WriteString(mutantNumber.Itoa(number) + "\n")
 		file.Close()
@@ -77,14 +86,14 @@ type insertion struct {
 
 // insertionsOf gives what goes into one file for these mutants, by the number of each, in the order of their places. Where two
 // begin at one place, the longer is the outer one; where they are of the same piece, the earlier is.
-func insertionsOf(file string, all []keyed, isAlone map[int]bool) []insertion {
+func insertionsOf(file string, all []keyed, isAlone map[int]bool, first int) []insertion {
 	var put []insertion
 	for place, found := range all {
 		if found.file != file || isAlone[place] {
 			continue
 		}
 		for _, piece := range found.wraps {
-			put = append(put, insertion{piece.from, true, piece.to, place, piece.numbered(place + 1)},
+			put = append(put, insertion{piece.from, true, piece.to, place, piece.numbered(first + place)},
 				insertion{piece.to, false, piece.from, place, piece.after})
 		}
 	}
@@ -162,11 +171,11 @@ func writeAll(of *loaded, all []keyed, isAlone map[int]bool, room string) (strin
 		return os.WriteFile(replace[own], text, 0o600)
 	}
 	for _, file := range of.files {
-		if err := write(file.path, withAll(file.text, insertionsOf(file.path, all, isAlone))); err != nil {
+		if err := write(file.path, withAll(file.text, insertionsOf(file.path, all, isAlone, of.first()))); err != nil {
 			return "", err
 		}
 	}
-	had := fmt.Sprintf("\nvar mutantHad [%d]uint32\n", len(all)+1)
+	had := fmt.Sprintf("\nconst mutantElse = %d\n\nvar mutantHad [%d]uint32\n", of.unsaid(), of.first()+len(all))
 	if err := write(filepath.Join(of.directory, "mutant_switches.go"), []byte("package "+of.name+switches+had)); err != nil {
 		return "", err
 	}

@@ -1,6 +1,7 @@
 package main
 
 import (
+	"bytes"
 	"context"
 	"encoding/json"
 	"fmt"
@@ -8,6 +9,7 @@ import (
 	"os/exec"
 	"path/filepath"
 	"strconv"
+	"syscall"
 	"time"
 )
 
@@ -16,7 +18,8 @@ type outcome int
 
 const (
 	notCompiled outcome = iota // it is no program
-	seen                       // a test fails, or hangs
+	seen                       // a test fails
+	hung                       // a test took too long, which counts as seen
 	survived                   // all tests pass
 	notReached                 // no test comes to it
 )
@@ -33,7 +36,11 @@ type bench struct {
 	together    string        // the tests, compiled with all mutants that can be switched on
 	isAlone     map[int]bool  // the places of those that can't
 	reach       *reach
+	told        bytes.Buffer // what the last test without a mutant told
 }
+
+// The number by which no mutant is switched on, and it is noted to which the tests come.
+const unswitched = "-1"
 
 // try tries a mutant by its place.
 func (b *bench) try(tried mutant, place int) (outcome, error) {
@@ -50,8 +57,8 @@ func (b *bench) try(tried mutant, place int) (outcome, error) {
 		return notReached, nil
 	}
 	for _, tests := range groups {
-		if !b.runs(b.together, room, longestOf(tests.took), strconv.Itoa(place+1), "", "-test.failfast", "-test.run", tests.pattern()) {
-			return seen, nil
+		if became := b.runs(b.together, room, longestOf(tests.took), strconv.Itoa(place+1), "", "-test.failfast", "-test.run", tests.pattern()); became != survived {
+			return became, nil
 		}
 	}
 	return survived, nil
@@ -79,22 +86,34 @@ func (b *bench) tryAlone(tried mutant, room string) (outcome, error) {
 	if exec.Command("go", "test", "-overlay", overlay, "-vet=off", "-c", "-o", tests, b.packagePath).Run() != nil {
 		return notCompiled, nil
 	}
-	if b.runs(tests, room, b.longest, "0", "", "-test.failfast") {
-		return survived, nil
-	}
-	return seen, nil
+	return b.runs(tests, room, b.longest, "0", "", "-test.failfast"), nil
 }
 
-// runs runs compiled tests where they find their files, with the mutant of this number switched on, and says whether all pass in
-// time. What they come to goes into the log if there is one.
-func (b *bench) runs(tests, room string, longest time.Duration, number, log string, words ...string) bool {
+// runs runs compiled tests where they find their files, with the mutant of this number switched on, and says what became of it.
+// What they come to goes into the log if there is one.
+func (b *bench) runs(tests, room string, longest time.Duration, number, log string, words ...string) outcome {
 	ending, cancel := context.WithTimeout(context.Background(), longest)
 	defer cancel()
 	limited := fmt.Sprintf(`ulimit -v %d; exec "$0" "$@"`, memory)
 	running := exec.CommandContext(ending, "sh", append([]string{"-c", limited, tests}, words...)...)
 	running.Dir = b.directory
 	running.Env = append(os.Environ(), "TMPDIR="+room, "MUTANT_NOW="+number, "MUTANT_REACHED="+log)
-	return running.Run() == nil
+	running.SysProcAttr = &syscall.SysProcAttr{Setpgid: true}
+	if number == unswitched {
+		b.told.Reset()
+		running.Stdout = &b.told
+	}
+	err := running.Run()
+	if running.Process != nil {
+		syscall.Kill(-running.Process.Pid, syscall.SIGKILL) // what it started and left
+	}
+	switch {
+	case err == nil:
+		return survived
+	case ending.Err() != nil:
+		return hung
+	}
+	return seen
 }
 
 // timeOf runs a package's tests as they are, which must pass, and gives how long they may take with a mutant.

@@ -27,6 +27,19 @@ type loaded struct {
 	path, name, directory string
 	places                *token.FileSet
 	files                 []source
+	before                int  // how many mutants packages before it have, where it is one of several
+	isOfSeveral           bool // then what it comes to is noted wherever it runs
+}
+
+// first is the number of the package's first mutant.
+func (l *loaded) first() int { return l.before + 1 }
+
+// unsaid is the mutant that is switched on where nobody says which: none, or for several packages -1, by which it is noted to which it comes.
+func (l *loaded) unsaid() int {
+	if l.isOfSeveral {
+		return -1
+	}
+	return 0
 }
 
 // load reads a package.

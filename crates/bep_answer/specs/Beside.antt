@@ -1,5 +1,5 @@
 -- What a person is told beside an answer (this project's profile).
-use Rattle.std.specs.Prelude.{◌≡◌, ⊤, ℕ, List, [], Option, Some, None, true}
+use Rattle.std.specs.Prelude.{◌≡◌, ℕ, List, [], Option, Some, None, true, false}
 use Rattle.std.specs.List.{flat_map}
 use Rattle.std.specs.String.{string_bytes}
 use Rattle.bep_audit.specs.Certifier.{AreWinners}
@@ -19,22 +19,24 @@ use Rattle.bep_tables.specs.declared.cut.CutParts.{CutParts}
 use Rattle.bep_report.specs.Input.{IsRead}
 use Rattle.bep_cut_document.specs.Written.{check_of, cut_of_document}
 use Rattle.bep_answer.specs.declared.exchanging.Beside.{Beside}
-use Rattle.bep_answer.specs.declared.exchanging.Beside.TheVariants.{Hint, Lines}
+use Rattle.bep_answer.specs.declared.exchanging.Beside.TheVariants.{Hint, NotFound, Lines}
 
--- where a refused document is at fault as the one that was expected, or nothing
+-- where a refused document is at fault as the one that was expected, or that this was looked for and not found
 abbrev pub IsHint : Expected → Option Beside → Type 0
-IsHint expected None = ⊤
+IsHint expected None = ⊥
 IsHint expected (Some (Hint hint)) = hint.expected ≡ expected
+IsHint expected (Some (NotFound missed)) = missed.expected ≡ expected
 IsHint expected (Some (Lines lines)) = ⊥
 
--- beside a document that is refused for this fault: such a hint, and nothing where the fault has a place, which its line tells
+-- beside a document that is refused for this fault: such a hint; nothing where the fault has a place, which its line tells
 abbrev pub IsHintOn : Expected → DocFault → Option Beside → Type 0
-IsHintOn expected fault beside = IsHint expected beside × (has_place fault.fault ≡ true → beside ≡ None)
+IsHintOn expected fault beside = (has_place fault.fault ≡ false → IsHint expected beside) × (has_place fault.fault ≡ true → beside ≡ None)
 
 -- these lines, or nothing where there are none
 abbrev pub AreLines : List ℕ → Option Beside → Type 0
 AreLines told None = told ≡ []
 AreLines told (Some (Hint hint)) = ⊥
+AreLines told (Some (NotFound missed)) = ⊥
 AreLines told (Some (Lines lines)) = string_bytes lines ≡ told
 
 -- the line of a name that has no winner

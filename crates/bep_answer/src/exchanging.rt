@@ -3,7 +3,7 @@ ghost use Rattle.std.specs.Prelude.{List, ℕ, Option, IfOk, IfErr, IsUtf8};
 ghost use Rattle.bep_answer.specs.Beside.{AreLines, IsTelling};
 ghost use Rattle.bep_answer.specs.Exchange.{IsEndedEarly, IsWhole};
 
-use bep_hints::Hint;
+use bep_hints::{Hint, NotFound};
 use bep_report::{ReportError, read_document, write_all};
 use std::alloc::{AllocError, Global};
 use std::io::{Read, Write};
@@ -13,6 +13,8 @@ use std::io::{Read, Write};
 pub enum Beside {
     /// Where a refused document is at fault.
     Hint(Hint),
+    /// That this was looked for and not found.
+    NotFound(NotFound),
     /// Lines, as of the steps that were refused.
     Lines(String),
 }

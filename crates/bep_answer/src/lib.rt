@@ -40,6 +40,6 @@ pub use refusing::{fault_line, hint_for, refusal};
 pub use status::{USAGE, certified_status_of, firm_status_of, partial_status_of, status_of};
 pub use told::{
     certify_and_tell, certify_partly_and_tell, check_and_tell, check_under_winners_and_tell, end,
-    end_certified, end_firm, firm_and_tell, firm_under_winners_and_tell,
+    end_certified, end_firm, firm_and_tell, firm_under_winners_and_tell, tell,
 };
 pub use under_winners::{AuditUnderWinners, FirmnessUnderWinners, audit_under_winners};

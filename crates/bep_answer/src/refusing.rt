@@ -35,8 +35,8 @@ pub fn fault_line(alloc: Global, fault: &DocFault) -> Result<Vec<u8>, AllocError
     Ok(text)
 }
 
-/// What is told beside the refusal: where these bytes are at fault as the document that was expected, if there is anything to
-/// say. Nothing is looked for where the fault has a place, since its line tells that.
+/// What is told beside the refusal: where these bytes are at fault as the document that was expected, or that this wasn't found.
+/// Nothing is looked for where the fault has a place, since its line tells that.
 pub fn hint_for(alloc: Global, bytes: &[u8], fault: &DocFault, expected: Expected) -> Option<Beside>
     ensures { IsHintOn expected fault.now result }
 {
@@ -44,7 +44,7 @@ pub fn hint_for(alloc: Global, bytes: &[u8], fault: &DocFault, expected: Expecte
         return None;
     }
     match hint_at(alloc, bytes, expected) {
-        Some(hint) => Some(Beside::Hint(hint)),
-        None => None,
+        Ok(hint) => Some(Beside::Hint(hint)),
+        Err(missed) => Some(Beside::NotFound(missed)),
     }
 }

@@ -130,8 +130,8 @@ pub fn end_certified<P: Eprint>(rt: &P, answer: Result<Hinted<Certified>, Report
     certified_status_of(tell(rt, answer))
 }
 
-// Tells what was answered beside an outcome, if there is anything, or why there is no answer; the answer without it.
-fn tell<P: Eprint, T>(rt: &P, answer: Result<Hinted<T>, ReportError>) -> Result<T, ReportError>
+/// Tells what was answered beside an outcome, if there is anything, or why there is no answer; the answer without it.
+pub fn tell<P: Eprint, T>(rt: &P, answer: Result<Hinted<T>, ReportError>) -> Result<T, ReportError>
     ensures { result ≡ without_hint answer }
 {
     match answer {
@@ -153,6 +153,10 @@ fn tell_beside<P: Eprint>(rt: &P, beside: &Beside) {
     match beside {
         Beside::Hint(hint) => {
             let sentence = hint.sentence();
+            let _ = eprintln!(rt; "{sentence}");
+        }
+        Beside::NotFound(missed) => {
+            let sentence = missed.sentence();
             let _ = eprintln!(rt; "{sentence}");
         }
         Beside::Lines(lines) => {

@@ -1,5 +1,5 @@
 -- The links of a cut go down: then its cluster is reached, and what prevails comes to all.
-use Rattle.std.proofs.Common.{◌≡◌, ◌∙◌, ◌==◌, ◌&&◌, ◌+◌, ◌≤◌, ℕ, Bool, true, false, List, [], ◌∷◌, ◌++◌, map, length, Contains, Option, Some, None, refl, sym, ap, subst, inl, inr, ⊎_elim, if◌then◌else◌, arith}
+use Rattle.std.proofs.Common.{◌≡◌, ◌∙◌, ◌==◌, ◌&&◌, ◌≤◌, ℕ, Bool, true, false, List, [], ◌∷◌, ◌++◌, map, length, Contains, Option, Some, None, refl, sym, ap, subst, inl, inr, ⊎_elim, if◌then◌else◌, arith}
 use Rattle.std.proofs.lemmas.Bool.{eq-eqb, eqb-true, and_from}
 use Rattle.std.proofs.lemmas.List.{length-append, length-map}
 use Rattle.std.specs.FinMap.{get}
@@ -8,8 +8,7 @@ use Rattle.bep_facts.specs.Maps.{nothing_in_empty}
 use Rattle.bep_facts.specs.Members.{not_in_none, Contains-first, Contains-more, Contains-cons_cases, Contains-image}
 use Rattle.bep_record.specs.declared.entry.Entry.{Entry}
 use Rattle.bep_record.specs.declared.folder_kind.FolderKind.{FolderKind}
-use Rattle.bep_model.specs.Tables.{Tables, Device, Folder, FileName, Shares}
-use Rattle.bep_model.specs.Foreign.{IsKnown}
+use Rattle.bep_model.specs.Tables.{Tables, Device, Folder, FileName}
 use Rattle.bep_machine.specs.declared.moved.Moved.TheVariants.{Changed}
 use Rattle.bep_machine.specs.declared.step.Step.{Step}
 use Rattle.bep_machine.specs.declared.step.Step.TheVariants.{Lose}
@@ -19,7 +18,6 @@ use Rattle.bep_machine.specs.Gapless.{IsGapless, IsOfNoLaterIndex}
 use Rattle.bep_machine.specs.Laws.{StepsKeepSound}
 use Rattle.bep_machine.specs.Link.{Link, lost}
 use Rattle.bep_machine.specs.Peer.{Peer, Session}
-use Rattle.bep_machine.specs.Replica.{Replica}
 use Rattle.bep_machine.specs.Said.{tables_of_cluster}
 use Rattle.bep_machine.specs.Sound.{IsSound}
 use Rattle.bep_machine.specs.Steps.{Event, IsStep, IsRun, LoseRow, AreQuiet, HasNoReset, reset_by, reset_in}
@@ -28,13 +26,13 @@ use Rattle.bep_tables.specs.declared.link.LinkState.{LinkState}
 use Rattle.bep_tables.specs.Cut.{ends_of, link_of, tables_of}
 use Rattle.bep_tables.proofs.Tables.{link_has_ends}
 use Rattle.bep_origin.specs.FromCut.{cluster_from, link_from}
-use Rattle.bep_converge.specs.Prevails.{IsAtTop, Prevails, AllPrevail}
+use Rattle.bep_converge.specs.Prevails.{IsAtTop, AllPrevail}
 use Rattle.bep_converge.specs.Orderly.{StaysAt}
-use Rattle.bep_converge.specs.Bring.{done, HasRoomFor, IsJoinedUp, IsReady}
+use Rattle.bep_converge.specs.Bring.{done, IsJoinedUp, IsReady}
 use Rattle.bep_converge.specs.Laws.{CutsHaveHashes, PrevailingGoesOn, PrevailingIsUnique}
 use Rattle.bep_converge.specs.Received.{AllHaveHashes}
 use Rattle.bep_converge.specs.Rises.{GoesOnPrevailing}
-use Rattle.bep_converge.specs.Arrival.{AllArrive, AllCome, Behind, HasAllBehind, steps_for}
+use Rattle.bep_converge.specs.Arrival.{AllCome, Behind, HasAllBehind}
 use Rattle.bep_converge.specs.CutDown.{AllComeFromCuts, ComesDown, CutsComeDown, IsReadyCut}
 use Rattle.bep_converge.proofs.AllCome.{at_each_top}
 use Rattle.bep_converge.proofs.BringStage.{step_made}

@@ -41,6 +41,7 @@ mod BringFetch
 mod BringPull
 mod Brought
 mod CutReached
+mod RaisedEpochs
 mod RaisedIndexes
 mod RaisedRuns
 mod BringKept

@@ -1,5 +1,5 @@
 -- After the one change that a name awaits a cluster is ready.
-use Rattle.std.proofs.Common.{◌≡◌, ◌⊎◌, ◌+◌, ◌≤◌, ◌∙◌, ℕ, List, [], ◌∷◌, Option, Some, None, refl, sym, ap, subst, inl, inr, ⊎_elim, arith}
+use Rattle.std.proofs.Common.{◌≡◌, ◌⊎◌, ◌+◌, ◌≤◌, ◌∙◌, ℕ, Option, Some, None, refl, sym, ap, subst, inl, inr, ⊎_elim, arith}
 use Rattle.std.specs.FinMap.{get}
 use Rattle.bep_facts.specs.Decided.{both_or_not}
 use Rattle.bep_record.specs.declared.entry.Entry.{Entry}

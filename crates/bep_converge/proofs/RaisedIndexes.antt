@@ -1,7 +1,6 @@
 -- What each step of a run that scans or brings names leaves of indexes and links: only a scan and the end of a pull put a
 -- record, under their own name, and only a link that comes up gets another epoch.
-use Rattle.std.proofs.Common.{◌≡◌, ◌≢◌, ◌⊎◌, ◌+◌, ◌≤◌, ◌==◌, ◌&&◌, ◌||◌, ℕ, Bool, true, false, nat_lt, List, Option, Some, None, option_map, refl, sym, ap, subst, ◌∙◌, ⊎_elim, arith, if◌then◌else◌}
-use Rattle.std.proofs.lemmas.Bool.{eqb-true}
+use Rattle.std.proofs.Common.{◌≡◌, ◌≢◌, ◌⊎◌, ◌+◌, ◌≤◌, ◌==◌, ◌||◌, ℕ, Bool, true, false, nat_lt, List, Option, Some, None, option_map, refl, sym, ap, subst, ◌∙◌, ⊎_elim, arith, if◌then◌else◌}
 use Rattle.std.proofs.lemmas.Cmp.{nat_list_cmp_total}
 use Rattle.std.proofs.lemmas.Map.Lookups.{exact_bytes}
 use Rattle.std.specs.Prelude.{⊤}
@@ -20,7 +19,7 @@ use Rattle.bep_machine.specs.declared.step.Step.TheVariants.{Edit, Remove, Scan,
 use Rattle.bep_machine.specs.Answer.{Answer, Row, becomes}
 use Rattle.bep_machine.specs.Cluster.{Cluster, with_link, with_peer, link_between}
 use Rattle.bep_machine.specs.Exchange.{with_block, BeginRow, DeliverRow, AnnounceRow, AskRow}
-use Rattle.bep_machine.specs.Link.{End, Lower, Upper, Link, Deed, Sight, lost, after_deed, end_of, after_taking, after_sending, queue_to, queue_from, with_queues}
+use Rattle.bep_machine.specs.Link.{Link, Sight, lost, after_deed, end_of}
 use Rattle.bep_machine.specs.Peer.{Peer, Acted}
 use Rattle.bep_machine.specs.Local.{ScanRow, FoundRow, PutRow}
 use Rattle.bep_machine.specs.Pull.{StartPullRow, FinishRow, EndingRow, CopyingRow, SettlingRow, RoomRow, copy_name}
@@ -31,6 +30,7 @@ use Rattle.bep_machine.specs.Steps.{IsThere, StepRow, IsStep, OverLink, AtReplic
 use Rattle.bep_machine.proofs.CalmStep.{step_or_nothing}
 use Rattle.bep_converge.proofs.OverLinks.{IsReading, begin_reads, deliver_reads, announce_reads, ask_reads, link_reads, restart_reads}
 use Rattle.bep_converge.proofs.PlaceMoves.{finds_named}
+use Rattle.bep_converge.proofs.RaisedEpochs.{EpochsRise, epochs_stay, link_rises, over_link_epochs}
 use Rattle.bep_converge.proofs.Rows.{Everywhere, where_replica_changes, where_becomes, where_answers}
 
 -- ---- the steps of such a run
@@ -241,45 +241,6 @@ module _ (device : Device) (name : FileName) (old : Replica) where
       (λ wanted. ending_puts pulled.0 (sound.pulls name pulled.0 pulled.1).named failed new answer wanted.1)
       (λ unwanted. where_becomes PutsOne unwanted.1 none_put)
       pulled.2)
-
--- ---- links
-
--- the epoch of each link rises by so much at most
-abbrev pub EpochsRise : ℕ → Cluster → Cluster → Type 0
-EpochsRise more old new = (one other : Device) → (new.link one other).epoch ≤ (old.link one other).epoch + more
-
-epochs_stay : (more : ℕ) (old : Cluster) → EpochsRise more old old
-epochs_stay more old one other = omega arith
-
--- of one link that changes
-link_rises : (more : ℕ) (old : Cluster) (lower upper : Device) (link : Link) → link.epoch ≤ (old.link lower upper).epoch + more → EpochsRise more old (with_link old lower upper link)
-link_rises more old lower upper link rises one other = by_tests (one == lower) (other == upper) refl refl
-  where
-    by_tests : (b c : Bool) → (one == lower) ≡ b → (other == upper) ≡ c → (if b && c then link else old.link one other).epoch ≤ (old.link one other).epoch + more
-    by_tests true true first second =
-        subst (λ (d : Device). link.epoch ≤ (old.link d other).epoch + more) (sym (eqb-true one lower first))
-        (subst (λ (d : Device). link.epoch ≤ (old.link lower d).epoch + more) (sym (eqb-true other upper second)) rises)
-    by_tests true false first second = omega arith
-    by_tests false c first second = omega arith
-
-deed_keeps_epoch : (end : End) (deed : Deed) (link : Link) → (after_deed end deed link).epoch ≡ link.epoch
-deed_keeps_epoch end deed link = by_test deed.loses end
-  where
-    by_test : (b : Bool) (end : End) → (if b then lost link else with_queues end link (after_taking deed.takes (queue_to end link)) (after_sending deed.sends (queue_from end link))).epoch ≡ link.epoch
-    by_test true end = refl
-    by_test false Lower = refl
-    by_test false Upper = refl
-
--- a step over a link
-over_link_epochs : (more : ℕ) (device other : Device) (row : Sight → Peer → Row Acted) (old new : Cluster) (answer : Answer) → OverLink device other row old new answer → EpochsRise more old new
-over_link_epochs more device other row old new answer made =
-    subst (λ (c : Cluster). EpochsRise more old c) (sym made.2)
-    (by_test (nat_lt device other) (after_deed (end_of device other) made.0.deed (link_between old device other)) (deed_keeps_epoch (end_of device other) made.0.deed (link_between old device other)))
-  where
-    by_test : (b : Bool) (link : Link) → link.epoch ≡ (if b then old.link device other else old.link other device).epoch →
-        EpochsRise more old (if b then with_link (with_peer old device made.0.peer) device other link else with_link (with_peer old device made.0.peer) other device link)
-    by_test true link same = link_rises more (with_peer old device made.0.peer) device other link (omega arith)
-    by_test false link same = link_rises more (with_peer old device made.0.peer) other device link (omega arith)
 
 -- ---- each step
 

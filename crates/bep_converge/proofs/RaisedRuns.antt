@@ -15,7 +15,8 @@ use Rattle.bep_machine.specs.Sound.{IsSound}
 use Rattle.bep_machine.specs.Steps.{IsRun}
 use Rattle.bep_converge.specs.Bring.{done, repeated, connect, meet, hear, fetch, bring_steps}
 use Rattle.bep_converge.proofs.BringSteps.{IsCalm, AreCalm}
-use Rattle.bep_converge.proofs.RaisedIndexes.{IsBringing, opens, puts, EndsAt, EpochsRise, step_rises}
+use Rattle.bep_converge.proofs.RaisedEpochs.{EpochsRise}
+use Rattle.bep_converge.proofs.RaisedIndexes.{IsBringing, opens, puts, EndsAt, step_rises}
 
 -- ---- steps that bring
 

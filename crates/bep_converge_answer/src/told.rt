@@ -8,7 +8,7 @@ ghost use Rattle.bep_converge_answer.specs.Status as spec;
 use crate::answer::ConvergenceOfCut;
 use crate::outcome::Convergence;
 use crate::status::converge_status_of;
-use bep_answer::{Beside, Hinted, exchange};
+use bep_answer::{Hinted, exchange, tell};
 use bep_converge::prevailing_goes_on;
 use bep_report::ReportError;
 use std::io::{Read, Write};
@@ -31,29 +31,5 @@ pub fn converge_and_tell<P: AllocGlobal + Eprint, R: Read, W: Write>(
 pub fn end_converge<P: Eprint>(rt: &P, answer: Result<Hinted<Convergence>, ReportError>) -> u8
     ensures { result ≡ spec.converge_status_of (without_hint answer) }
 {
-    match answer {
-        Ok((outcome, beside)) => {
-            if let Some(beside) = beside {
-                tell_beside(rt, &beside);
-            }
-            converge_status_of(Ok(outcome))
-        }
-        Err(error) => {
-            let _ = eprintln!(rt; "{error}");
-            converge_status_of(Err(error))
-        }
-    }
-}
-
-// Tells what was answered beside the outcome.
-fn tell_beside<P: Eprint>(rt: &P, beside: &Beside) {
-    match beside {
-        Beside::Hint(hint) => {
-            let sentence = hint.sentence();
-            let _ = eprintln!(rt; "{sentence}");
-        }
-        Beside::Lines(lines) => {
-            let _ = eprint!(rt; "{lines}");
-        }
-    }
+    converge_status_of(tell(rt, answer))
 }

@@ -21,4 +21,4 @@ mod walk;
 mod wrong;
 
 pub use members::Expected;
-pub use sentence::{Hint, hint_at};
+pub use sentence::{Hint, NotFound, hint_at};

@@ -1,5 +1,5 @@
 //! What is said of a fault.
-ghost use Rattle.std.specs.Prelude.{◌≡◌, IfSome};
+ghost use Rattle.std.specs.Prelude.{◌≡◌, IfErr, IfOk};
 
 use crate::breaks::{said_of_break, said_of_bytes};
 use crate::members::Holds::Single;
@@ -34,17 +34,57 @@ impl Hint {
     }
 }
 
-/// A sentence on where these bytes are at fault as such a document: where they aren't JSON, or which member is missing,
-/// isn't known or isn't what it should be. None where there is nothing to say of that, or no memory.
-pub fn hint_at(alloc: Global, bytes: &[u8], expected: Expected) -> Option<Hint>
-    ensures { IfSome result (λ hint. hint.expected ≡ expected) }
-{
-    let said = said_of(alloc, bytes, expected).ok()?;
-    if said.is_empty() {
-        return None;
+/// That it was looked for where a document is at fault, and no hint was found. Only `hint_at` makes one.
+#[derive(Clone, Copy)]
+pub struct NotFound {
+    /// Which document was expected.
+    pub expected: Expected,
+    why: Why,
+}
+
+// Why no hint was found.
+#[derive(Clone, Copy)]
+enum Why {
+    // There was nothing to say.
+    Nothing,
+    // Memory ran out.
+    Memory,
+}
+
+impl NotFound {
+    /// The sentence that says so, without a line's end.
+    pub fn sentence(&self) -> &'static str {
+        match self.why {
+            Why::Nothing => "where the document is at fault wasn't found",
+            Why::Memory => "where the document is at fault wasn't found, for want of memory",
+        }
     }
-    let sentence = String::from_utf8(said).ok()?;
-    Some(Hint { expected, sentence })
+}
+
+/// A sentence on where these bytes are at fault as such a document: where they aren't JSON, or which member is missing,
+/// isn't known or isn't what it should be. `NotFound` where there is nothing to say of that, or no memory.
+pub fn hint_at(alloc: Global, bytes: &[u8], expected: Expected) -> Result<Hint, NotFound>
+    ensures found { IfOk result (λ hint. hint.expected ≡ expected) }
+    ensures not_found { IfErr result (λ missed. missed.expected ≡ expected) }
+{
+    match sentence_of(alloc, bytes, expected) {
+        Ok(sentence) => Ok(Hint { expected, sentence }),
+        Err(why) => Err(NotFound { expected, why }),
+    }
+}
+
+// The sentence, or why there is none.
+fn sentence_of(alloc: Global, bytes: &[u8], expected: Expected) -> Result<String, Why> {
+    let Ok(said) = said_of(alloc, bytes, expected) else {
+        return Err(Why::Memory);
+    };
+    if said.is_empty() {
+        return Err(Why::Nothing);
+    }
+    match String::from_utf8(said) {
+        Ok(sentence) => Ok(sentence),
+        Err(_) => Err(Why::Nothing),
+    }
 }
 
 // The sentence, empty where there is none.

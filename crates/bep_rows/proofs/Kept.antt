@@ -9,6 +9,7 @@ use Rattle.bep_record.specs.declared.entry.Entry.{Entry}
 use Rattle.bep_model.specs.declared.flight.Flight.{Flight}
 use Rattle.bep_model.specs.declared.row.Row.{Row}
 use Rattle.bep_model.specs.Tables.{Tables, Folder, FileName}
+use Rattle.bep_model.specs.Firm.{IsFirm}
 use Rattle.bep_model.specs.Foreign.{IsKnown}
 use Rattle.bep_model.specs.Settled.{IsSettled, Rise, key_of, key_cmp}
 use Rattle.bep_model.proofs.Winners.{first_is_below, tail_rises}
@@ -64,6 +65,13 @@ settled_where_unknown t unknown = record {
   };
   own = λ row device member shares. absurd (not_in_none row member);
   store = λ row device member shares. absurd (not_in_none row member);
+  foreign = λ row device member shares. absurd (not_in_none row member);
+}
+
+pub firm_where_unknown : (t : Tables) → ((folder : Folder) (name : FileName) → ¬ IsKnown t folder name) → IsFirm t []
+firm_where_unknown t unknown = record {
+  settled = settled_where_unknown t unknown;
+  own = λ row device member shares. absurd (not_in_none row member);
   foreign = λ row device member shares. absurd (not_in_none row member);
 }
 

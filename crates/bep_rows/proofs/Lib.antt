@@ -1,6 +1,7 @@
 mod Kept
 mod Order
-mod Whole
+mod Stands
+pub mod Whole
 mod Reading
 mod AllRows
 pub mod ListRead

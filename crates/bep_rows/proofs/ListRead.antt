@@ -10,11 +10,11 @@ use Rattle.bep_facts.specs.Members.{not_in_none, Contains-first, Contains-more}
 use Rattle.bep_facts.specs.Orders.{texts_total, texts_exact, not_less_itself}
 use Rattle.bep_model.specs.Settled.{key_cmp}
 use Rattle.bep_model.specs.Tables.{Tables, Folder, FileName}
-use Rattle.bep_parts.specs.Laws.{VerdictByParts}
 use Rattle.bep_row.specs.Fits.{AreQuiet}
 use Rattle.bep_row.specs.declared.row.NameRow.{NameRow}
 use Rattle.bep_tables.specs.Cut.{tables_of}
 use Rattle.bep_tables.specs.declared.cut.CutParts.{CutParts}
+use Rattle.bep_rows.specs.declared.aim.Aim.{Aim}
 use Rattle.bep_rows.specs.declared.stream.Stream.{Stream}
 use Rattle.bep_rows.specs.AllRows.{NamesAreOfRows, NamesDiffer, RowsAreOfTheirCut, cut_by, key_of_row}
 use Rattle.bep_rows.specs.Names.{IsAbove, IsUpTo, Key, among, is_name}
@@ -23,6 +23,7 @@ use Rattle.bep_rows.specs.Standing.{IsStanding}
 use Rattle.bep_rows.specs.Stream.{IsReadTo}
 use Rattle.bep_rows.specs.ListRead.{HasKeys, IsListRead}
 use Rattle.bep_rows.proofs.Reading.{all_read, in_first, up_to_below}
+use Rattle.bep_rows.proofs.Whole.{ByParts}
 
 -- one more, of another name than all
 differ_more : (rows : List NameRow) (row : NameRow) → NamesDiffer rows → ((one : NameRow) → Contains rows one → key_of_row one ≢ key_of_row row) → NamesDiffer (rows ++ row ∷ [])
@@ -36,8 +37,8 @@ differ_more (first ∷ rows) row differ apart = (
   differ_more rows row differ.1 (λ one member. apart one (Contains-more first rows one member)),
 )
 
-module _ (header : CutParts) where
-  pub none_is_read : (stream : Stream) → ((t : Tables) → IsReadTo t [] stream) → IsListRead header [] stream
+module _ (aim : Aim) (header : CutParts) where
+  pub none_is_read : (stream : Stream) → ((t : Tables) → IsReadTo aim t [] stream) → IsListRead aim header [] stream
   none_is_read stream read = record {
     differ = tt;
     up_to = λ row member. absurd (not_in_none row member);
@@ -46,9 +47,9 @@ module _ (header : CutParts) where
 
   -- what a stream that takes the answer to a row promises
   abbrev Takes : NameRow → Stream → Stream → Type 0
-  Takes row old new = (whole : CutParts) → IsRowOf whole header row → (keys : List Key) → IsReadTo (tables_of whole) keys old → IsReadTo (tables_of whole) (key_of_row row ∷ keys) new
+  Takes row old new = (whole : CutParts) → IsRowOf whole header row → (keys : List Key) → IsReadTo aim (tables_of whole) keys old → IsReadTo aim (tables_of whole) (key_of_row row ∷ keys) new
 
-  pub one_more_is_read : (rows : List NameRow) (row : NameRow) (old new : Stream) → IsListRead header rows old → IsAbove (key_of_row row) old.last → new.last ≡ Some (key_of_row row) → Takes row old new → IsListRead header (rows ++ row ∷ []) new
+  pub one_more_is_read : (rows : List NameRow) (row : NameRow) (old new : Stream) → IsListRead aim header rows old → IsAbove (key_of_row row) old.last → new.last ≡ Some (key_of_row row) → Takes row old new → IsListRead aim header (rows ++ row ∷ []) new
   one_more_is_read rows row old new so_far above last takes =
       let below = λ (one : NameRow) (member : Contains rows one). up_to_below old.last (key_of_row row) (key_of_row one) above (so_far.up_to one member) in
       record {
@@ -85,10 +86,10 @@ module _ (header : CutParts) where
       cases true later is rest = let found = rest later in (found.0, Contains-more first rows found.0 found.1, found.2)
       cases false not is rest = (first, Contains-first first rows, texts_exact (key_of_row first) (folder, name) ((Equal-is _).0 is))
 
-  pub whole_list_is_read : VerdictByParts → RowsAreOfTheirCut → NamesAreOfRows → AreQuiet header.links → (rows : List NameRow) (stream : Stream) → IsListRead header rows stream → IsStanding (tables_of (cut_by header rows)) stream.standing
+  pub whole_list_is_read : ByParts → RowsAreOfTheirCut → NamesAreOfRows → AreQuiet header.links → (rows : List NameRow) (stream : Stream) → IsListRead aim header rows stream → IsStanding aim (tables_of (cut_by header rows)) stream.standing
   whole_list_is_read by_parts of_cut names quiet rows stream read =
       let found = read.read (cut_by header rows) (λ row member. of_cut header rows row quiet read.differ member) in
-      all_read (tables_of (cut_by header rows)) by_parts found.0 stream found.2
+      all_read aim (tables_of (cut_by header rows)) by_parts found.0 stream found.2
       (λ folder name known.
       let from = of_some_row rows folder name (names header rows quiet folder name known) in
       subst (λ (k : Key). among found.0 k.0 k.1 ≡ true) from.2 (found.1 from.0 from.1))

@@ -1,5 +1,5 @@
 -- The answer to a cut is that to two parts of it, of which one is above the other, if no other name is known.
-use Rattle.std.proofs.Common.{◌≡◌, ◌⊎◌, Bool, true, false, not, List, [], ◌∷◌, ◌++◌, Contains, Option, refl, sym, ap, subst, ◌∙◌, ⊎_elim}
+use Rattle.std.proofs.Common.{◌≡◌, ◌⊎◌, Bool, true, false, not, List, [], ◌∷◌, ◌++◌, Contains, Option, refl, sym, ap, subst, ◌∙◌, inl, inr, ⊎_elim}
 use Rattle.std.specs.Prelude.{if◌then◌else◌}
 use Rattle.std.specs.Ordering.{is_lt}
 use Rattle.std.specs.declared.cmp.Ordering.TheVariants.{Less}
@@ -8,27 +8,33 @@ use Rattle.std.proofs.lemmas.List.{append-nil}
 use Rattle.std.proofs.lemmas.List.Elements.{Contains-append_left, Contains-append_right, Contains-append_cases}
 use Rattle.bep_facts.specs.Members.{Contains-first, Contains-more, Contains-one, Contains-cons_cases}
 use Rattle.bep_facts.specs.Orders.{texts_total, not_less_itself}
+use Rattle.bep_audit.specs.Loose.{loose_cmp}
 use Rattle.bep_audit.specs.Walk.{failure_cmp}
 use Rattle.bep_choice.specs.Choice.{Candidate}
+use Rattle.bep_model.specs.declared.firm_reason.FirmReason.{FirmReason}
 use Rattle.bep_model.specs.declared.reason.Reason.{Reason}
 use Rattle.bep_model.specs.declared.row.Row.{Row}
 use Rattle.bep_model.specs.Tables.{Tables, Device, Folder, FileName}
 use Rattle.bep_model.specs.Foreign.{IsKnown}
 use Rattle.bep_model.specs.Winner.{IsWinner}
-use Rattle.bep_model.specs.Settled.{IsListOfWinners, IsSettled, key_of, key_cmp}
+use Rattle.bep_model.specs.FirmVerdict as firm_verdicts
+use Rattle.bep_model.specs.Settled.{IsListOfWinners, Rise, key_of, key_cmp}
 use Rattle.bep_model.specs.Verdict as verdicts
 use Rattle.bep_model.specs.WithoutWinner.{HasWinner, IsFirstWithoutWinner, IsWithoutWinner}
-use Rattle.bep_parts.specs.FirstVerdict.{ComesUpTo, Judged}
-use Rattle.bep_parts.specs.Laws.{VerdictByParts}
+use Rattle.bep_parts.specs.FirstVerdict.{ComesUpTo, FirmComesUpTo, FirmJudged, Judged}
+use Rattle.bep_parts.specs.Laws.{FirmVerdictByParts, VerdictByParts}
 use Rattle.bep_parts.specs.Parts.{IsInSome, Keeps, all_but, only, rows_of}
 use Rattle.bep_parts.proofs.Alike.{known_there, turned, winner_there}
 use Rattle.bep_parts.proofs.OnlyFacts.{known_kept, only_alike}
+use Rattle.bep_rows.specs.declared.aim.Aim.{Aim}
+use Rattle.bep_rows.specs.declared.aim.Aim.TheVariants as aims
 use Rattle.bep_rows.specs.declared.standing.Standing.{Standing}
-use Rattle.bep_rows.specs.declared.standing.Standing.TheVariants.{Settled, Not, Unwon}
+use Rattle.bep_rows.specs.declared.standing.Standing.TheVariants.{Met, Not, Loose, Unwon}
 use Rattle.bep_rows.specs.Names.{either}
-use Rattle.bep_rows.specs.Standing.{IsStanding, IsUnderWinners, failing, joined}
-use Rattle.bep_rows.proofs.Kept.{rise_both, rows_all_kept, rows_none_kept, rows_of_both, settled_where_unknown}
-use Rattle.bep_rows.proofs.Order.{earlier_is_up_to, itself_is_up_to, later_is_up_to}
+use Rattle.bep_rows.specs.Standing.{IsJudged, IsStanding, IsUnderWinners, failing, joined, loosening}
+use Rattle.bep_rows.proofs.Kept.{firm_where_unknown, rise_both, rows_all_kept, rows_none_kept, rows_of_both, settled_where_unknown}
+use Rattle.bep_rows.proofs.Stands.{stands}
+use Rattle.bep_rows.proofs.Order.{earlier_is_up_to, itself_is_up_to, later_is_up_to, loose_rank, rank}
 
 -- all names of one part are below all of the other
 abbrev pub IsBelow : Keeps → Keeps → Type 0
@@ -64,17 +70,66 @@ module _ (t : Tables) (keeps : Keeps) (folder : Folder) (name : FileName) where
 rows_kept : (t : Tables) (keeps : Keeps) (rows : List Row) → IsListOfWinners (only keeps t) rows → (row : Row) → Contains rows row → keeps row.folder row.entry.name ≡ true
 rows_kept t keeps rows winners row member = known_kept keeps t row.folder row.entry.name ((winners.names row.folder row.entry.name).1 (row, member, refl))
 
--- the verdict of what is settled comes last
+-- ---- the verdict on three parts
+
+-- the verdict on a cut is the first of those on three parts of which it is that on the first or the second
+abbrev ByThree : (V : Type 0) → (Tables → List Row → V → Type 0) → (V → V → Type 0) → Type 0
+ByThree V Is UpTo = (t : Tables) (one two three : Keeps) (x y z verdict : V) (rows : List Row) → Rise rows →
+    ((folder : Folder) (name : FileName) → IsInSome (one ∷ two ∷ three ∷ []) folder name) →
+    Is (only one t) (rows_of one rows) x → Is (only two t) (rows_of two rows) y → Is (only three t) (rows_of three rows) z →
+    (verdict ≡ x) ⊎ (verdict ≡ y) → UpTo verdict x → UpTo verdict y → UpTo verdict z → Is t rows verdict
+
+of_three : {X : Type 0} (P : X → Type 0) (a b c : X) → P a → P b → P c → (x : X) → Contains (a ∷ b ∷ c ∷ []) x → P x
+of_three P a b c of_a of_b of_c x member =
+    ⊎_elim (λ same. subst P same of_a)
+    (λ more. ⊎_elim (λ same. subst P same of_b) (λ end. subst P (Contains-one c x end) of_c) (Contains-cons_cases b (c ∷ []) x more))
+    (Contains-cons_cases a (b ∷ c ∷ []) x member)
+
+settled_by_three : VerdictByParts → ByThree verdicts.Verdict verdicts.IsVerdict ComesUpTo
+settled_by_three by_parts t one two three x y z verdict rows rise each of_one of_two of_last among to_one to_two to_last =
+    let first : Judged = record { keeps = one; verdict = x } in
+    let second : Judged = record { keeps = two; verdict = y } in
+    let third : Judged = record { keeps = three; verdict = z } in
+    by_parts t (first ∷ second ∷ third ∷ []) rows verdict rise each
+    (of_three (λ (part : Judged). verdicts.IsVerdict (only part.keeps t) (rows_of part.keeps rows) part.verdict) first second third of_one of_two of_last)
+    (record {
+      among = ⊎_elim (λ same. (first, Contains-first first (second ∷ third ∷ []), sym same)) (λ same. (second, Contains-more first (second ∷ third ∷ []) second (Contains-first second (third ∷ [])), sym same)) among;
+      first = of_three (λ (part : Judged). ComesUpTo verdict part.verdict) first second third to_one to_two to_last;
+    })
+
+firm_by_three : FirmVerdictByParts → ByThree firm_verdicts.FirmVerdict firm_verdicts.IsFirmVerdict FirmComesUpTo
+firm_by_three by_parts t one two three x y z verdict rows rise each of_one of_two of_last among to_one to_two to_last =
+    let first : FirmJudged = record { keeps = one; verdict = x } in
+    let second : FirmJudged = record { keeps = two; verdict = y } in
+    let third : FirmJudged = record { keeps = three; verdict = z } in
+    by_parts t (first ∷ second ∷ third ∷ []) rows verdict rise each
+    (of_three (λ (part : FirmJudged). firm_verdicts.IsFirmVerdict (only part.keeps t) (rows_of part.keeps rows) part.verdict) first second third of_one of_two of_last)
+    (record {
+      among = ⊎_elim (λ same. (first, Contains-first first (second ∷ third ∷ []), sym same)) (λ same. (second, Contains-more first (second ∷ third ∷ []) second (Contains-first second (third ∷ [])), sym same)) among;
+      first = of_three (λ (part : FirmJudged). FirmComesUpTo verdict part.verdict) first second third to_one to_two to_last;
+    })
+
+-- the verdict of what is settled comes last, and that of what is firm
 up_to_settled : (verdict : verdicts.Verdict) → ComesUpTo verdict verdicts.Settled
 up_to_settled verdicts.Settled = tt
 up_to_settled (verdicts.Not reason folder name device) = tt
+
+up_to_firm : (verdict : firm_verdicts.FirmVerdict) → FirmComesUpTo verdict firm_verdicts.Firm
+up_to_firm firm_verdicts.Firm = tt
+up_to_firm (firm_verdicts.Unsettled reason folder name device) = tt
+up_to_firm (firm_verdicts.Loose reason folder name device) = tt
+
+-- the laws of both
+pub record ByParts : Type 0 where
+  pub settled : VerdictByParts
+  pub firm : FirmVerdictByParts
 
 -- what isn't in one test isn't in the one before or in the one after
 neither_one : (one other : Bool) → (if one then true else other) ≡ false → one ≡ false
 neither_one true other e = absurd (cc)
 neither_one false other e = refl
 
-module _ (by_parts : VerdictByParts) (t : Tables) (lower upper : Keeps) (order : IsBelow lower upper) (known_in : IsKnownIn t lower upper) where
+module _ (by_parts : ByParts) (t : Tables) (lower upper : Keeps) (order : IsBelow lower upper) (known_in : IsKnownIn t lower upper) where
   -- no name is in both
   not_in_both : (folder : Folder) (name : FileName) → lower folder name ≡ true → upper folder name ≡ true → ⊥
   not_in_both folder name in_lower in_upper = not_less_itself texts_total (folder, name) (order folder name folder name in_lower in_upper)
@@ -154,59 +209,146 @@ module _ (by_parts : VerdictByParts) (t : Tables) (lower upper : Keeps) (order :
         (λ here. λ i. not (if not_lower row.folder row.entry.name (rows_kept t upper others also row here) i then true else rows_kept t upper others also row here i))
         (Contains-append_cases rows others row member))
 
-    module _ (one other : verdicts.Verdict) (of_lower : verdicts.IsVerdict (only lower t) rows one) (of_upper : verdicts.IsVerdict (only upper t) others other) where
-      abbrev first : Judged
-      first = record { keeps = lower; verdict = one }
+    each : (folder : Folder) (name : FileName) → IsInSome (lower ∷ upper ∷ rest ∷ []) folder name
+    unfolding rest
+    each folder name = cases (lower folder name) refl (upper folder name) refl
+      where
+        cases : (a : Bool) → lower folder name ≡ a → (b : Bool) → upper folder name ≡ b → IsInSome (lower ∷ upper ∷ rest ∷ []) folder name
+        cases true is_a b is_b = (lower, Contains-first lower (upper ∷ rest ∷ []), is_a)
+        cases false is_a true is_b = (upper, Contains-more lower (upper ∷ rest ∷ []) upper (Contains-first upper (rest ∷ [])), is_b)
+        cases false is_a false is_b = (
+          rest,
+          Contains-more lower (upper ∷ rest ∷ []) rest (Contains-more upper (rest ∷ []) rest (Contains-first rest [])),
+          λ i. not (if is_a i then true else is_b i),
+        )
 
-      abbrev second : Judged
-      second = record { keeps = upper; verdict = other }
+    -- of verdicts of one kind that which comes first is the verdict on the whole; the last of all is that on nothing
+    module _ (V : Type 0) (Is : Tables → List Row → V → Type 0) (UpTo : V → V → Type 0) (by_three : ByThree V Is UpTo) (last : V) (up_to_last : (v : V) → UpTo v last)
+        (of_none : (u : Tables) → ((folder : Folder) (name : FileName) → ¬ IsKnown u folder name) → Is u [] last) (one other : V) (of_lower : Is (only lower t) rows one) (of_upper : Is (only upper t) others other) where
+      judged_by : (verdict : V) → (verdict ≡ one) ⊎ (verdict ≡ other) → UpTo verdict one → UpTo verdict other → Is t (rows ++ others) verdict
+      judged_by verdict among up_to_one up_to_other =
+          by_three t lower upper rest one other last verdict (rows ++ others) all_winners.rise each
+          (subst (λ (all : List Row). Is (only lower t) all one) (sym rows_of_lower) of_lower)
+          (subst (λ (all : List Row). Is (only upper t) all other) (sym rows_of_upper) of_upper)
+          (subst (λ (all : List Row). Is (only rest t) all last) (sym rows_of_rest) (of_none (only rest t) rest_is_unknown))
+          among up_to_one up_to_other (up_to_last verdict)
 
-      abbrev third : Judged
-      third = record { keeps = rest; verdict = verdicts.Settled }
+      first_comes : UpTo one one → UpTo one other → Is t (rows ++ others) one
+      first_comes = judged_by one (inl refl)
 
-      abbrev parts : List Judged
-      parts = first ∷ second ∷ third ∷ []
+      second_comes : UpTo other one → UpTo other other → Is t (rows ++ others) other
+      second_comes = judged_by other (inr refl)
 
-      of_three : (P : Judged → Type 0) → P first → P second → P third → (part : Judged) → Contains parts part → P part
-      of_three P holds also last part member =
-          ⊎_elim (λ same. subst P same holds)
-          (λ more. ⊎_elim (λ same. subst P same also) (λ end. subst P (Contains-one third part end) last) (Contains-cons_cases second (third ∷ []) part more))
-          (Contains-cons_cases first (second ∷ third ∷ []) part member)
+    -- ---- where settled is asked for
 
-      each : (folder : Folder) (name : FileName) → IsInSome (lower ∷ upper ∷ rest ∷ []) folder name
-      unfolding rest
-      each folder name = cases (lower folder name) refl (upper folder name) refl
-        where
-          cases : (a : Bool) → lower folder name ≡ a → (b : Bool) → upper folder name ≡ b → IsInSome (lower ∷ upper ∷ rest ∷ []) folder name
-          cases true is_a b is_b = (lower, Contains-first lower (upper ∷ rest ∷ []), is_a)
-          cases false is_a true is_b = (upper, Contains-more lower (upper ∷ rest ∷ []) upper (Contains-first upper (rest ∷ [])), is_b)
-          cases false is_a false is_b = (
-            rest,
-            Contains-more lower (upper ∷ rest ∷ []) rest (Contains-more upper (rest ∷ []) rest (Contains-first rest [])),
-            λ i. not (if is_a i then true else is_b i),
-          )
+    module _ (one other : verdicts.Verdict) where
+      first_settled : verdicts.IsVerdict (only lower t) rows one → verdicts.IsVerdict (only upper t) others other → ComesUpTo one one → ComesUpTo one other → verdicts.IsVerdict t (rows ++ others) one
+      first_settled = first_comes verdicts.Verdict verdicts.IsVerdict ComesUpTo (settled_by_three by_parts.settled) verdicts.Settled up_to_settled settled_where_unknown one other
 
-      is_each : (part : Judged) → Contains parts part → verdicts.IsVerdict (only part.keeps t) (rows_of part.keeps (rows ++ others)) part.verdict
-      is_each =
-          of_three (λ (part : Judged). verdicts.IsVerdict (only part.keeps t) (rows_of part.keeps (rows ++ others)) part.verdict)
-          (subst (λ (all : List Row). verdicts.IsVerdict (only lower t) all one) (sym rows_of_lower) of_lower)
-          (subst (λ (all : List Row). verdicts.IsVerdict (only upper t) all other) (sym rows_of_upper) of_upper)
-          (subst (λ (all : List Row). IsSettled (only rest t) all) (sym rows_of_rest) (settled_where_unknown (only rest t) rest_is_unknown))
+      second_settled : verdicts.IsVerdict (only lower t) rows one → verdicts.IsVerdict (only upper t) others other → ComesUpTo other one → ComesUpTo other other → verdicts.IsVerdict t (rows ++ others) other
+      second_settled = second_comes verdicts.Verdict verdicts.IsVerdict ComesUpTo (settled_by_three by_parts.settled) verdicts.Settled up_to_settled settled_where_unknown one other
 
-      judged_by : (verdict : verdicts.Verdict) → (part : Judged) × Contains parts part × (part.verdict ≡ verdict) → ComesUpTo verdict one → ComesUpTo verdict other → IsUnderWinners t verdict
-      judged_by verdict among up_to_one up_to_other = record {
-        rows = rows ++ others;
-        winners = all_winners;
-        judged =
-            by_parts t parts (rows ++ others) verdict all_winners.rise each is_each
-            (record { among = among; first = of_three (λ (part : Judged). ComesUpTo verdict part.verdict) up_to_one up_to_other (up_to_settled verdict) });
-      }
+    both_at_fault : (reason other : Reason) (folder in_folder : Folder) (name at_name : FileName) (device of : Option Device) →
+        IsJudged aims.Settled (only lower t) rows (Not reason folder name device) → IsJudged aims.Settled (only upper t) others (Not other in_folder at_name of) →
+        IsJudged aims.Settled t (rows ++ others) (joined (Not reason folder name device) (Not other in_folder at_name of))
+    both_at_fault reason other folder in_folder name at_name device of is with_it = cases (is_lt (failure_cmp (failing other in_folder at_name of) (failing reason folder name device))) refl
+      where
+        cases : (b : Bool) → is_lt (failure_cmp (failing other in_folder at_name of) (failing reason folder name device)) ≡ b → IsJudged aims.Settled t (rows ++ others) (if b then Not other in_folder at_name of else Not reason folder name device)
+        cases true less =
+            second_settled (verdicts.Not reason folder name device) (verdicts.Not other in_folder at_name of) is with_it
+            (later_is_up_to (rank (failing other in_folder at_name of)) (rank (failing reason folder name device)) less)
+            (itself_is_up_to (rank (failing other in_folder at_name of)))
+        cases false not_less =
+            first_settled (verdicts.Not reason folder name device) (verdicts.Not other in_folder at_name of) is with_it
+            (itself_is_up_to (rank (failing reason folder name device)))
+            (earlier_is_up_to (rank (failing other in_folder at_name of)) (rank (failing reason folder name device)) not_less)
 
-      first_comes : ComesUpTo one one → ComesUpTo one other → IsUnderWinners t one
-      first_comes = judged_by one (first, Contains-first first (second ∷ third ∷ []), refl)
+    both_settled : (earlier later : Standing) → IsJudged aims.Settled (only lower t) rows earlier → IsJudged aims.Settled (only upper t) others later → IsJudged aims.Settled t (rows ++ others) (joined earlier later)
+    both_settled Met Met is with_it = first_settled verdicts.Settled verdicts.Settled is with_it tt tt
+    both_settled Met (Not other in_folder at_name of) is with_it =
+        second_settled verdicts.Settled (verdicts.Not other in_folder at_name of) is with_it tt (itself_is_up_to (rank (failing other in_folder at_name of)))
+    both_settled (Not reason folder name device) Met is with_it =
+        first_settled (verdicts.Not reason folder name device) verdicts.Settled is with_it (itself_is_up_to (rank (failing reason folder name device))) tt
+    both_settled (Not reason folder name device) (Not other in_folder at_name of) is with_it = both_at_fault reason other folder in_folder name at_name device of is with_it
+    both_settled Met (Loose other in_folder at_name of) is with_it = absurd with_it
+    both_settled (Not reason folder name device) (Loose other in_folder at_name of) is with_it = absurd with_it
+    both_settled Met (Unwon in_folder at_name) is with_it = absurd with_it
+    both_settled (Not reason folder name device) (Unwon in_folder at_name) is with_it = absurd with_it
+    both_settled (Loose reason folder name device) later is with_it = absurd is
+    both_settled (Unwon folder name) later is with_it = absurd is
 
-      second_comes : ComesUpTo other one → ComesUpTo other other → IsUnderWinners t other
-      second_comes = judged_by other (second, Contains-more first (second ∷ third ∷ []) second (Contains-first second (third ∷ [])), refl)
+    -- ---- where firm is asked for
+
+    module _ (one other : firm_verdicts.FirmVerdict) where
+      first_firm : firm_verdicts.IsFirmVerdict (only lower t) rows one → firm_verdicts.IsFirmVerdict (only upper t) others other → FirmComesUpTo one one → FirmComesUpTo one other → firm_verdicts.IsFirmVerdict t (rows ++ others) one
+      first_firm = first_comes firm_verdicts.FirmVerdict firm_verdicts.IsFirmVerdict FirmComesUpTo (firm_by_three by_parts.firm) firm_verdicts.Firm up_to_firm firm_where_unknown one other
+
+      second_firm : firm_verdicts.IsFirmVerdict (only lower t) rows one → firm_verdicts.IsFirmVerdict (only upper t) others other → FirmComesUpTo other one → FirmComesUpTo other other → firm_verdicts.IsFirmVerdict t (rows ++ others) other
+      second_firm = second_comes firm_verdicts.FirmVerdict firm_verdicts.IsFirmVerdict FirmComesUpTo (firm_by_three by_parts.firm) firm_verdicts.Firm up_to_firm firm_where_unknown one other
+
+    both_unsettled : (reason other : Reason) (folder in_folder : Folder) (name at_name : FileName) (device of : Option Device) →
+        IsJudged aims.Firm (only lower t) rows (Not reason folder name device) → IsJudged aims.Firm (only upper t) others (Not other in_folder at_name of) →
+        IsJudged aims.Firm t (rows ++ others) (joined (Not reason folder name device) (Not other in_folder at_name of))
+    both_unsettled reason other folder in_folder name at_name device of is with_it = cases (is_lt (failure_cmp (failing other in_folder at_name of) (failing reason folder name device))) refl
+      where
+        cases : (b : Bool) → is_lt (failure_cmp (failing other in_folder at_name of) (failing reason folder name device)) ≡ b → IsJudged aims.Firm t (rows ++ others) (if b then Not other in_folder at_name of else Not reason folder name device)
+        cases true less =
+            second_firm (firm_verdicts.Unsettled reason folder name device) (firm_verdicts.Unsettled other in_folder at_name of) is with_it
+            (later_is_up_to (rank (failing other in_folder at_name of)) (rank (failing reason folder name device)) less)
+            (itself_is_up_to (rank (failing other in_folder at_name of)))
+        cases false not_less =
+            first_firm (firm_verdicts.Unsettled reason folder name device) (firm_verdicts.Unsettled other in_folder at_name of) is with_it
+            (itself_is_up_to (rank (failing reason folder name device)))
+            (earlier_is_up_to (rank (failing other in_folder at_name of)) (rank (failing reason folder name device)) not_less)
+
+    both_loose : (reason other : FirmReason) (folder in_folder : Folder) (name at_name : FileName) (device of : Device) →
+        IsJudged aims.Firm (only lower t) rows (Loose reason folder name device) → IsJudged aims.Firm (only upper t) others (Loose other in_folder at_name of) →
+        IsJudged aims.Firm t (rows ++ others) (joined (Loose reason folder name device) (Loose other in_folder at_name of))
+    both_loose reason other folder in_folder name at_name device of is with_it = cases (is_lt (loose_cmp (loosening other in_folder at_name of) (loosening reason folder name device))) refl
+      where
+        cases : (b : Bool) → is_lt (loose_cmp (loosening other in_folder at_name of) (loosening reason folder name device)) ≡ b → IsJudged aims.Firm t (rows ++ others) (if b then Loose other in_folder at_name of else Loose reason folder name device)
+        cases true less =
+            second_firm (firm_verdicts.Loose reason folder name device) (firm_verdicts.Loose other in_folder at_name of) is with_it
+            (later_is_up_to (loose_rank (loosening other in_folder at_name of)) (loose_rank (loosening reason folder name device)) less)
+            (itself_is_up_to (loose_rank (loosening other in_folder at_name of)))
+        cases false not_less =
+            first_firm (firm_verdicts.Loose reason folder name device) (firm_verdicts.Loose other in_folder at_name of) is with_it
+            (itself_is_up_to (loose_rank (loosening reason folder name device)))
+            (earlier_is_up_to (loose_rank (loosening other in_folder at_name of)) (loose_rank (loosening reason folder name device)) not_less)
+
+    both_firm : (earlier later : Standing) → IsJudged aims.Firm (only lower t) rows earlier → IsJudged aims.Firm (only upper t) others later → IsJudged aims.Firm t (rows ++ others) (joined earlier later)
+    both_firm Met Met is with_it = first_firm firm_verdicts.Firm firm_verdicts.Firm is with_it tt tt
+    both_firm Met (Not other in_folder at_name of) is with_it =
+        second_firm firm_verdicts.Firm (firm_verdicts.Unsettled other in_folder at_name of) is with_it tt (itself_is_up_to (rank (failing other in_folder at_name of)))
+    both_firm Met (Loose other in_folder at_name of) is with_it =
+        second_firm firm_verdicts.Firm (firm_verdicts.Loose other in_folder at_name of) is with_it tt (itself_is_up_to (loose_rank (loosening other in_folder at_name of)))
+    both_firm (Not reason folder name device) Met is with_it =
+        first_firm (firm_verdicts.Unsettled reason folder name device) firm_verdicts.Firm is with_it (itself_is_up_to (rank (failing reason folder name device))) tt
+    both_firm (Not reason folder name device) (Not other in_folder at_name of) is with_it = both_unsettled reason other folder in_folder name at_name device of is with_it
+    both_firm (Not reason folder name device) (Loose other in_folder at_name of) is with_it =
+        first_firm (firm_verdicts.Unsettled reason folder name device) (firm_verdicts.Loose other in_folder at_name of) is with_it (itself_is_up_to (rank (failing reason folder name device))) tt
+    both_firm (Loose reason folder name device) Met is with_it =
+        first_firm (firm_verdicts.Loose reason folder name device) firm_verdicts.Firm is with_it (itself_is_up_to (loose_rank (loosening reason folder name device))) tt
+    both_firm (Loose reason folder name device) (Not other in_folder at_name of) is with_it =
+        second_firm (firm_verdicts.Loose reason folder name device) (firm_verdicts.Unsettled other in_folder at_name of) is with_it tt (itself_is_up_to (rank (failing other in_folder at_name of)))
+    both_firm (Loose reason folder name device) (Loose other in_folder at_name of) is with_it = both_loose reason other folder in_folder name at_name device of is with_it
+    both_firm Met (Unwon in_folder at_name) is with_it = absurd with_it
+    both_firm (Not reason folder name device) (Unwon in_folder at_name) is with_it = absurd with_it
+    both_firm (Loose reason folder name device) (Unwon in_folder at_name) is with_it = absurd with_it
+    both_firm (Unwon folder name) later is with_it = absurd is
+
+    both_judged : (aim : Aim) (earlier later : Standing) → IsJudged aim (only lower t) rows earlier → IsJudged aim (only upper t) others later → IsJudged aim t (rows ++ others) (joined earlier later)
+    both_judged aims.Settled = both_settled
+    both_judged aims.Firm = both_firm
+
+  both_won : (aim : Aim) (earlier later : Standing) → IsUnderWinners aim (only lower t) earlier → IsUnderWinners aim (only upper t) later → IsStanding aim t (joined earlier later)
+  both_won aim earlier later is also =
+      stands aim t (joined earlier later)
+      (record {
+        rows = is.rows ++ also.rows;
+        winners = all_winners is.rows also.rows is.winners also.winners;
+        judged = both_judged is.rows also.rows is.winners also.winners aim earlier later is.judged also.judged;
+      })
 
   -- ---- a part has a name without a winner
 
@@ -246,29 +388,20 @@ module _ (by_parts : VerdictByParts) (t : Tables) (lower upper : Keeps) (order :
 
   -- ---- both answers
 
-  both_at_fault : (reason other : Reason) (folder in_folder : Folder) (name at_name : FileName) (device of : Option Device) → IsUnderWinners (only lower t) (verdicts.Not reason folder name device) → IsUnderWinners (only upper t) (verdicts.Not other in_folder at_name of) →
-      IsStanding t (joined (Not reason folder name device) (Not other in_folder at_name of))
-  both_at_fault reason other folder in_folder name at_name device of is also = cases (is_lt (failure_cmp (failing other in_folder at_name of) (failing reason folder name device))) refl
-    where
-      cases : (b : Bool) → is_lt (failure_cmp (failing other in_folder at_name of) (failing reason folder name device)) ≡ b → IsStanding t (if b then Not other in_folder at_name of else Not reason folder name device)
-      cases true less =
-          second_comes is.rows also.rows is.winners also.winners (verdicts.Not reason folder name device) (verdicts.Not other in_folder at_name of) is.judged also.judged
-          (later_is_up_to (failing other in_folder at_name of) (failing reason folder name device) less)
-          (itself_is_up_to (failing other in_folder at_name of))
-      cases false not_less =
-          first_comes is.rows also.rows is.winners also.winners (verdicts.Not reason folder name device) (verdicts.Not other in_folder at_name of) is.judged also.judged
-          (itself_is_up_to (failing reason folder name device))
-          (earlier_is_up_to (failing other in_folder at_name of) (failing reason folder name device) not_less)
-
-  pub whole_stands : (earlier later : Standing) → IsStanding (only lower t) earlier → IsStanding (only upper t) later → IsStanding t (joined earlier later)
-  whole_stands (Unwon folder name) Settled is also = unwon_below folder name is
-  whole_stands (Unwon folder name) (Not other in_folder at_name of) is also = unwon_below folder name is
-  whole_stands (Unwon folder name) (Unwon in_folder at_name) is also = unwon_below folder name is
-  whole_stands Settled (Unwon in_folder at_name) is also = unwon_above is.rows is.winners in_folder at_name also
-  whole_stands (Not reason folder name device) (Unwon in_folder at_name) is also = unwon_above is.rows is.winners in_folder at_name also
-  whole_stands Settled Settled is also = first_comes is.rows also.rows is.winners also.winners verdicts.Settled verdicts.Settled is.judged also.judged tt tt
-  whole_stands Settled (Not other in_folder at_name of) is also =
-      second_comes is.rows also.rows is.winners also.winners verdicts.Settled (verdicts.Not other in_folder at_name of) is.judged also.judged tt (itself_is_up_to (failing other in_folder at_name of))
-  whole_stands (Not reason folder name device) Settled is also =
-      first_comes is.rows also.rows is.winners also.winners (verdicts.Not reason folder name device) verdicts.Settled is.judged also.judged (itself_is_up_to (failing reason folder name device)) tt
-  whole_stands (Not reason folder name device) (Not other in_folder at_name of) is also = both_at_fault reason other folder in_folder name at_name device of is also
+  pub whole_stands : (aim : Aim) (earlier later : Standing) → IsStanding aim (only lower t) earlier → IsStanding aim (only upper t) later → IsStanding aim t (joined earlier later)
+  whole_stands aim (Unwon folder name) Met is also = unwon_below folder name is
+  whole_stands aim (Unwon folder name) (Not other in_folder at_name of) is also = unwon_below folder name is
+  whole_stands aim (Unwon folder name) (Loose other in_folder at_name of) is also = unwon_below folder name is
+  whole_stands aim (Unwon folder name) (Unwon in_folder at_name) is also = unwon_below folder name is
+  whole_stands aim Met (Unwon in_folder at_name) is also = unwon_above is.rows is.winners in_folder at_name also
+  whole_stands aim (Not reason folder name device) (Unwon in_folder at_name) is also = unwon_above is.rows is.winners in_folder at_name also
+  whole_stands aim (Loose reason folder name device) (Unwon in_folder at_name) is also = unwon_above is.rows is.winners in_folder at_name also
+  whole_stands aim Met Met is also = both_won aim Met Met is also
+  whole_stands aim Met (Not other in_folder at_name of) is also = both_won aim Met (Not other in_folder at_name of) is also
+  whole_stands aim Met (Loose other in_folder at_name of) is also = both_won aim Met (Loose other in_folder at_name of) is also
+  whole_stands aim (Not reason folder name device) Met is also = both_won aim (Not reason folder name device) Met is also
+  whole_stands aim (Not reason folder name device) (Not other in_folder at_name of) is also = both_won aim (Not reason folder name device) (Not other in_folder at_name of) is also
+  whole_stands aim (Not reason folder name device) (Loose other in_folder at_name of) is also = both_won aim (Not reason folder name device) (Loose other in_folder at_name of) is also
+  whole_stands aim (Loose reason folder name device) Met is also = both_won aim (Loose reason folder name device) Met is also
+  whole_stands aim (Loose reason folder name device) (Not other in_folder at_name of) is also = both_won aim (Loose reason folder name device) (Not other in_folder at_name of) is also
+  whole_stands aim (Loose reason folder name device) (Loose other in_folder at_name of) is also = both_won aim (Loose reason folder name device) (Loose other in_folder at_name of) is also

@@ -7,6 +7,7 @@ use Rattle.bep_rows.specs.AllRows.{NamesDiffer, key_of_row}
 use Rattle.bep_rows.specs.Names.{IsUpTo, Key, among}
 use Rattle.bep_rows.specs.Row.{IsRowOf}
 use Rattle.bep_rows.specs.Stream.{IsReadTo}
+use Rattle.bep_rows.specs.declared.aim.Aim.{Aim}
 use Rattle.bep_rows.specs.declared.stream.Stream.{Stream}
 
 -- these names have the keys of all these rows
@@ -14,7 +15,7 @@ abbrev pub HasKeys : List Key → List NameRow → Type 0
 HasKeys keys rows = (row : NameRow) → Contains rows row → among keys row.folder row.name ≡ true
 
 -- what is known of a cut once these rows were read
-pub record IsListRead (header : CutParts) (rows : List NameRow) (stream : Stream) : Type 0 where
+pub record IsListRead (aim : Aim) (header : CutParts) (rows : List NameRow) (stream : Stream) : Type 0 where
   pub differ : NamesDiffer rows
   pub up_to : (row : NameRow) → Contains rows row → IsUpTo stream.last (key_of_row row)
-  pub read : (whole : CutParts) → ((row : NameRow) → Contains rows row → IsRowOf whole header row) → (keys : List Key) × HasKeys keys rows × IsReadTo (tables_of whole) keys stream
+  pub read : (whole : CutParts) → ((row : NameRow) → Contains rows row → IsRowOf whole header row) → (keys : List Key) × HasKeys keys rows × IsReadTo aim (tables_of whole) keys stream

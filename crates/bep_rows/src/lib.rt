@@ -2,18 +2,20 @@
 //!
 //! ```rust
 //! let mut stream = Stream::new();
-//! let here = standing_of_row(alloc, &header, &row)?;
+//! let here = standing_of_row(alloc, Aim::Settled, &header, &row)?;
 //! stream.take(row.folder.copy(alloc)?, row.name.copy(alloc)?, here)?;
 //! let standing = stream.standing();
 //! ```
 #![tactic(auto)]
 
+mod aim;
 mod all;
 mod laws;
 mod row;
 mod standing;
 mod stream;
 
+pub use aim::Aim;
 pub use all::standing_of_rows;
 pub use laws::rows_make_a_cut;
 pub use row::{RowError, standing_of_row};

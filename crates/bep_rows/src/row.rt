@@ -9,7 +9,7 @@ ghost use Rattle.bep_rows.specs.declared.row.RowError.TheVariants.{Memory, OutOf
 ghost use Rattle.bep_tables.specs.Cut.{tables_of};
 ghost use Rattle.bep_tables.specs.declared.cut.CutParts.{CutParts};
 
-use crate::{NotAbove, Standing, standing_of};
+use crate::{Aim, NotAbove, Standing, standing_of};
 use bep_parts::documents_say_only;
 use bep_row::{NameRow, cut_of, row_fits};
 use bep_tables::Cut;
@@ -44,9 +44,14 @@ impl From<NotAbove> for RowError {
 
 /// What is answered of the row beside its header: what is to be said of the row's name in each cut that has the header's
 /// folders and links, and the row's records and nodes of this name.
-pub fn standing_of_row(alloc: Global, header: &Cut, row: &NameRow) -> Result<Standing, RowError>
+pub fn standing_of_row(
+    alloc: Global,
+    aim: Aim,
+    header: &Cut,
+    row: &NameRow,
+) -> Result<Standing, RowError>
     ensures stands { IfOk result (λ standing. (whole : CutParts) → IsRowOf whole header.now row.now →
-        IsStanding (only (is_name (row.now.folder, row.now.name)) (tables_of whole)) standing) }
+        IsStanding aim (only (is_name (row.now.folder, row.now.name)) (tables_of whole)) standing) }
     ensures fits { OnOk result (Fits header.now row.now) }
     ensures unfit { result ≡ Err Unfit → ¬ Fits header.now row.now }
     ensures only { IfErr result (λ e. (e ≡ Unfit) ⊎ (e ≡ Memory)) }
@@ -56,6 +61,6 @@ pub fn standing_of_row(alloc: Global, header: &Cut, row: &NameRow) -> Result<Sta
         return Err(RowError::Unfit);
     }
     let cut = cut_of(alloc, header, row)?;
-    let standing = standing_of(alloc, &cut)?;
+    let standing = standing_of(alloc, aim, &cut)?;
     Ok(standing)
 }

@@ -5,6 +5,7 @@ ghost use Rattle.bep_parts.specs.Parts.{only};
 ghost use Rattle.bep_rows.specs.Names.{IsAbove, Key, NamesAreAmong, is_name};
 ghost use Rattle.bep_rows.specs.Standing.{IsStanding};
 ghost use Rattle.bep_rows.specs.Stream.{IsReadTo};
+ghost use Rattle.bep_rows.specs.declared.aim.Aim.{Aim};
 
 use crate::Standing;
 use bep_parts::verdict_by_parts;
@@ -26,20 +27,20 @@ impl Stream {
     /// No name was read.
     pub fn new() -> Self
         ensures last { result.last ≡ None }
-        ensures read { (t : Tables) → IsReadTo t [] result }
+        ensures read { (aim : Aim) (t : Tables) → IsReadTo aim t [] result }
     {
         verdict_by_parts();
         Stream {
             last: None,
-            standing: Standing::Settled,
+            standing: Standing::Met,
         }
     }
 
     /// Takes what is answered of the next name: of a cut that has this name alone. Where the name isn't above the last one,
     /// nothing is taken. It takes no memory.
     pub fn take(&mut self, folder: FolderName, name: Name, here: Standing) -> Result<(), NotAbove>
-        ensures read { OnOk result ((t : Tables) (keys : List Key) → IsReadTo t keys self.old →
-            IsStanding (only (is_name (folder, name)) t) here → IsReadTo t ((folder, name) ∷ keys) self.new) }
+        ensures read { OnOk result ((aim : Aim) (t : Tables) (keys : List Key) → IsReadTo aim t keys self.old →
+            IsStanding aim (only (is_name (folder, name)) t) here → IsReadTo aim t ((folder, name) ∷ keys) self.new) }
         ensures above { OnOk result (IsAbove (folder, name) self.old.last) }
         ensures last { OnOk result (self.new.last ≡ Some (folder, name)) }
         ensures order { IsErr result ↔ (¬ IsAbove (folder, name) self.old.last) }
@@ -49,7 +50,7 @@ impl Stream {
         if !self.is_above(&folder, &name) {
             return Err(NotAbove);
         }
-        let before = mem::replace(&mut self.standing, Standing::Settled);
+        let before = mem::replace(&mut self.standing, Standing::Met);
         self.standing = before.joined(here);
         self.last = Some((folder, name));
         Ok(())
@@ -75,7 +76,7 @@ impl Stream {
     /// What is answered of all names that were read. Of a cut that has no other name, it is the answer.
     pub fn standing(&self) -> &Standing
         ensures value { result.now ≡ self.now.standing }
-        ensures whole { (t : Tables) (keys : List Key) → IsReadTo t keys self.now → NamesAreAmong t keys → IsStanding t result.now }
+        ensures whole { (aim : Aim) (t : Tables) (keys : List Key) → IsReadTo aim t keys self.now → NamesAreAmong t keys → IsStanding aim t result.now }
     {
         verdict_by_parts();
         &self.standing

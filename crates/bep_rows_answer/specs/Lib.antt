@@ -1,6 +1,7 @@
 pub mod Counts
 pub mod Header
 pub mod Lines
+pub mod Outcome
 pub mod Rows
 pub mod Input
 pub mod Stream

@@ -16,8 +16,8 @@ use Rattle.bep_rows.specs.Names.{IsAbove, Key, is_name}
 use Rattle.bep_rows.specs.Row.{IsRowOf}
 use Rattle.bep_rows.specs.Standing.{IsStanding}
 use Rattle.bep_rows.specs.Stream.{IsReadTo}
+use Rattle.bep_rows.specs.declared.aim.Aim.{Aim}
 use Rattle.bep_rows.specs.declared.standing.Standing.{Standing}
-use Rattle.bep_rows.specs.declared.standing.Standing.TheVariants as standings
 use Rattle.bep_rows.specs.declared.stream.Stream.{Stream}
 use Rattle.bep_tables.specs.Cut.{shares_of, tables_of}
 use Rattle.bep_tables.specs.declared.cut.CutParts.{CutParts}
@@ -28,15 +28,16 @@ use Rattle.bep_rows_answer.specs.Lines.{standing_line}
 use Rattle.bep_rows_answer.specs.declared.rows.Rows.{Rows}
 
 -- what is answered of the row is what is to be said of its name in each cut of which it is a row
-abbrev pub StandsFor : CutParts → NameRow → Standing → Type 0
-StandsFor header row standing = (whole : CutParts) → IsRowOf whole header row → IsStanding (only (is_name (row.folder, row.name)) (tables_of whole)) standing
+abbrev pub StandsFor : Aim → CutParts → NameRow → Standing → Type 0
+StandsFor aim header row standing = (whole : CutParts) → IsRowOf whole header row → IsStanding aim (only (is_name (row.folder, row.name)) (tables_of whole)) standing
 
 -- ---- the header
 
--- the line is the header, and no row came yet
-pub record IsHeading (line : List ℕ) (rows : Rows) : Type 0 where
+-- the line is the header of a stream of which this is asked, and no row came yet
+pub record IsHeading (aim : Aim) (line : List ℕ) (rows : Rows) : Type 0 where
+  pub asked : rows.aim ≡ aim
   pub says : reading_of_header line ≡ Read (rows.version, rows.header)
-  pub none : (t : Tables) → IsReadTo t [] rows.stream
+  pub none : (t : Tables) → IsReadTo aim t [] rows.stream
   pub no_last : rows.stream.last ≡ None
   pub counts : rows.counts ≡ map no_count rows.header.folders
 
@@ -51,14 +52,15 @@ pub record IsTaken (line : List ℕ) (row : NameRow) (text : List ℕ) (old new 
   pub read : reading_of_row old.version old.header old.stream.last line ≡ Read row
   pub fits : Fits old.header row
   pub here : Standing
-  pub stands : StandsFor old.header row here
+  pub stands : StandsFor old.aim old.header row here
   pub told : text ≡ standing_line here
+  pub aim : new.aim ≡ old.aim
   pub version : new.version ≡ old.version
   pub header : new.header ≡ old.header
   pub counts : new.counts ≡ map (counted row) old.counts
   pub above : IsAbove (key_of_row row) old.stream.last
   pub last : new.stream.last ≡ Some (key_of_row row)
-  pub takes : (t : Tables) (keys : List Key) → IsReadTo t keys old.stream → IsStanding (only (is_name (row.folder, row.name)) t) here → IsReadTo t (key_of_row row ∷ keys) new.stream
+  pub takes : (t : Tables) (keys : List Key) → IsReadTo old.aim t keys old.stream → IsStanding old.aim (only (is_name (row.folder, row.name)) t) here → IsReadTo old.aim t (key_of_row row ∷ keys) new.stream
 
 -- the first of these devices where what the row says can't stand; none where it can at all
 pub data IsFirstUnfit (row : NameRow) : List Share → Option Device → Type 0 where

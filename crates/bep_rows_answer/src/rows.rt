@@ -16,13 +16,15 @@ use bep_json::DocVersion;
 use bep_record::{DeviceId, Items};
 use bep_row::{NameRow, is_said_fit};
 use bep_row_document::read_row;
-use bep_rows::{RowError, Standing, Stream, standing_of_row};
+use bep_rows::{Aim, RowError, Standing, Stream, standing_of_row};
 use bep_tables::{Cut, Share};
 use std::alloc::{AllocError, Global};
 use std::mem;
 
 /// What is known of a stream of rows once some were read. It is as large for many rows as for one.
 pub struct Rows {
+    /// What is asked of the cut.
+    pub aim: Aim,
     /// The version of the stream.
     pub version: DocVersion,
     /// The header.
@@ -37,6 +39,7 @@ pub struct Rows {
 impl Drop for Rows {
     fn drop(self) {
         let Rows {
+            aim: _,
             version: _,
             header: _,
             stream: _,
@@ -47,13 +50,14 @@ impl Drop for Rows {
 
 impl Rows {
     // No row yet, behind a header; or the fault for which this is refused.
-    pub(crate) fn behind(alloc: Global, line: &[u8]) -> Result<Rows, DocError>
-        ensures ok { IfOk result (IsHeading line.now) }
+    pub(crate) fn behind(alloc: Global, aim: Aim, line: &[u8]) -> Result<Rows, DocError>
+        ensures ok { IfOk result (IsHeading aim line.now) }
         ensures err { IfErr result (IsHeaderRefusal line.now) }
     {
         let (version, header) = read_header(alloc, line)?;
         let counts = no_counts(alloc, header.folders())?;
         Ok(Rows {
+            aim,
             version,
             header,
             stream: Stream::new(),
@@ -61,14 +65,14 @@ impl Rows {
         })
     }
 
-    // Takes the row of the next line, and gives the line of its name, if that is at fault; or the fault for which the row is
+    // Takes the row of the next line, and gives the line of its name, if that isn't what is asked; or the fault for which the row is
     // refused.
     pub(crate) fn take(&mut self, alloc: Global, line: &[u8]) -> Result<Vec<u8>, DocError>
         ensures ok { IfOk result (λ text. (row : NameRowOf) × IsTaken line.now row text.items self.old self.new) }
         ensures err { IfErr result (IsRowRefusal line.now self.old) }
     {
         let row = read_row(alloc, self.version, &self.header, self.stream.last(), line)?;
-        let here = standing_of(alloc, &self.header, &row)?;
+        let here = standing_of(alloc, self.aim, &self.header, &row)?;
         let mut text = Vec::new(alloc);
         push_standing(&mut text, &here)?;
         let counts = counted(alloc, self.counts.as_slice(), &row)?;
@@ -84,22 +88,22 @@ impl Rows {
 
     // The verdict and the counts.
     pub(crate) fn end(&self, alloc: Global) -> Result<Vec<u8>, AllocError>
-        ensures { IfOk result (λ text. text.items ≡ (verdict_line_of self.now.stream.standing ++ flat_map count_line self.now.counts)) }
+        ensures { IfOk result (λ text. text.items ≡ (verdict_line_of self.now.aim self.now.stream.standing ++ flat_map count_line self.now.counts)) }
     {
         let mut text = Vec::new(alloc);
-        push_verdict(&mut text, self.stream.standing())?;
+        push_verdict(&mut text, self.aim, self.stream.standing())?;
         push_counts(&mut text, self.counts.as_slice())?;
         Ok(text)
     }
 }
 
 // What is answered of a row beside the header; or the fault for which it is refused.
-fn standing_of(alloc: Global, header: &Cut, row: &NameRow) -> Result<Standing, DocError>
-    ensures stands { IfOk result (StandsFor header.now row.now) }
+fn standing_of(alloc: Global, aim: Aim, header: &Cut, row: &NameRow) -> Result<Standing, DocError>
+    ensures stands { IfOk result (StandsFor aim header.now row.now) }
     ensures fits { IfOk result (λ _. Fits header.now row.now) }
     ensures err { IfErr result (IsSequenceFault header.now row.now) }
 {
-    match standing_of_row(alloc, header, row) {
+    match standing_of_row(alloc, aim, header, row) {
         Ok(standing) => Ok(standing),
         Err(RowError::Unfit) => Err(DocError::Refused(unfit(alloc, header, row)?)),
         Err(RowError::Memory) => Err(DocError::Memory),

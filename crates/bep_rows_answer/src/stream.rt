@@ -4,37 +4,37 @@ ghost use Rattle.std.specs.Io.KnownBytes.{Appends};
 ghost use Rattle.bep_rows_answer.specs.inner.Answered.{IsAnsweredLast, IsAnsweredNext, IsEnded, IsFrontAnswered, IsNextStreamed, IsStreamedTo};
 ghost use Rattle.bep_rows_answer.specs.Lines.{refusal_line};
 ghost use Rattle.bep_rows_answer.specs.Stream.{IsAnswered, IsGrownText, IsLineRefusal, IsTakenNext};
-ghost use Rattle.bep_rows_answer.specs.Stream as spec;
 
 use crate::input::{Next, behind, read_line};
 use crate::lines::push_refusal;
+use crate::outcome::RowsOutcome;
 use crate::rows::Rows;
-use bep_answer::Outcome;
 use bep_document::{DocError, DocFault, Fault};
 use bep_parts::verdict_by_parts;
 use bep_report::{ReportError, write_all};
-use bep_rows::{Standing, rows_make_a_cut};
+use bep_rows::{Aim, rows_make_a_cut};
 use std::alloc::Global;
 use std::io::{Read, Write};
 
 /// Reads a stream of rows, a header first and then a row on each line, names rising, and answers as it reads: a line for each
-/// name at fault, then the verdict and a line for each folder. Where a line is refused, what was answered before it stands, and
+/// name that isn't what is asked, then the verdict and a line for each folder. Where a line is refused, what was answered before it stands, and
 /// the last line says its number and its fault. No more memory is needed for many rows than for one.
 ///
 /// `Read` and `Write` are answered where the reader or the writer answers any error, or takes nothing; `Memory` may come in place
 /// of an answer. What was written before stands then.
 pub fn rows_text<R: Read, W: Write>(
     alloc: Global,
+    aim: Aim,
     reader: &mut R,
     writer: &mut W,
-) -> Result<Outcome, ReportError>
-    ensures ok { IfOk result (IsAnswered (R.remaining reader.old) (R.remaining reader.new) (W.contents writer.old) (W.contents writer.new)) }
+) -> Result<RowsOutcome, ReportError>
+    ensures ok { IfOk result (IsAnswered aim (R.remaining reader.old) (R.remaining reader.new) (W.contents writer.old) (W.contents writer.new)) }
     ensures err { IfErr result (λ _. IsGrownText (W.contents writer.old) (W.contents writer.new)) }
 {
     let mut state = None;
     let mut pending = Vec::new(alloc);
     for number in 1..u64::MAX {
-        let told = answer_next(alloc, reader, writer, &mut state, &mut pending, number)?;
+        let told = answer_next(alloc, aim, reader, writer, &mut state, &mut pending, number)?;
         if let Some(outcome) = told {
             return Ok(outcome);
         }
@@ -45,26 +45,27 @@ pub fn rows_text<R: Read, W: Write>(
 // Reads the next line, of this number, and writes its answer; the outcome, if that was the last.
 fn answer_next<R: Read, W: Write>(
     alloc: Global,
+    aim: Aim,
     reader: &mut R,
     writer: &mut W,
     state: &mut Option<Rows>,
     pending: &mut Vec<u8>,
     number: u64,
-) -> Result<Option<Outcome>, ReportError>
+) -> Result<Option<RowsOutcome>, ReportError>
     ensures ok { IfOk result (λ told. (unread held : Option (List ℕ)) →
-        IsStreamedTo unread (R.remaining reader.old) held (W.contents writer.old) state.old pending.old.items number →
-        IsNextStreamed unread (R.remaining reader.new) held (W.contents writer.new) state.new pending.new.items number told) }
+        IsStreamedTo aim unread (R.remaining reader.old) held (W.contents writer.old) state.old pending.old.items number →
+        IsNextStreamed aim unread (R.remaining reader.new) held (W.contents writer.new) state.new pending.new.items number told) }
     ensures err { IfErr result (λ _. IsGrownText (W.contents writer.old) (W.contents writer.new)) }
 {
     match read_line(reader, pending)? {
-        Next::Line(len) => answer_front(alloc, writer, state, pending, number, len),
+        Next::Line(len) => answer_front(alloc, aim, writer, state, pending, number, len),
         Next::Last => {
-            let outcome = answer_last(alloc, writer, state, number, pending.as_slice())?;
+            let outcome = answer_last(alloc, aim, writer, state, number, pending.as_slice())?;
             Ok(Some(outcome))
         }
         Next::TooLong => {
             refuse(alloc, writer, number, &DocFault::nowhere(Fault::Range))?;
-            Ok(Some(Outcome::Refused))
+            Ok(Some(RowsOutcome::Refused))
         }
     }
 }
@@ -72,32 +73,38 @@ fn answer_next<R: Read, W: Write>(
 // Writes the answer to the first of the pending lines, of so many bytes, and passes it; the outcome, if it is refused.
 fn answer_front<W: Write>(
     alloc: Global,
+    aim: Aim,
     writer: &mut W,
     state: &mut Option<Rows>,
     pending: &mut Vec<u8>,
     number: u64,
     len: usize,
-) -> Result<Option<Outcome>, ReportError>
+) -> Result<Option<RowsOutcome>, ReportError>
     requires { len < length pending.old.items }
-    ensures ok { IfOk result (IsFrontAnswered len number pending.old.items pending.new.items state.old state.new (W.contents writer.old) (W.contents writer.new)) }
+    ensures ok { IfOk result (IsFrontAnswered aim len number pending.old.items pending.new.items state.old state.new (W.contents writer.old) (W.contents writer.new)) }
     ensures err { IfErr result (λ _. IsGrownText (W.contents writer.old) (W.contents writer.new)) }
 {
-    if !answer_line(alloc, writer, state, number, &pending[..len])? {
-        return Ok(Some(Outcome::Refused));
+    if !answer_line(alloc, aim, writer, state, number, &pending[..len])? {
+        return Ok(Some(RowsOutcome::Refused));
     }
     *pending = behind(alloc, pending.as_slice(), len)?;
     Ok(None)
 }
 
 // Takes the next line. The text of its answer, or the fault for which it is refused.
-fn take_line(alloc: Global, state: &mut Option<Rows>, line: &[u8]) -> Result<Vec<u8>, DocError>
-    ensures ok { IfOk result (λ more. IsTakenNext line.now state.old state.new more.items) }
+fn take_line(
+    alloc: Global,
+    aim: Aim,
+    state: &mut Option<Rows>,
+    line: &[u8],
+) -> Result<Vec<u8>, DocError>
+    ensures ok { IfOk result (λ more. IsTakenNext aim line.now state.old state.new more.items) }
     ensures some { OnOk result (IsSome state.new) }
     ensures err { IfErr result (IsLineRefusal line.now state.old) }
 {
     match state {
         None => {
-            *state = Some(Rows::behind(alloc, line)?);
+            *state = Some(Rows::behind(alloc, aim, line)?);
             Ok(Vec::new(alloc))
         }
         Some(rows) => rows.take(alloc, line),
@@ -107,15 +114,16 @@ fn take_line(alloc: Global, state: &mut Option<Rows>, line: &[u8]) -> Result<Vec
 // Takes the next line, and writes the text of its answer; or the line of the fault for which it is refused, and answers false.
 fn answer_line<W: Write>(
     alloc: Global,
+    aim: Aim,
     writer: &mut W,
     state: &mut Option<Rows>,
     number: u64,
     line: &[u8],
 ) -> Result<bool, ReportError>
-    ensures ok { IfOk result (IsAnsweredNext line.now number state.old state.new (W.contents writer.old) (W.contents writer.new)) }
+    ensures ok { IfOk result (IsAnsweredNext aim line.now number state.old state.new (W.contents writer.old) (W.contents writer.new)) }
     ensures err { IfErr result (λ _. IsGrownText (W.contents writer.old) (W.contents writer.new)) }
 {
-    match take_line(alloc, state, line) {
+    match take_line(alloc, aim, state, line) {
         Ok(text) => {
             write_all(writer, text.as_slice())?;
             Ok(true)
@@ -146,19 +154,20 @@ fn refuse<W: Write>(
 // Takes the last line, unless there is none, and writes its answer and the end. A stream without bytes is one line.
 fn answer_last<W: Write>(
     alloc: Global,
+    aim: Aim,
     writer: &mut W,
     state: &mut Option<Rows>,
     number: u64,
     line: &[u8],
-) -> Result<Outcome, ReportError>
-    ensures ok { IfOk result (IsAnsweredLast line.now number state.old (W.contents writer.old) (W.contents writer.new)) }
+) -> Result<RowsOutcome, ReportError>
+    ensures ok { IfOk result (IsAnsweredLast aim line.now number state.old (W.contents writer.old) (W.contents writer.new)) }
     ensures err { IfErr result (λ _. IsGrownText (W.contents writer.old) (W.contents writer.new)) }
 {
     if is_over(line, state) {
         return end(alloc, writer, state);
     }
-    if !answer_line(alloc, writer, state, number, line)? {
-        return Ok(Outcome::Refused);
+    if !answer_line(alloc, aim, writer, state, number, line)? {
+        return Ok(RowsOutcome::Refused);
     }
     end(alloc, writer, state)
 }
@@ -175,7 +184,7 @@ fn end<W: Write>(
     alloc: Global,
     writer: &mut W,
     state: &Option<Rows>,
-) -> Result<Outcome, ReportError>
+) -> Result<RowsOutcome, ReportError>
     requires { IsSome state.now }
     ensures ok { IfOk result (IsEnded state.now (W.contents writer.old) (W.contents writer.new)) }
     ensures err { IfErr result (λ _. IsGrownText (W.contents writer.old) (W.contents writer.new)) }
@@ -186,19 +195,8 @@ fn end<W: Write>(
         Some(rows) => {
             let text = rows.end(alloc)?;
             write_all(writer, text.as_slice())?;
-            Ok(outcome_of(rows.stream.standing()))
+            Ok(RowsOutcome::of(rows.stream.standing()))
         }
         None => unreachable!(),
-    }
-}
-
-// The outcome of what is answered of all names.
-fn outcome_of(standing: &Standing) -> Outcome
-    ensures { result ≡ spec.outcome_of standing.now }
-{
-    match standing {
-        Standing::Settled => Outcome::Settled,
-        Standing::Not(..) => Outcome::NotSettled,
-        Standing::Unwon(..) => Outcome::NotSettled,
     }
 }

@@ -1,10 +1,12 @@
 //! A stream of rows is answered, and the exit status says how.
 ghost use Rattle.std.specs.Prelude.{◌≡◌};
-ghost use Rattle.bep_rows_answer.specs.Told.{IsRowsTold, SaysSettledRows};
+ghost use Rattle.bep_rows_answer.specs.Told.{IsFirmRowsTold, IsSettledRowsTold, SaysFirmRows, SaysSettledRows};
 
 use crate::stream::rows_text;
-use bep_answer::end;
-use bep_machine::{settled_stays_put, settled_stays_settled};
+use bep_answer::{end, end_firm};
+use bep_machine::{firm_stays_put, settled_stays_put, settled_stays_settled};
+use bep_model::firm_stays_firm;
+use bep_rows::Aim;
 use std::io::{Read, Write};
 
 /// Answers a stream of rows as `rows_text` does; tells why there is no answer on standard error, and answers the exit status:
@@ -14,13 +16,32 @@ pub fn rows_and_tell<P: AllocGlobal + Eprint, R: Read, W: Write>(
     reader: &mut R,
     writer: &mut W,
 ) -> u8
-    ensures told { IsRowsTold (R.remaining reader.old) (R.remaining reader.new) (W.contents writer.old) (W.contents writer.new) result }
+    ensures told { IsSettledRowsTold (R.remaining reader.old) (R.remaining reader.new) (W.contents writer.old) (W.contents writer.new) result }
     ensures settled { result ≡ 0 → SaysSettledRows (R.remaining reader.old) (R.remaining reader.new) }
 {
     settled_stays_put();
     settled_stays_settled();
-    match rows_text(rt.alloc(), reader, writer) {
-        Ok(outcome) => end(rt, Ok((outcome, None))),
+    match rows_text(rt.alloc(), Aim::Settled, reader, writer) {
+        Ok(outcome) => end(rt, Ok((outcome.settled(), None))),
         Err(error) => end(rt, Err(error)),
+    }
+}
+
+/// The same where firm is asked for: 0 firm, 1 not firm.
+pub fn firm_rows_and_tell<P: AllocGlobal + Eprint, R: Read, W: Write>(
+    rt: &P,
+    reader: &mut R,
+    writer: &mut W,
+) -> u8
+    ensures told { IsFirmRowsTold (R.remaining reader.old) (R.remaining reader.new) (W.contents writer.old) (W.contents writer.new) result }
+    ensures firm { result ≡ 0 → SaysFirmRows (R.remaining reader.old) (R.remaining reader.new) }
+{
+    firm_stays_firm();
+    firm_stays_put();
+    settled_stays_put();
+    settled_stays_settled();
+    match rows_text(rt.alloc(), Aim::Firm, reader, writer) {
+        Ok(outcome) => end_firm(rt, Ok((outcome.firmness(), None))),
+        Err(error) => end_firm(rt, Err(error)),
     }
 }

@@ -1,7 +1,7 @@
 //! What the words of the command line ask for.
 ghost use Rattle.std.specs.Prelude.{◌≡◌, IfOk, codes, false, map};
 ghost use Rattle.clap.specs.Words.{FailsBy, app_of, fault_of, first_value, found_of, new_app, rule_of, subcommand_rows_of};
-ghost use Rattle.bep_words.specs.Mode.{Asks, FaultlessWordsAsk, IsCommand, MakesFewTurns, audit_app, certify_app, ending_of, explain_app, extent_of, flag, form_of, goal_of, is_set, is_true, program, run_app, top_level, under_of};
+ghost use Rattle.bep_words.specs.Mode.{Asks, FaultlessWordsAsk, IsCommand, MakesFewTurns, aim_of, audit_app, certify_app, ending_of, explain_app, extent_of, flag, form_of, goal_of, is_set, is_true, program, rows_app, run_app, top_level, under_of};
 
 use crate::release::RELEASE;
 use crate::turns::{turns_of, turns_option};
@@ -23,8 +23,8 @@ pub enum Mode {
     Certify(Extent),
     /// Tell all that keeps the check document that comes on standard input from this, under these rows, in this form.
     Explain(Goal, Under, Form),
-    /// Audit the stream of rows that comes on standard input, under the winners of its names.
-    Rows,
+    /// Ask whether the stream of rows that comes on standard input is this, under the winners of its names.
+    Rows(Aim),
     /// Make the steps of the scenario that comes on standard input, have threads run the cluster for so many turns each,
     /// and write this of where that leads.
     Run(Ending, u32),
@@ -57,6 +57,15 @@ pub enum Goal {
     Firm,
     /// Converging, of which the certificate isn't looked at.
     Converging,
+}
+
+/// What a stream of rows may be.
+#[derive(Clone, Copy, Debug, PartialEq, Eq)]
+pub enum Aim {
+    /// Settled.
+    Settled,
+    /// Firm.
+    Firm,
 }
 
 /// What is written of the cut to which a scenario leads.
@@ -120,8 +129,9 @@ const ROWS_HELP: &str =
     "The stream FILE is a cut name by name, a header and then a row on each line: rows.md describes it. It may be of any length.\n\n\
      Example: syncaudit rows < examples/rows/in-step.jsonl\n\
      It answers as it reads: a line for each name at fault, then what 'syncaudit check --certify' writes. Where a line is refused, \
-     what was answered before stands, and the last line tells its number and its fault.\n\n\
-     Exit status: 0 settled, 1 not settled, 2 a line refused, 3 usage or help, 4 out of memory, \
+     what was answered before stands, and the last line tells its number and its fault.\n\
+     With --firm a name that isn't firm has a line, too, and then comes what 'syncaudit firm --certify' writes.\n\n\
+     Exit status: 0 settled, or firm, 1 not, 2 a line refused, 3 usage or help, 4 out of memory, \
      5 read or write fault";
 
 const RUN_HELP: &str =
@@ -167,13 +177,7 @@ fn command<'a>(alloc: Global) -> Result<Command<'a>, AllocError>
     let certifies = converges.subcommand(certify)?;
     let explain = explain_command(alloc)?;
     let explains = certifies.subcommand(explain)?;
-    let rows = plain_command(
-        alloc,
-        "rows",
-        "Audits the stream of rows on standard input, in memory for one row",
-        "syncaudit rows < FILE",
-        ROWS_HELP,
-    );
+    let rows = rows_command(alloc)?;
     let streams = explains.subcommand(rows)?;
     let run = run_command(alloc)?;
     streams.subcommand(run)
@@ -258,6 +262,20 @@ fn explain_command<'a>(alloc: Global) -> Result<Command<'a>, AllocError>
     with_converge.arg(certify)
 }
 
+fn rows_command<'a>(alloc: Global) -> Result<Command<'a>, AllocError>
+    ensures { IfOk result (IsCommand rows_app) }
+{
+    let firm = flag(alloc, "firm", "Asks whether the cut is firm");
+    plain_command(
+        alloc,
+        "rows",
+        "Audits the stream of rows on standard input, in memory for one row",
+        "syncaudit rows [--firm] < FILE",
+        ROWS_HELP,
+    )
+    .arg(firm)
+}
+
 fn run_command<'a>(alloc: Global) -> Result<Command<'a>, AllocError>
     ensures { IfOk result (IsCommand run_app) }
 {
@@ -317,7 +335,7 @@ pub fn mode_of<'a, S: AsStr>(alloc: Global, words: &'a [S]) -> Result<Mode, Erro
             under_of(&matches),
             form_of(&matches),
         )),
-        Some("rows") => Ok(Mode::Rows),
+        Some("rows") => Ok(Mode::Rows(aim_of(&matches))),
         Some("run") => Ok(Mode::Run(ending_of(&matches), turns_of(&matches))),
         _ => unreachable!(),
     }
@@ -371,6 +389,17 @@ fn goal_of(matches: &ArgMatches<'_>) -> Goal
         Goal::Firm
     } else {
         Goal::Settled
+    }
+}
+
+// What the subcommand's words ask the stream of rows to be.
+fn aim_of(matches: &ArgMatches<'_>) -> Aim
+    ensures { result ≡ aim_of (subcommand_rows_of matches.now) }
+{
+    if is_set(matches, "firm") {
+        Aim::Firm
+    } else {
+        Aim::Settled
     }
 }
 

@@ -1,1 +1,3 @@
 pub mod StatusFacts
+pub mod OneMode
+pub mod SaysFacts

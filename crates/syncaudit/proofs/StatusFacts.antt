@@ -6,6 +6,7 @@ use Rattle.bep_report.specs.declared.error.ReportError.TheVariants.{Memory}
 use Rattle.clap.specs.Words.{Text, fault_of}
 use Rattle.bep_words.specs.Mode.{FaultlessWordsAsk, program}
 use Rattle.syncaudit.specs.Status.{IsDone, IsFollowed, IsProgramRun}
+use Rattle.bep_words.specs.declared.mode.Aim.TheVariants as aims
 use Rattle.bep_words.specs.declared.mode.Ending.TheVariants.{Report, Document}
 use Rattle.bep_words.specs.declared.mode.Extent.TheVariants.{All, Won}
 use Rattle.bep_words.specs.declared.mode.Goal.TheVariants.{Settled}
@@ -28,7 +29,8 @@ done_without_memory (Explain goals.Firm Given form) unread held status told = re
 done_without_memory (Explain goals.Firm Winners form) unread held status told = record { answer = Err Memory; told = told; done = Keeps-refl held }
 done_without_memory (Explain goals.Converging Given form) unread held status told = record { answer = Err Memory; told = told; done = Keeps-refl held }
 done_without_memory (Explain goals.Converging Winners form) unread held status told = record { answer = Err Memory; told = told; done = Keeps-refl held }
-done_without_memory Rows unread held status told = record { answer = Err Memory; told = told; done = ([], Appends-nil held) }
+done_without_memory (Rows aims.Settled) unread held status told = record { answer = Err Memory; told = told; done = ([], Appends-nil held) }
+done_without_memory (Rows aims.Firm) unread held status told = record { answer = Err Memory; told = told; done = ([], Appends-nil held) }
 done_without_memory (Run Report turns) unread held status told = record {
   at_rest = λ none. record { answer = Err Memory; told = told; done = Keeps-refl held };
   live = λ some. record { answer = Err Memory; told = told; done = Keeps-refl held };
@@ -58,6 +60,7 @@ run_without_memory ask words unread held status told =
       firm_under_winners = λ asks zero. absurd (isnt zero);
       converging = λ asks zero. absurd (isnt zero);
       settled_rows = λ asks zero. absurd (isnt zero);
+      firm_rows = λ asks zero. absurd (isnt zero);
       ends_settled = λ asks zero. absurd (isnt zero);
       lives_settled = λ turns asks some zero. absurd (isnt zero);
     }

@@ -18,10 +18,12 @@ use Rattle.bep_play.specs.Told.{IsEndTold, IsRunTold}
 use Rattle.bep_explain.specs.document.FirmExplained.{IsFirmExplanationTold}
 use Rattle.bep_explain.specs.document.Told.{IsExplanationTold}
 use Rattle.bep_explain.specs.document.UnderWinners.{IsExplanationToldUnderWinners, IsFirmExplanationToldUnderWinners}
-use Rattle.bep_rows_answer.specs.Told.{IsRowsTold, SaysSettledRows}
+use Rattle.bep_rows_answer.specs.Told.{IsFirmRowsTold, IsSettledRowsTold, SaysFirmRows, SaysSettledRows}
 use Rattle.bep_report.specs.declared.error.ReportError.TheVariants.{Memory}
 use Rattle.clap.specs.Words.{Text, fault_of}
 use Rattle.bep_words.specs.Mode.{Asks, program}
+use Rattle.bep_words.specs.declared.mode.Aim.{Aim}
+use Rattle.bep_words.specs.declared.mode.Aim.TheVariants as aims
 use Rattle.bep_words.specs.declared.mode.Ending.{Ending}
 use Rattle.bep_words.specs.declared.mode.Ending.TheVariants.{Report, Document}
 use Rattle.bep_words.specs.declared.mode.Extent.{Extent}
@@ -59,6 +61,11 @@ abbrev pub IsFirming : Under → Option (List ℕ) → Option (List ℕ) → Opt
 IsFirming Given = IsFirmTold
 IsFirming Winners = IsFirmToldUnderWinners
 
+-- what came of the stream of rows for what is asked of it
+abbrev pub IsReadingRows : Aim → Option (List ℕ) → Option (List ℕ) → Option (List ℕ) → Option (List ℕ) → ℕ → Type 0
+IsReadingRows aims.Settled = IsSettledRowsTold
+IsReadingRows aims.Firm = IsFirmRowsTold
+
 -- what came of the document for the certificate that is asked for
 abbrev pub IsCertifying : Extent → Option (List ℕ) → Option (List ℕ) → Option (List ℕ) → Option (List ℕ) → ℕ → Type 0
 IsCertifying All = IsCertificateTold
@@ -88,7 +95,7 @@ IsDone (Firm under) = IsFirming under
 IsDone Converge = IsConvergeTold
 IsDone (Certify extent) = IsCertifying extent
 IsDone (Explain goal under form) = IsExplaining goal under form
-IsDone Rows = IsRowsTold
+IsDone (Rows aim) = IsReadingRows aim
 IsDone (Run ending turns) = IsRunning ending turns
 
 -- the words ask for a mode, and this came of the document in it
@@ -115,7 +122,8 @@ pub record IsProgramRun (words : List Text) (unread left held now : Option (List
   pub firm : Asks words (Firm Given) → status ≡ 0 → SaysFirm unread left
   pub firm_under_winners : Asks words (Firm Winners) → status ≡ 0 → SaysFirmUnderWinners unread left
   pub converging : Asks words Converge → status ≡ 0 → SaysConverging unread left
-  pub settled_rows : Asks words Rows → status ≡ 0 → SaysSettledRows unread left
+  pub settled_rows : Asks words (Rows aims.Settled) → status ≡ 0 → SaysSettledRows unread left
+  pub firm_rows : Asks words (Rows aims.Firm) → status ≡ 0 → SaysFirmRows unread left
   pub ends_settled : Asks words (Run Report 0) → status ≡ 0 → EndsSettled unread left
   pub lives_settled : (turns : ℕ) → Asks words (Run Report turns) → 0 < turns → status ≡ 0 → EndsLived unread left
 

@@ -10,9 +10,11 @@ ghost use Rattle.bep_answer.specs.UnderWinners.{SaysFirmUnderWinners, SaysSettle
 ghost use Rattle.bep_converge_answer.specs.Convergence.{SaysConverging};
 ghost use Rattle.bep_live.specs.Lived.{EndsLived};
 ghost use Rattle.bep_play.specs.Played.{EndsSettled};
-ghost use Rattle.bep_rows_answer.specs.Told.{SaysSettledRows};
+ghost use Rattle.bep_rows_answer.specs.Told.{SaysFirmRows, SaysSettledRows};
 ghost use Rattle.bep_words.specs.Mode.{Asks, program};
-ghost use Rattle.syncaudit.specs.Status.{IsCertifying, IsChecking, IsEnd, IsEnding, IsExplaining, IsExplainingGiven, IsExplainingUnderWinners, IsFirming, IsFollowed, IsLiveEnding, IsProgramRun, IsRunning, IsUnfollowed, IsWithoutWords, status_without};
+ghost use Rattle.syncaudit.specs.Status.{IsCertifying, IsChecking, IsDone, IsEnd, IsEnding, IsExplaining, IsExplainingGiven, IsExplainingUnderWinners, IsFirming, IsFollowed, IsLiveEnding, IsProgramRun, IsReadingRows, IsRunning, IsUnfollowed, IsWithoutWords, status_without};
+ghost use Rattle.syncaudit.specs.inner.Says.{SaysIn};
+ghost use Rattle.bep_words.specs.declared.mode.Aim.TheVariants as aims;
 ghost use Rattle.bep_words.specs.declared.mode.Ending.TheVariants.{Report};
 ghost use Rattle.bep_words.specs.declared.mode.Mode.TheVariants.{Check, Converge, Firm, Rows, Run};
 ghost use Rattle.bep_words.specs.declared.mode.Under.TheVariants.{Given, Winners};
@@ -31,8 +33,10 @@ use bep_lines::Form;
 use bep_live::{live_and_tell, live_document_and_tell};
 use bep_play::{run_and_tell, run_document_and_tell};
 use bep_report::ReportError;
-use bep_rows_answer::rows_and_tell;
-use bep_words::{Ending, Extent, Goal, Mode, Under, Unfollowed, faultless_words_ask, mode_told};
+use bep_rows_answer::{firm_rows_and_tell, rows_and_tell};
+use bep_words::{
+    Aim, Ending, Extent, Goal, Mode, Under, Unfollowed, faultless_words_ask, mode_told,
+};
 use std::alloc::{AllocError, Global};
 use std::convert::AsStr;
 use std::env::Args;
@@ -99,8 +103,10 @@ pub fn run<P: AllocGlobal + Eprint + Threads + Wait + Sync, R: Read, W: Write, S
         → result ≡ 0 → SaysFirmUnderWinners (R.remaining reader.old) (R.remaining reader.new) }
     ensures converging { Asks (map S.text words.entry.now) Converge
         → result ≡ 0 → SaysConverging (R.remaining reader.old) (R.remaining reader.new) }
-    ensures settled_rows { Asks (map S.text words.entry.now) Rows
+    ensures settled_rows { Asks (map S.text words.entry.now) (Rows aims.Settled)
         → result ≡ 0 → SaysSettledRows (R.remaining reader.old) (R.remaining reader.new) }
+    ensures firm_rows { Asks (map S.text words.entry.now) (Rows aims.Firm)
+        → result ≡ 0 → SaysFirmRows (R.remaining reader.old) (R.remaining reader.new) }
     ensures ends_settled { Asks (map S.text words.entry.now) (Run Report 0)
         → result ≡ 0 → EndsSettled (R.remaining reader.old) (R.remaining reader.new) }
     ensures lives_settled { (turns : ℕ) → Asks (map S.text words.entry.now) (Run Report turns) → 0 < turns
@@ -108,15 +114,30 @@ pub fn run<P: AllocGlobal + Eprint + Threads + Wait + Sync, R: Read, W: Write, S
 {
     faultless_words_ask();
     match mode_told(rt, words) {
-        Ok(Mode::Check(under)) => check(rt, under, reader, writer),
-        Ok(Mode::Firm(under)) => firm(rt, under, reader, writer),
-        Ok(Mode::Converge) => converge_and_tell(rt, reader, writer),
-        Ok(Mode::Certify(extent)) => certify(rt, extent, reader, writer),
-        Ok(Mode::Explain(goal, under, form)) => explain(rt, goal, under, form, reader, writer),
-        Ok(Mode::Rows) => rows_and_tell(rt, reader, writer),
-        Ok(Mode::Run(ending, turns)) => run_scenario(rt, ending, turns, reader, writer),
+        Ok(mode) => follow(rt, mode, reader, writer),
         Err(Unfollowed::Memory) => end(rt, Err(ReportError::Memory)),
         Err(Unfollowed::Usage) => USAGE,
+    }
+}
+
+// Does what is asked for in this mode.
+fn follow<P: AllocGlobal + Eprint + Threads + Wait + Sync, R: Read, W: Write>(
+    rt: &P,
+    mode: Mode,
+    reader: &mut R,
+    writer: &mut W,
+) -> u8
+    ensures done { IsDone mode (R.remaining reader.old) (R.remaining reader.new) (W.contents writer.old) (W.contents writer.new) result }
+    ensures says { result ≡ 0 → SaysIn mode (R.remaining reader.old) (R.remaining reader.new) }
+{
+    match mode {
+        Mode::Check(under) => check(rt, under, reader, writer),
+        Mode::Firm(under) => firm(rt, under, reader, writer),
+        Mode::Converge => converge_and_tell(rt, reader, writer),
+        Mode::Certify(extent) => certify(rt, extent, reader, writer),
+        Mode::Explain(goal, under, form) => explain(rt, goal, under, form, reader, writer),
+        Mode::Rows(aim) => read_rows(rt, aim, reader, writer),
+        Mode::Run(ending, turns) => run_scenario(rt, ending, turns, reader, writer),
     }
 }
 
@@ -171,6 +192,23 @@ fn firm<P: AllocGlobal + Eprint, R: Read, W: Write>(
     match under {
         Under::Given => firm_and_tell(rt, reader, writer),
         Under::Winners => firm_under_winners_and_tell(rt, reader, writer),
+    }
+}
+
+// Audits a stream of rows, and answers as it reads.
+fn read_rows<P: AllocGlobal + Eprint, R: Read, W: Write>(
+    rt: &P,
+    aim: Aim,
+    reader: &mut R,
+    writer: &mut W,
+) -> u8
+    ensures told { IsReadingRows aim (R.remaining reader.old) (R.remaining reader.new) (W.contents writer.old) (W.contents writer.new) result }
+    ensures settled { aim ≡ aims.Settled → result ≡ 0 → SaysSettledRows (R.remaining reader.old) (R.remaining reader.new) }
+    ensures firm { aim ≡ aims.Firm → result ≡ 0 → SaysFirmRows (R.remaining reader.old) (R.remaining reader.new) }
+{
+    match aim {
+        Aim::Settled => rows_and_tell(rt, reader, writer),
+        Aim::Firm => firm_rows_and_tell(rt, reader, writer),
     }
 }
 

@@ -7,7 +7,10 @@
 // The package says nothing in words. It reads nothing, and changes nothing.
 package advice
 
-import "syncthing-audit/forecast"
+import (
+	"golang.org/x/exp/slices"
+	"syncthing-audit/forecast"
+)
 
 // Goal is what is to stand at a name on all devices; without a node nothing is.
 type Goal struct {
@@ -33,12 +36,7 @@ func (g Goal) isReached(end *forecast.End) bool {
 
 // isReachedAtAll says whether each of these ends is the goal.
 func (g Goal) isReachedAtAll(ends []forecast.End) bool {
-	for place := range ends {
-		if !g.isReached(&ends[place]) {
-			return false
-		}
-	}
-	return true
+	return slices.IndexFunc(ends, func(end forecast.End) bool { return !g.isReached(&end) }) < 0
 }
 
 func isSame(a, b *forecast.Node) bool {
@@ -67,12 +65,7 @@ func onDisks(world *forecast.World) contents {
 // lostIn adds the bytes that stand on no disk at some end.
 func (c contents) lostIn(ends []forecast.End, lost contents) {
 	for _, end := range ends {
-		left := contents{}
-		for _, disk := range end.Disks {
-			for _, place := range disk {
-				left[place.Node.Content] = true
-			}
-		}
+		left := end.Contents()
 		for content := range c {
 			if !left[content] {
 				lost[content] = true
@@ -84,11 +77,7 @@ func (c contents) lostIn(ends []forecast.End, lost contents) {
 // isWithin says whether all of these are among others.
 func (c contents) isWithin(others ...contents) bool {
 	for content := range c {
-		found := false
-		for _, other := range others {
-			found = found || other[content]
-		}
-		if !found {
+		if slices.IndexFunc(others, func(other contents) bool { return other[content] }) < 0 {
 			return false
 		}
 	}

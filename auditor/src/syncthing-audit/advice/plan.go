@@ -46,7 +46,7 @@ func (s Search) Plans(world forecast.World, goal Goal) []Plan {
 	t.before.lostIn(s.answer(world).Ends, t.unavoidable)
 	for count := 0; count <= MostSteps; count++ {
 		var plans []Plan
-		choose(t.steps(), count, func(steps []Step) {
+		choose(StepsTo(&t.world, goal), count, func(steps []Step) {
 			if plan := t.plan(steps); plan != nil {
 				plans = append(plans, *plan)
 			}
@@ -71,27 +71,27 @@ func (s Search) answer(world forecast.World) forecast.Answer {
 	return s.Forecaster.OfGroup(world.Devices, world.Copied().Names)
 }
 
-// steps gives all steps that may serve.
-func (t *task) steps() []Step {
+// StepsTo gives all steps that may serve a goal.
+func StepsTo(world *forecast.World, goal Goal) []Step {
 	var steps []Step
 	from := -1
-	for i := range t.world.Devices {
-		if there := t.world.At(i, t.goal.Name); t.goal.Node != nil && isSame(there, t.goal.Node) {
-			if there != nil && there.Type == forecast.File { // no scan sees the time of anything else
-				steps = append(steps, Step{Touch, i, 0, t.goal.Name})
+	for i := range world.Devices {
+		if there := world.At(i, goal.Name); goal.Node != nil && isSame(there, goal.Node) {
+			if there.Type == forecast.File { // no scan sees the time of anything else
+				steps = append(steps, Step{Touch, i, 0, goal.Name})
 			}
 			if from < 0 {
 				from = i
 			}
 		}
 	}
-	for i := range t.world.Devices {
-		there := t.world.At(i, t.goal.Name)
-		if from >= 0 && !isSame(there, t.goal.Node) && t.world.HasRoom(i, t.goal.Name) {
-			steps = append(steps, Step{Copy, i, from, t.goal.Name})
+	for i := range world.Devices {
+		there := world.At(i, goal.Name)
+		if from >= 0 && !isSame(there, goal.Node) && world.HasRoom(i, goal.Name) {
+			steps = append(steps, Step{Copy, i, from, goal.Name})
 		}
-		if there != nil && !isSame(there, t.goal.Node) {
-			steps = append(steps, Step{Delete, i, 0, t.goal.Name})
+		if there != nil && !isSame(there, goal.Node) {
+			steps = append(steps, Step{Delete, i, 0, goal.Name})
 		}
 	}
 	return steps

@@ -148,3 +148,20 @@ func TestADirectoryIsCopiedWithAllBelow(t *testing.T) {
 		}
 	}
 }
+
+// A file that is copied to where a directory stands takes its place, with all that stood below it. Bytes are on a disk however few they are.
+func TestAFileIsCopiedOverADirectory(t *testing.T) {
+	of, file := devices(both, both), node("file", 5)
+	made := world(of, file, &forecast.Node{Type: forecast.Directory, Mode: 0o755})
+	below := world(of, nil, node("old", 5)).Names[0]
+	below.Name = "a/b"
+	below.Disk[1].Content.Size = 1
+	made.Names = append(made.Names, below)
+	if bytes := onDisks(&made); len(bytes) != 2 || !bytes[below.Disk[1].Content] {
+		t.Errorf("%+v", bytes)
+	}
+	Step{Copy, 1, 0, "a"}.On(&made, present)
+	if there := made.At(1, "a"); there == nil || *there != *file || made.At(1, "a/b") != nil || len(onDisks(&made)) != 1 {
+		t.Errorf("%+v, %+v", there, made.At(1, "a/b"))
+	}
+}

@@ -51,7 +51,7 @@ type Program struct {
 }
 
 // lacks is what a program was asked for and doesn't know, as it is too old.
-type lacks struct{ certify, firm, converge atomic.Bool }
+type lacks struct{ rows, certify, firm, converge atomic.Bool }
 
 // certifying is the flag by which a document is audited under the certificate that is made of it.
 const certifying = "--certify"
@@ -172,7 +172,16 @@ func (p Program) run(document []byte, words ...string) (int, []byte, error) {
 		status = StatusCannotRun
 	}
 	return 0, nil, &Failed{status, fmt.Sprintf("'%s %s' ended with %v: %s", p.Path, strings.Join(words, " "), ended,
-		firstLine(append(written.Bytes(), told.Bytes()...)))}
+		lastSaid(written.Bytes(), told.Bytes()))}
+}
+
+// lastSaid gives the last line that a program wrote, which says why it ends, or the first one that it told as an error.
+func lastSaid(written, told []byte) string {
+	lines := strings.Split(strings.TrimSuffix(string(written), "\n"), "\n")
+	if last := lines[len(lines)-1]; last != "" {
+		return last
+	}
+	return firstLine(told)
 }
 
 // firstLine gives the first line of a text.

@@ -37,7 +37,7 @@ func TestLines(t *testing.T) {
 			t.Errorf("%q: %v", one.line, read)
 		}
 	}
-	for _, line := range []string{"", "Odd docs a", "NotWinner pics a", "NotWinner docs", `NotWinner docs a\x2`, `NotWinner docs a\y20`,
+	for _, line := range []string{"", "Odd docs a", "NotWinner pics a", "NotWinner docs", `NotWinner docs a\x2`, `NotWinner docs a\y20`, `NotWinner docs a\x2g`,
 		"StoreDiffers docs a at 1", "StoreDiffers docs a on you"} {
 		if read, is := readFailure("docs", line); is {
 			t.Errorf("%q was read as %v", line, read)
@@ -198,6 +198,23 @@ case $1 in certify) cat;; firm | converge) exit 3;; *) echo settled; echo "folde
 	if err != nil || unasked != 3 || strings.Count(string(asked), "firm\n") != 1 || strings.Count(string(asked), "firm --certify\n") != 1 ||
 		strings.Count(string(asked), "converge\n") != 1 {
 		t.Errorf("%d weren't asked, by %q: %v", unasked, asked, err)
+	}
+}
+
+// A program that knows what is firm, and is too old to audit under the certificate that it makes, is asked for that once.
+func TestAProgramWithoutCertificatesOfItsOwn(t *testing.T) {
+	log := filepath.Join(t.TempDir(), "log")
+	program := aProgram(t, "printf '%s,' \"$*\" >> '"+log+`'
+case "$*" in certify) cat;; firm) echo firm; echo "folder docs: 1 names, 0 deleted, 2 devices";; *) exit 3;; esac`)
+	pool := NewPool(program, 1, func(*document.Document, *Reply) {})
+	for place := 0; place < 3; place++ {
+		if err := pool.Ask(&document.Document{Folder: "docs", Place: place, Written: []byte("{}")}); err != nil {
+			t.Fatal(err)
+		}
+	}
+	err := pool.Close()
+	if asked, _ := os.ReadFile(log); err != nil || string(asked) != "firm --certify,certify,firm,certify,firm,certify,firm," {
+		t.Errorf("%s was asked: %v", asked, err)
 	}
 }
 

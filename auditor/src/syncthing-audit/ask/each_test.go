@@ -33,9 +33,25 @@ func TestEachReason(t *testing.T) {
 			}
 		}
 	}
+	for _, reason := range finding.Reasons {
+		if failures, err := readFailures("docs", reason+" docs a on 1\n"); err != nil || len(failures) != 1 || failures[0].Reason != reason {
+			t.Errorf("%s: %v, %v", reason, failures, err)
+		}
+	}
 	for _, report := range []string{"StoreDiffers docs b on 1\nStoreDiffers docs a on 1\n", "StoreDiffers docs a on 2\nStoreDiffers docs a on 1\n", "ViewNotBelow docs a on 1\n"} {
 		if failures, err := readFailures("docs", report); err == nil {
 			t.Errorf("%q is read as %v", report, failures)
+		}
+	}
+}
+
+// What isn't settled by what firm says is explained at once, whichever reason that is.
+func TestEachReasonIsExplainedAtOnce(t *testing.T) {
+	for _, reason := range finding.Reasons {
+		const counts = `; echo "folder docs: 1 names, 0 deleted, 2 devices"; exit 1`
+		program := aProgram(t, "case $1 in firm) echo 'not firm: "+reason+" docs a'"+counts+";; explain) echo "+reason+" docs a; exit 1;; converge) exit 3;; *) exit 9;; esac")
+		if reply, err := program.Ask("docs", []byte("{}")); err != nil || reply.Failures[0].Reason != reason {
+			t.Errorf("%s: %v", reason, err)
 		}
 	}
 }

@@ -15,15 +15,9 @@ type Pool struct {
 	changed *sync.Cond
 	most    int // how many documents may be asked beyond the one whose reply is due: each is in memory
 	take    func(*document.Document, *Reply)
-	next    int              // the place of the document whose reply is due
-	early   map[int]answered // by their documents' places
+	next    int                // the place of the document whose reply is due
+	early   map[int][]Answered // by their documents' places
 	err     error
-}
-
-// answered is a document with its reply.
-type answered struct {
-	document *document.Document
-	reply    *Reply
 }
 
 // ahead is how many documents there are at most for each worker, while the reply to an earlier one is awaited.
@@ -32,7 +26,7 @@ const ahead = 3
 // NewPool starts so many workers; each reply is given to take, one at a time, in the order of the documents' places.
 func NewPool(program Program, workers int, take func(*document.Document, *Reply)) *Pool {
 	program.lacks = &lacks{}
-	pool := &Pool{program: program, asked: make(chan *document.Document), most: ahead * workers, take: take, early: map[int]answered{}}
+	pool := &Pool{program: program, asked: make(chan *document.Document), most: ahead * workers, take: take, early: map[int][]Answered{}}
 	pool.changed = sync.NewCond(&pool.mutex)
 	for next := 0; next < workers; next++ {
 		pool.workers.Add(1)
@@ -47,14 +41,14 @@ func (p *Pool) work() {
 		if p.failed() != nil {
 			continue
 		}
-		reply, err := p.program.Ask(document.Folder, document.Written)
+		answered, err := p.program.Answer(document)
 		document.Written = nil
-		p.put(answered{document, reply}, err)
+		p.put(document.Place, answered, err)
 	}
 }
 
-// put takes a reply, and gives on those that are due.
-func (p *Pool) put(answered answered, err error) {
+// put takes the replies to a document, and gives on those that are due.
+func (p *Pool) put(place int, answered []Answered, err error) {
 	p.mutex.Lock()
 	defer p.mutex.Unlock()
 	defer p.changed.Broadcast()
@@ -64,7 +58,7 @@ func (p *Pool) put(answered answered, err error) {
 		}
 		return
 	}
-	p.early[answered.document.Place] = answered
+	p.early[place] = answered
 	for {
 		due, is := p.early[p.next]
 		if !is {
@@ -72,7 +66,10 @@ func (p *Pool) put(answered answered, err error) {
 		}
 		delete(p.early, p.next)
 		p.next++
-		p.take(due.document, due.reply)
+		for _, one := range due {
+			one.Document.Written = nil
+			p.take(one.Document, one.Reply)
+		}
 	}
 }
 

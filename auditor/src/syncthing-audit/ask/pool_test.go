@@ -1,6 +1,7 @@
 package ask
 
 import (
+	"fmt"
 	"os"
 	"path/filepath"
 	"reflect"
@@ -22,13 +23,20 @@ func aProgram(t *testing.T, lines string) Program {
 // answersOf gives the places of the documents in the order in which their replies come.
 func answersOf(program Program, count int) ([]int, error) {
 	var places []int
+	var documents []*document.Document
 	pool := NewPool(program, 4, func(one *document.Document, _ *Reply) { places = append(places, one.Place) })
 	for place := 0; place < count; place++ {
-		if pool.Ask(&document.Document{Folder: "docs", Place: place, Written: []byte{byte('0' + place%10)}}) != nil {
+		documents = append(documents, &document.Document{Folder: "docs", Place: place, Written: []byte{byte('0' + place%10)}})
+		if pool.Ask(documents[place]) != nil {
 			break
 		}
 	}
 	err := pool.Close()
+	for _, one := range documents {
+		if err == nil && one.Written != nil {
+			err = fmt.Errorf("document %d is still in memory", one.Place)
+		}
+	}
 	return places, err
 }
 

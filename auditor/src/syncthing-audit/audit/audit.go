@@ -14,16 +14,15 @@ import (
 	"syncthing-audit/join"
 	"syncthing-audit/limits"
 	"syncthing-audit/outlook"
+	"syncthing-audit/part"
 	"syncthing-audit/shell"
 )
-
-// bytesOfDocument is how long a document of stand-ins grows: small enough that several are in memory at once.
-const bytesOfDocument = 4 << 20
 
 // Options say how an audit goes.
 type Options struct {
 	Consent   Consent       // what may be left out
 	WithBytes bool          // documents with bytes in place of stand-ins
+	AsStreams bool          // streams of rows in place of documents
 	ByNames   bool          // whether the names were asked for by how they begin
 	Refused   func()        // called once there is something without which no answer is given
 	Joined    *atomic.Int64 // counts the names; not needed
@@ -148,12 +147,8 @@ func (c *collector) checkSomething() error {
 
 // folder goes through the names of a folder.
 func (c *collector) folder(folder *join.Folder) error {
-	most := bytesOfDocument
-	if c.options.WithBytes {
-		most = limits.MostBytes
-	}
 	next := &names{collector: c, folder: folder, found: &finding.Folder{ID: folder.ID, Label: folder.Label, Own: folder.Own, Members: folder.Members,
-		Live: liveOf(folder), Rows: map[string]*join.Row{}}, builder: document.NewBuilder(folder, c.options.WithBytes, most)}
+		Live: liveOf(folder), Rows: map[string]*join.Row{}}, filled: c.filled(folder)}
 	rows := read.NewRows(folder)
 	c.answer.Folders = append(c.answer.Folders, next.found)
 	var err error
@@ -163,13 +158,30 @@ func (c *collector) folder(folder *join.Folder) error {
 	}); err != nil {
 		return err
 	}
-	if err := next.give(next.builder.Take()); err != nil { // without names, too
+	if err := next.give(next.filled.Take()); err != nil { // without names, too
 		return err
 	}
 	if len(c.answer.Refusals) == 0 {
 		next.found.Outlook = c.foretells.Of(rows)
 	}
 	return nil
+}
+
+// filled is what is filled with names: documents, or streams of rows.
+type filled interface {
+	Add(row *join.Row) (*document.Document, *part.LeftOut)
+	Take() *document.Document
+}
+
+// filled begins to fill what is asked of a folder.
+func (c *collector) filled(folder *join.Folder) filled {
+	switch {
+	case c.options.AsStreams:
+		return document.NewStream(folder)
+	case c.options.WithBytes:
+		return document.NewBuilder(folder, true, limits.MostBytes)
+	}
+	return document.NewBuilder(folder, false, document.BytesOfOne)
 }
 
 // budget is that of what is foretold of all folders together: some 10 s of one core.

@@ -6,6 +6,7 @@ import (
 
 	"syncthing-audit/finding"
 	"syncthing-audit/join"
+	"syncthing-audit/part"
 )
 
 // conflictCopy is how Syncthing names the copy of a file that lost to another version; older releases without a device.
@@ -19,7 +20,7 @@ func (n *names) addConflict(row *join.Row) {
 	for _, name := range row.At {
 		if name != nil && name.Disk != nil {
 			if len(n.found.Conflicts) < finding.MostListed {
-				n.found.Conflicts = append(n.found.Conflicts, finding.Conflict{Name: row.Name, Bytes: row.Size()})
+				n.found.Conflicts = append(n.found.Conflicts, finding.Conflict{Name: part.Bytes(row.Name), Bytes: row.Size()})
 			} else {
 				n.found.Unlisted.Conflicts.Add(1, row.Size())
 			}

@@ -39,3 +39,18 @@ func TestWhatADiskFailsToGive(t *testing.T) {
 		}
 	}
 }
+
+// A file that a disk fails to give stands in a document, unless a device's part leaves it out.
+func TestAFileThatADiskFailsToGive(t *testing.T) {
+	for _, row := range []struct {
+		other  *part.Name
+		isFile bool
+	}{{with(), true}, {nil, true}, {with(out(part.Unreadable)), false}} {
+		next, told := namesOf(), []finding.Damaged{}
+		next.addDamaged(rowOf(with(lost), row.other))
+		next.found.Damaged.Each(func(damaged *finding.Damaged) { told = append(told, *damaged) })
+		if len(told) != 1 || told[0].IsFile != row.isFile || fmt.Sprint(told[0].At) != "[{0 it is lost false}]" {
+			t.Errorf("%+v: %+v", row, told)
+		}
+	}
+}

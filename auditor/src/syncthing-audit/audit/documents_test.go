@@ -54,7 +54,7 @@ func TestEachNameIsInOneDocument(t *testing.T) {
 func TestANameThatNoDocumentHas(t *testing.T) {
 	one, other := namesOfBoth(3)
 	one[1].Own.Sequence = one[0].Own.Sequence
-	one[2].Disk.Data = make([]byte, bytesOfDocument)
+	one[2].Disk.Data = make([]byte, document.BytesOfOne)
 	asked := 0
 	answer, err := Collect(planOfNames(t, false, one, other), Options{WithBytes: true}, func(one *document.Document) error { asked += len(one.Rows); return nil })
 	if err != nil {
@@ -99,6 +99,48 @@ func TestFoldersThatAreLeftOutAreNotUnasked(t *testing.T) {
 		})
 		if is := fmt.Sprint(unaskedOf(plan, plan.Devices[0])); is != told {
 			t.Errorf("%q: %s", away, is)
+		}
+	}
+}
+
+// Documents have stand-ins or bytes, and streams have rows, as it is asked for.
+func TestDocumentsAreAsAskedFor(t *testing.T) {
+	whole := func(name *part.Name) { name.Disk.Data = []byte("bytes") }
+	told := map[string]bool{}
+	for _, options := range []Options{{}, {WithBytes: true}, {AsStreams: true}} {
+		plan := planOf(t, with(whole), with(whole))
+		written := ""
+		if _, err := Collect(plan, options, func(one *document.Document) error {
+			due := filled(document.NewBuilder(plan.Folders[0], options.WithBytes, limits.MostBytes))
+			if options.AsStreams {
+				due = document.NewStream(plan.Folders[0])
+			}
+			for _, row := range one.Rows {
+				due.Add(row)
+			}
+			if written = string(one.Written); written != string(due.Take().Written) {
+				t.Errorf("%+v: %s", options, written)
+			}
+			return nil
+		}); err != nil {
+			t.Fatal(err)
+		}
+		told[written] = true
+	}
+	if len(told) != 3 {
+		t.Errorf("%d kinds of documents", len(told))
+	}
+}
+
+// What becomes of the names of a folder is foretold of those that are there.
+func TestNamesAreForetold(t *testing.T) {
+	for _, row := range []struct {
+		one, other *part.Name
+		names      int64
+	}{{with(), with(concurrent), 1}, {nil, nil, 0}} {
+		answer, err := Collect(planOf(t, row.one, row.other), Options{}, func(*document.Document) error { return nil })
+		if answer == nil || answer.Folders[0].Outlook == nil || answer.Folders[0].Outlook.Names != row.names {
+			t.Errorf("%+v, %v", answer, err)
 		}
 	}
 }

@@ -19,14 +19,14 @@ import (
 	"syncthing-audit/part"
 )
 
-// aPart gives the lines of a small part: a file, a symlink, a deletion, a local change, and a name that is left out.
+// aPart gives the lines of JSON of a small part: a file, a symlink, a deletion, a local change, and a name that is left out.
 func aPart(t testing.TB, number byte) []byte {
 	other := protocol.DeviceID{7: 3 - number}.String()
 	head := &part.Head{Version: part.FirstVersion, Device: protocol.DeviceID{7: number}.String(), Name: "laptop", Made: time.Unix(0, 0).UTC(),
 		Folders: []part.Folder{{ID: "docs", Kind: "send-receive", Directory: other, IndexID: uint64(number), Max: 9,
 			Sharing: []part.Sharing{{Device: other, Name: "server"}}, Views: []part.View{{Device: other, IndexID: uint64(3 - number), Max: 9}}}}}
-	var zipped bytes.Buffer
-	to, err := part.NewWriter(&zipped, head)
+	var text bytes.Buffer
+	to, err := part.NewLinesWriter(&text, head)
 	if err != nil {
 		t.Fatal(err)
 	}
@@ -51,22 +51,7 @@ func aPart(t testing.TB, number byte) []byte {
 			t.Fatal(err)
 		}
 	}
-	if err := to.Close(); err != nil {
-		t.Fatal(err)
-	}
-	return unzipped(t, zipped.Bytes())
-}
-
-func unzipped(t testing.TB, zipped []byte) []byte {
-	from, err := gzip.NewReader(bytes.NewReader(zipped))
-	if err != nil {
-		t.Fatal(err)
-	}
-	text, err := io.ReadAll(from)
-	if err != nil {
-		t.Fatal(err)
-	}
-	return text
+	return text.Bytes()
 }
 
 // zippers are kept: a new one takes longer than all that is done with a small part.

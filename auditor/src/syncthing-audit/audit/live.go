@@ -60,8 +60,8 @@ func nothingIsStill(moving int64, folders []*finding.Folder) error {
 	for _, folder := range folders {
 		for place, member := range folder.Members {
 			if waits := folder.SendsAfterScan(place); waits != nil {
-				told += fmt.Sprintf(". Before that, on %s: no scan of folder %s has seen %s there. A scan deletes on all devices what is missing, and sends what "+
-					"stands there to all, so first copy back what is to stay as it is recorded (%s)", member.Called(), shell.Folder(folder.ID, folder.Label),
+				told += fmt.Sprintf(". Before that, on %s: no scan of folder %s has seen %s there. A scan may delete that on all devices, or send it to them, so "+
+					"first copy back what is to stay as it is recorded (%s)", member.Called(), shell.Folder(folder.ID, folder.Label),
 					kindsOf(waits), sourcesOf(waits, folder))
 			}
 		}

@@ -1,6 +1,7 @@
 package audit
 
 import (
+	"golang.org/x/exp/slices"
 	"syncthing-audit/document"
 	"syncthing-audit/finding"
 	"syncthing-audit/join"
@@ -10,6 +11,9 @@ import (
 // addLoose adds a name that keeps its folder from being firm, if nothing else is wrong with its records. syncaudit says
 // whether the folder is settled and firm. Which names keep it from that, and how many they are, is found here.
 func (n *names) addLoose(row *join.Row) {
+	if hasOneVersion(row) {
+		return
+	}
 	winner := row.Winner(join.OfAll)
 	if winner == nil || !areAlike(row, winner) {
 		return
@@ -29,6 +33,32 @@ func (n *names) addLoose(row *join.Row) {
 	if len(loose.At) > 0 {
 		n.found.Loose.Add(loose)
 	}
+}
+
+// hasOneVersion says whether all records of a name have one version. Nothing is loose then.
+func hasOneVersion(row *join.Row) bool {
+	var version part.Version
+	isFirst := true
+	is := func(record *part.Record) bool {
+		if isFirst {
+			version, isFirst = record.Version, false
+		}
+		return slices.Equal(record.Version, version)
+	}
+	for _, name := range row.At {
+		if name == nil {
+			continue
+		}
+		if name.Own != nil && !is(name.Own) {
+			return false
+		}
+		for _, seen := range name.Views {
+			if !is(seen.Record) {
+				return false
+			}
+		}
+	}
+	return true
 }
 
 // seesNotBelow says whether a member knows of a record at another member whose version isn't at most the winner's.

@@ -12,10 +12,10 @@ import (
 // names goes through the names of one folder.
 type names struct {
 	*collector
-	folder  *join.Folder
-	found   *finding.Folder
-	builder *document.Builder
-	below   *finding.LeftOut // the directory below which all is left out, if there is one
+	folder *join.Folder
+	found  *finding.Folder
+	filled filled
+	below  *finding.LeftOut // the directory below which all is left out, if there is one
 
 	isBelowUnlisted bool // that directory isn't listed, so what is below it is counted with the others
 }
@@ -57,7 +57,7 @@ func (n *names) audit(row *join.Row) error {
 		n.addUnwon(row)
 		return nil
 	}
-	full, out := n.builder.Add(row)
+	full, out := n.filled.Add(row)
 	if out != nil {
 		n.audited--
 		n.leaveOut(row, []finding.Reason{{Member: -1, Kind: out.Kind, Why: out.Why}})

@@ -22,7 +22,7 @@ func (n *names) addOwnFaults(row *join.Row) {
 		}
 	}
 	if len(damaged.At) > 0 {
-		sort.SliceStable(damaged.At, func(one, other int) bool { return damaged.At[one].Member < damaged.At[other].Member })
+		sort.SliceStable(damaged.At, func(a, b int) bool { return damaged.At[a].Member < damaged.At[b].Member })
 		n.found.Damaged.Add(damaged)
 		n.audited++
 	}

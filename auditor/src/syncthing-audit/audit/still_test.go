@@ -24,8 +24,8 @@ func TestNothingIsStillTellsWhatNoScanHasSeen(t *testing.T) {
 	for _, at := range []*part.Name{{Own: &part.Record{Content: &part.Content{Size: 9}}, Disk: &part.Node{}}, {Own: record}} {
 		folder.Live.AddMoving(finding.Moving{At: []finding.Moved{{Member: 1, Waits: finding.KindOfWaiting(at), As: at, Have: []int{0}}}})
 	}
-	const want = "look again. Before that, on server (SERVER-): no scan of folder docs has seen 1 missing, 1 emptied there. A scan deletes on all devices what is missing, " +
-		"and sends what stands there to all, so first copy back what is to stay as it is recorded (2 on laptop (LAPTOP-))"
+	const want = "look again. Before that, on server (SERVER-): no scan of folder docs has seen 1 missing, 1 emptied there. A scan may delete that on all devices, or send it to them, " +
+		"so first copy back what is to stay as it is recorded (2 on laptop (LAPTOP-))"
 	if told := nothingIsStill(2, []*finding.Folder{folder}).Error(); !strings.HasSuffix(told, want) {
 		t.Error(told)
 	}
@@ -65,5 +65,17 @@ func TestWhatIsToldOfPartsOfOtherMoments(t *testing.T) {
 	plan := planWith(t, nil, nil, func(head *part.Head) { head.Folders[0].Max = 8 }) // each knows of the other's change 9
 	if is := liveOf(plan.Folders[0]); !reflect.DeepEqual(is, &finding.Live{OfParts: true}) {
 		t.Errorf("%+v", is)
+	}
+}
+
+// A name that changed after a device's part was made is in motion there, and nothing is told of where it is as it was.
+func TestWhatChangedAfterAPart(t *testing.T) {
+	next := namesOf()
+	next.found.Live = &finding.Live{OfParts: true}
+	row := rowOf(with(), with())
+	row.Later = []int{1}
+	next.addMoving(row)
+	if at := next.found.Live.Names[0].At; !reflect.DeepEqual(at, []finding.Moved{{Member: 1, Why: []string{part.MovedLater}}}) {
+		t.Errorf("%+v", at)
 	}
 }

@@ -32,15 +32,15 @@ func Make(ctx context.Context, by *history.History, places []Place, asked Asked)
 	if err != nil {
 		return nil, err
 	}
-	made := &Plan{places: places, history: by, room: room, Waiting: []history.Waiting{}}
-	if made.chosen, err = leveldb.OpenFile(room, nil); err == nil {
-		err = made.choose(ctx, asked)
+	plan := &Plan{places: places, history: by, room: room, Waiting: []history.Waiting{}}
+	if plan.chosen, err = leveldb.OpenFile(room, nil); err == nil {
+		err = plan.choose(ctx, asked)
 	}
 	if err != nil {
-		made.Close()
+		plan.Close()
 		return nil, err
 	}
-	return made, nil
+	return plan, nil
 }
 
 // Close lets go of a plan.

@@ -13,11 +13,11 @@ type counts struct {
 }
 
 func newCounts(places []Place) *counts {
-	made := &counts{places: places, of: make([]history.Waiting, len(places))}
+	counted := &counts{places: places, of: make([]history.Waiting, len(places))}
 	for at, place := range places {
-		made.of[at].Folder, made.of[at].Number = place.Folder, place.Device
+		counted.of[at].Folder, counted.of[at].Number = place.Folder, place.Device
 	}
-	return made
+	return counted
 }
 
 // wait counts a name that isn't asked for now.
@@ -40,11 +40,11 @@ func (c *counts) wait(name *name) {
 
 // told gives the places where something waits.
 func (c *counts) told() []history.Waiting {
-	made := []history.Waiting{}
+	left := []history.Waiting{}
 	for _, waiting := range c.of {
 		if waiting.Files > 0 {
-			made = append(made, waiting)
+			left = append(left, waiting)
 		}
 	}
-	return made
+	return left
 }

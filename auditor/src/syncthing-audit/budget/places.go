@@ -53,15 +53,15 @@ func (p *Place) eachFile(ctx context.Context, by *history.History, take func(fil
 		if !HasBytes(entry) || !p.Names.Has(p.Folder, entry.Name) {
 			return nil
 		}
-		made := file{name: entry.Name, bytes: entry.Record.Content.Size, sequence: entry.Record.Sequence}
+		next := file{name: entry.Name, bytes: entry.Record.Content.Size, sequence: entry.Record.Sequence}
 		asked, is, err := before.Of(entry.Name)
 		if err != nil {
 			return err
 		}
-		if is && asked.Sequence == made.sequence {
-			made.at = asked.At
+		if is && asked.Sequence == next.sequence {
+			next.at = asked.At
 		}
-		return take(made)
+		return take(next)
 	})
 }
 
@@ -113,18 +113,18 @@ func (p *Plan) mergeFolder(ctx context.Context, places []int, take func(*name) e
 	defer cancel()
 	sources := []*source{}
 	for _, at := range places {
-		made := &source{files: make(chan file, 256), err: make(chan error, 1), at: at}
-		sources = append(sources, made)
+		from := &source{files: make(chan file, 256), err: make(chan error, 1), at: at}
+		sources = append(sources, from)
 		go func(place Place) {
-			made.err <- place.eachFile(ctx, p.history, func(file file) error {
+			from.err <- place.eachFile(ctx, p.history, func(file file) error {
 				select {
-				case made.files <- file:
+				case from.files <- file:
 					return nil
 				case <-ctx.Done():
 					return ctx.Err()
 				}
 			})
-			close(made.files)
+			close(from.files)
 		}(p.places[at])
 	}
 	err := merge(sources, take)
@@ -147,12 +147,12 @@ func merge(sources []*source, take func(*name) error) error {
 		}
 	}
 	for {
-		made, err := nextName(sources)
+		least, err := nextName(sources)
 		if err == errNoMore {
 			return nil
 		}
 		if err == nil {
-			err = take(made)
+			err = take(least)
 		}
 		if err != nil {
 			return err
@@ -172,19 +172,19 @@ func nextName(sources []*source) (*name, error) {
 	if least == nil {
 		return nil, errNoMore
 	}
-	made := &name{name: *least}
+	first := &name{name: *least}
 	for _, source := range sources {
 		if source.isEnd || source.next.name != *least {
 			continue
 		}
-		if len(made.files) == 0 || source.next.at < made.at {
-			made.at = source.next.at
+		if len(first.files) == 0 || source.next.at < first.at {
+			first.at = source.next.at
 		}
-		made.bytes += source.next.bytes
-		made.files = append(made.files, placed{source.next, source.at})
+		first.bytes += source.next.bytes
+		first.files = append(first.files, placed{source.next, source.at})
 		if err := source.advance(); err != nil {
 			return nil, err
 		}
 	}
-	return made, nil
+	return first, nil
 }

@@ -18,13 +18,13 @@ const (
 // sequenceIn gives the greatest sequence of a device's own entries, as counts have it; 0 where they don't.
 func sequenceIn(counts []byte) (int64, error) {
 	own, found := int64(0), false
-	err := message.Each(counts, func(one message.Field) error {
-		if one.Number != fieldOfCounts || found {
+	err := message.Each(counts, func(known message.Field) error {
+		if known.Number != fieldOfCounts || found {
 			return nil
 		}
 		var sequence, flags uint64
 		of := ""
-		err := message.Each(one.Text, func(field message.Field) error {
+		err := message.Each(known.Text, func(field message.Field) error {
 			switch field.Number {
 			case fieldOfSequence:
 				sequence = field.Value

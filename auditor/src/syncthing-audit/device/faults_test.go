@@ -125,16 +125,7 @@ func TestWhoseHomeItIs(t *testing.T) {
 // Patterns of a folder that can't be read are an error with the folder's id, and those that can are those of its directory.
 func TestPatternsOfAFolder(t *testing.T) {
 	dir, docs := aHome(t)
-	home, err := Open(dir, "")
-	if err != nil {
-		t.Fatal(err)
-	}
-	defer home.Close()
-	index, err := home.Index(home.Config.Folders[0])
-	if err != nil {
-		t.Fatal(err)
-	}
-	defer index.Close()
+	index := firstIndex(t, dir)
 	if patterns, err := index.Patterns(); err != nil || patterns.Match("a.log").IsIgnored() {
 		t.Errorf("without a file of patterns: %v", err)
 	}
@@ -149,9 +140,9 @@ func TestPatternsOfAFolder(t *testing.T) {
 	if disk, err := index.Disk().Lstat(".stfolder"); err != nil || !disk.IsDir() {
 		t.Errorf("%v, %v", disk, err)
 	}
-	gone := home.Config.Folders[0]
+	gone := index.home.Config.Folders[0]
 	gone.Path = filepath.Join(docs, "none")
-	if index, err := home.Index(gone); err == nil || index != nil {
+	if index, err := index.home.Index(gone); err == nil || index != nil {
 		t.Error("a folder without a directory has an index")
 	}
 }
@@ -240,16 +231,7 @@ func TestAnIndexWithoutAListOfBlocks(t *testing.T) {
 	if count == 0 {
 		t.Fatal("it has no lists of blocks")
 	}
-	home, err := Open(dir, "")
-	if err != nil {
-		t.Fatal(err)
-	}
-	defer home.Close()
-	index, err := home.Index(home.Config.Folders[0])
-	if err != nil {
-		t.Fatal(err)
-	}
-	defer index.Close()
+	index := firstIndex(t, dir)
 	for what, read := range map[string]func(take func(Entry) bool) error{
 		"own": func(take func(Entry) bool) error { return index.Own(choice.Names{}, take) },
 		"view": func(take func(Entry) bool) error {

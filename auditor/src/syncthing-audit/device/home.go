@@ -68,6 +68,7 @@ type Home struct {
 	isLive  bool
 	backend backend.Backend
 	index   *db.Lowlevel
+	times   bool // whether the index has times of files that their disks can't keep
 }
 
 // Open reads a home on which no Syncthing runs and opens a copy of its index, which is in another directory where one is named. Nothing of the home is changed.
@@ -315,7 +316,7 @@ const never = time.Duration(math.MaxInt64)
 // openCopy opens the copy of the index.
 func (h *Home) openCopy() error {
 	var err error
-	if h.backend, err = backend.Open(h.copied, backend.TuningAuto); err != nil {
+	if h.backend, err = backend.Open(h.copied, tuningFor(h.copied)); err != nil {
 		return notOpened(err)
 	}
 	if err := checkSchema(h.backend); err != nil {
@@ -327,7 +328,18 @@ func (h *Home) openCopy() error {
 	if h.index, err = db.NewLowlevel(h.backend, events.NoopLogger, db.WithRecheckInterval(never)); err != nil {
 		return notOpened(err)
 	}
-	return nil
+	h.times, err = hasTimes(h.backend)
+	return err
+}
+
+// hasTimes says whether an index has times of files that their disks can't keep. Mostly it has none, and none is looked up then.
+func hasTimes(index backend.Backend) (bool, error) {
+	times, err := index.NewPrefixIterator([]byte{db.KeyTypeVirtualMtime})
+	if err != nil {
+		return false, err
+	}
+	defer times.Release()
+	return times.Next(), times.Error()
 }
 
 // Close removes the copy.

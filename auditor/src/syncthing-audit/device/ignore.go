@@ -20,11 +20,11 @@ const nameOfPatterns = ".stignore"
 
 // Patterns gives the folder's patterns of names to ignore.
 func (i *Index) Patterns() (*ignore.Matcher, error) {
-	made, err := patternsIn(adapt.Filesystem(i.Config.Filesystem, nil))
+	matcher, err := patternsIn(adapt.Filesystem(i.Config.Filesystem, nil))
 	if err != nil {
 		return nil, fmt.Errorf("folder %s: %w", i.Config.ID, err)
 	}
-	return made, nil
+	return matcher, nil
 }
 
 // patternsIn gives the patterns of a folder's directory. Without a file of patterns nothing is ignored. A file that is there

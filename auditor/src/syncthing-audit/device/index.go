@@ -114,7 +114,12 @@ func recovered(folder string, err *error) {
 func (i *Index) Close() { i.snapshot.Release() }
 
 // Disk gives the folder's files, with their times as Syncthing sees them.
-func (i *Index) Disk() fs.Filesystem { return adapt.Filesystem(i.Config.Filesystem, i.files) }
+func (i *Index) Disk() fs.Filesystem {
+	if !i.home.times {
+		return adapt.NewBeneath(adapt.Filesystem(i.Config.Filesystem, nil))
+	}
+	return adapt.Filesystem(i.Config.Filesystem, i.files)
+}
 
 // Max gives the greatest sequence of the device's own index.
 func (i *Index) Max() int64 { return i.snapshot.Sequence(protocol.LocalDeviceID) }
@@ -135,14 +140,14 @@ func (i *Index) Bytes(names choice.Names) (int64, error) {
 		size := i.snapshot.LocalSize()
 		return size.Bytes - protocol.SyntheticDirectorySize*(int64(size.Directories)+int64(size.Symlinks)), nil
 	}
-	made := int64(0)
+	sum := int64(0)
 	err := i.Own(names, func(entry Entry) bool {
 		if record := entry.Record; record != nil && !record.Deleted && record.Content != nil {
-			made = part.Sum(made, record.Content.Size)
+			sum = part.Sum(sum, record.Content.Size)
 		}
 		return true
 	})
-	return made, err
+	return sum, err
 }
 
 // names gives how many names the device's own index has, by its counts.

@@ -42,8 +42,7 @@ type liveCopy struct {
 // Accept says why a copy isn't one to be taken: with errAgain another one is made.
 func copyLive(from, to string, accept func(copied string) error) (Copied, error) {
 	copied := &liveCopy{from: from, to: to, tables: map[int64]bool{}}
-	pause := firstPause
-	for {
+	for pause := firstPause; ; pause = longer(pause) {
 		copied.copied.Rounds++
 		err := copied.round()
 		if err == nil {
@@ -53,10 +52,15 @@ func copyLive(from, to string, accept func(copied string) error) (Copied, error)
 			return copied.copied, err
 		}
 		time.Sleep(pause)
-		if pause *= 2; pause > mostPause {
-			pause = mostPause
-		}
 	}
+}
+
+// longer gives the pause behind a pause.
+func longer(pause time.Duration) time.Duration {
+	if pause *= 2; pause < mostPause {
+		return pause
+	}
+	return mostPause
 }
 
 // again has a round begun anew where a file is gone, or was read while it was written.

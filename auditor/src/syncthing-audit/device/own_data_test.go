@@ -8,6 +8,8 @@ import (
 
 	"github.com/syncthing/syncthing/lib/config"
 	"github.com/syncthing/syncthing/lib/db/backend"
+	"golang.org/x/exp/slices"
+	"syncthing-audit/shell"
 )
 
 // Syncthing's own data in a folder are told, but for what .stignore ignores, and but for those elsewhere.
@@ -60,6 +62,11 @@ func TestTheProgramThatRuns(t *testing.T) {
 	}
 	if program := (&Home{Dir: dir}).program(); program != "" {
 		t.Errorf("of a stopped device: %q", program)
+	}
+	home := &Home{Dir: dir, isLive: true}
+	home.Config.Folders = []config.FolderConfiguration{folderIn(t, "docs", filepath.Dir(own))}
+	if told := home.writersOf("docs"); !slices.Contains(told, "Syncthing's own "+shell.Quoted(filepath.Base(own))) { // the home may be there, too
+		t.Errorf("%q", told)
 	}
 	index.Close()
 	if program := (&Home{Dir: dir, isLive: true}).program(); program != "" {

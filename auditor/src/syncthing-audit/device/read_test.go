@@ -45,7 +45,7 @@ func toldEntries(t *testing.T, read func(take func(Entry) bool) error, most int)
 	err := read(func(entry Entry) bool {
 		why := ""
 		if entry.Out != nil {
-			why = " " + entry.Out.Kind
+			why = " " + entry.Out.Kind + " (" + entry.Out.Why + ")"
 		}
 		told = append(told, entry.Name+why)
 		return len(told) < most
@@ -63,6 +63,7 @@ func TestEntriesOfAnIndex(t *testing.T) {
 		return hello(func(one *protocol.FileInfo) { one.Name, one.Sequence = name, sequence })
 	}
 	own := []protocol.FileInfo{file("b", 0), file("a", 0), file("c", 0)}
+	own[2].Type, own[2].Size, own[2].RawBlockSize, own[2].Blocks = protocol.FileInfoTypeDirectory, 0, 0, nil
 	others := []protocol.FileInfo{file("b", 5), file("a", 3), file("z", 4)}
 	for _, isLive := range []bool{false, true} {
 		index := indexInMemory(t, isLive, own, others)
@@ -73,7 +74,7 @@ func TestEntriesOfAnIndex(t *testing.T) {
 			greatest      int64
 			own, expected string
 		}{
-			{choice.Names{}, 9, 5, "[a b c]", "[a b z]"}, {choice.Names{}, 9, 4, "[a b c]", "[a b " + kind + " z]"}, {choice.Names{Prefix: "b"}, 9, 5, "[b]", "[b]"},
+			{choice.Names{}, 9, 5, "[a b c]", "[a b z]"}, {choice.Names{}, 9, 4, "[a b c]", "[a b " + kind + " (its sequence 5 isn't 1 to 4) z]"}, {choice.Names{Prefix: "b"}, 9, 5, "[b]", "[b]"},
 			{choice.Names{Prefix: "x"}, 9, 5, "[]", "[]"}, {choice.Names{}, 1, 5, "[a]", "[a]"},
 		} {
 			told := toldEntries(t, func(take func(Entry) bool) error { return index.Own(row.names, take) }, row.most)

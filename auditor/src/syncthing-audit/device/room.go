@@ -5,7 +5,9 @@ import (
 	"fmt"
 	"os"
 	"path/filepath"
+	"strconv"
 
+	"github.com/syncthing/syncthing/lib/db/backend"
 	"golang.org/x/sys/unix"
 	"syncthing-audit/leftover"
 )
@@ -51,6 +53,17 @@ func bytesFor(database string) (int64, error) {
 		}
 	}
 	return sum, nil
+}
+
+// mostOfSmall is how many bytes an index has at most that Syncthing opens as a small one.
+const mostOfSmall = 200 << 20
+
+// tuningFor says how Syncthing opens an index of this size. Its own look at that (TuningAuto) leaves the directory open.
+func tuningFor(database string) backend.Tuning {
+	if bytes, err := bytesFor(database); err == nil && bytes > mostOfSmall && strconv.IntSize == 64 {
+		return backend.TuningLarge
+	}
+	return backend.TuningSmall
 }
 
 // unknown is what counts as free where a file system doesn't say it.

@@ -17,6 +17,7 @@ import (
 	"github.com/syndtr/goleveldb/leveldb/opt"
 	"github.com/syndtr/goleveldb/leveldb/util"
 	"google.golang.org/protobuf/encoding/protowire"
+	"syncthing-audit/fixture"
 )
 
 // What a manifest says is what LevelDB itself says, whatever was written, taken away and compacted: each table with its bytes, and a log that is there.
@@ -169,14 +170,7 @@ func TestCopiesOfFiles(t *testing.T) {
 		t.Fatal(err)
 	}
 	open := func() int { // files of this test
-		count := 0
-		links, _ := filepath.Glob("/proc/self/fd/*")
-		for _, one := range links {
-			if path, err := os.Readlink(one); err == nil && (strings.HasPrefix(path, from) || strings.HasPrefix(path, to)) {
-				count++
-			}
-		}
-		return count
+		return fixture.CountOpened(t, func(path string) bool { return strings.HasPrefix(path, from) || strings.HasPrefix(path, to) })
 	}
 	if err := copyFiles(from, to); err != nil {
 		t.Fatal(err)

@@ -7,6 +7,7 @@ import (
 	"path/filepath"
 	"strings"
 	"testing"
+	"time"
 
 	"github.com/syncthing/syncthing/lib/db"
 	"github.com/syndtr/goleveldb/leveldb"
@@ -35,6 +36,27 @@ func TestHowOftenACopyIsBegun(t *testing.T) {
 	if said, err := copyLive(from, filepath.Join(from, "nowhere"), checkLive); err == nil || said.Rounds != 1 {
 		t.Errorf("%d rounds to nowhere: %v", said.Rounds, err)
 	}
+}
+
+// Each pause is twice as long as the one before, up to the longest.
+func TestPausesOfACopy(t *testing.T) {
+	pause, sum := firstPause, time.Duration(0)
+	for round := 1; round < mostRounds; round++ {
+		if due := time.Duration(1<<min64(round-1, 20)) * time.Millisecond; pause != due && (pause != mostPause || due < mostPause) {
+			t.Errorf("%v behind round %d", pause, round)
+		}
+		sum, pause = sum+pause, longer(pause)
+	}
+	if sum < 30*time.Second || sum > time.Minute {
+		t.Errorf("%v in all", sum)
+	}
+}
+
+func min64(one, other int) int {
+	if one < other {
+		return one
+	}
+	return other
 }
 
 // An old index has its tables under another ending: it is whole all the same, and a copy has them once.

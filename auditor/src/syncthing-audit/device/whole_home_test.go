@@ -17,6 +17,22 @@ import (
 	"syncthing-audit/part"
 )
 
+// firstIndex opens a home and the index of its first folder, until the test ends.
+func firstIndex(t *testing.T, dir string) *Index {
+	t.Helper()
+	home, err := Open(dir, "")
+	if err != nil {
+		t.Fatal(err)
+	}
+	t.Cleanup(home.Close)
+	index, err := home.Index(home.Config.Folders[0])
+	if err != nil {
+		t.Fatal(err)
+	}
+	t.Cleanup(index.Close)
+	return index
+}
+
 // aHome makes a home with an index, whose folder docs has some entries, and gives it with the directory of that folder.
 func aHome(t *testing.T) (dir, docs string) {
 	room := t.TempDir()
@@ -184,5 +200,68 @@ func TestWordsOfAConfiguration(t *testing.T) {
 		if made := timeWindowOf(config.FolderConfiguration{RawModTimeWindowS: window}); made != seconds {
 			t.Errorf("%d is %d", window, made)
 		}
+	}
+}
+
+// A mark beside an index is seen as the home is opened, and what Syncthing's packages panic with is an error.
+func TestAHomeWithAMarkAndAnIndexThatPanics(t *testing.T) {
+	dir, _ := aHome(t)
+	if err := os.WriteFile(filepath.Join(dir, databaseName)+endingOfMark, nil, 0o600); err != nil {
+		t.Fatal(err)
+	}
+	for _, open := range []func(dir, data string, maps ...Map) (*Home, error){Open, OpenLive} {
+		home, err := open(dir, "")
+		if err != nil || !home.ToRepair {
+			t.Fatal(home, err)
+		}
+		opened := home.index
+		home.index = nil
+		if index, err := home.Index(home.Config.Folders[0]); index != nil || err == nil || !strings.HasPrefix(err.Error(), "folder docs: its index can't be read: ") {
+			t.Errorf("%v, %v", index, err)
+		}
+		home.index = opened
+		home.Close()
+	}
+}
+
+// Where an index's directory can't be listed, its logs aren't known.
+func TestLogsThatCannotBeListed(t *testing.T) {
+	if numbers, err := (&liveCopy{from: filepath.Join(t.TempDir(), "none")}).logNumbers(1); !errors.Is(err, os.ErrNotExist) || numbers != nil {
+		t.Errorf("%v, %v", numbers, err)
+	}
+}
+
+// What is ignored has no bytes that count.
+func TestBytesOfWhatIsIgnored(t *testing.T) {
+	dir, _ := aHome(t)
+	set, opened, err := openSet(filepath.Join(dir, databaseName))
+	if err != nil {
+		t.Fatal(err)
+	}
+	ignored := entryOfSequence(3)
+	ignored.LocalFlags = protocol.FlagLocalIgnored
+	set.Update(protocol.LocalDeviceID, []protocol.FileInfo{ignored})
+	opened.Close()
+	index := firstIndex(t, dir)
+	if bytes, err := index.Bytes(choice.Names{Prefix: ignored.Name}); bytes != 0 || err != nil {
+		t.Errorf("%d bytes, %v", bytes, err)
+	}
+}
+
+// Of what a round has copied, tables stay that are wanted still; what is taken away is copied again.
+func TestWhatARoundLeaves(t *testing.T) {
+	room := t.TempDir()
+	for _, name := range []string{"000005.ldb", "000006.sst", "000007.ldb", "000008.log", "CURRENT"} {
+		if err := os.WriteFile(filepath.Join(room, name), nil, 0o600); err != nil {
+			t.Fatal(err)
+		}
+	}
+	copied := &liveCopy{to: room, tables: map[int64]bool{5: true, 6: true, 8: true}}
+	if err := copied.clear(&manifest{tables: map[int64]int64{6: 0, 7: 0, 8: 0}}); err != nil {
+		t.Fatal(err)
+	}
+	left, err := os.ReadDir(room)
+	if err != nil || len(left) != 1 || left[0].Name() != "000006.sst" || !reflect.DeepEqual(copied.tables, map[int64]bool{6: true}) {
+		t.Errorf("%v, %v, %v", left, copied.tables, err)
 	}
 }

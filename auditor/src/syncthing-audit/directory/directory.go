@@ -24,4 +24,5 @@ type Info interface {
 	Size() int64
 	ModTime() time.Time // as Syncthing sees it, where its index is read
 	Permissions() uint32
+	About() os.FileInfo // what the system said of it at the same look
 }

@@ -54,6 +54,7 @@ func (p plainInfo) IsRegular() bool    { return p.about.Mode().IsRegular() }
 func (p plainInfo) IsSymlink() bool    { return p.about.Mode()&os.ModeSymlink != 0 }
 func (p plainInfo) Size() int64        { return p.about.Size() }
 func (p plainInfo) ModTime() time.Time { return p.about.ModTime() }
+func (p plainInfo) About() os.FileInfo { return p.about }
 
 // Permissions gives the permissions as Syncthing records them; 0 where the system has none such.
 func (p plainInfo) Permissions() uint32 {

@@ -54,7 +54,7 @@ func (f *faulty) ReadSymlink(name string) (string, error) {
 	return f.Filesystem.ReadSymlink(name)
 }
 
-// Info is what a walk takes a stamp from.
+// Info is what the stamp of a temporary file is taken from.
 func (f *faulty) Info(name string) (os.FileInfo, error) {
 	if err := f.fails("info", name); err != nil {
 		return nil, err
@@ -77,12 +77,12 @@ func walked(disk fs.Filesystem) (map[string]Found, []string, error) {
 // aTree is a directory with what a walk may meet.
 func aTree(t *testing.T) fs.Filesystem {
 	room := t.TempDir()
-	for _, directory := range []string{"a/b", "a.d", "c"} {
+	for _, directory := range []string{"a/b", "a.d", "c/d"} {
 		if err := os.MkdirAll(filepath.Join(room, directory), 0o755); err != nil {
 			t.Fatal(err)
 		}
 	}
-	for _, file := range []string{"a/b/x", "a/y", "a.d/x", "z"} {
+	for _, file := range []string{"a/b/x", "a/y", "a.d/x", "c/d/x", "z"} {
 		if err := os.WriteFile(filepath.Join(room, file), []byte(file), 0o600); err != nil {
 			t.Fatal(err)
 		}
@@ -97,11 +97,11 @@ func aTree(t *testing.T) fs.Filesystem {
 func TestEachCallOfAWalkThatFails(t *testing.T) {
 	disk := aTree(t)
 	whole, order, err := walked(disk)
-	if err != nil || len(order) != 9 {
+	if err != nil || len(order) != 11 {
 		t.Fatal(order, err)
 	}
 	failed := 0
-	for _, call := range []string{"list", "stat", "readlink", "info"} {
+	for _, call := range []string{"list", "stat", "readlink"} {
 		for _, name := range append([]string{"."}, order...) {
 			for kind, cause := range map[string]error{part.Unreadable: syscall.EACCES, part.Damaged: syscall.EIO} {
 				on := &faulty{Filesystem: disk, call: call, name: name, err: cause}
@@ -134,13 +134,9 @@ func checkFault(t *testing.T, on *faulty, kind string, found, whole map[string]F
 		at, isThere := found[name]
 		isBelow := strings.HasPrefix(name, on.name+"/")
 		switch {
-		case isBelow && on.call != "info":
+		case isBelow:
 			if isThere {
 				t.Errorf("%s of %s: what is below was read", on.call, on.name)
-			}
-		case name == on.name && on.call == "info" && kind == part.Unreadable:
-			if isFile := at.Node != nil && at.Node.Type == int(protocol.FileInfoTypeFile); !isFile || at.Stamp != "" || at.Out != nil {
-				t.Errorf("a file of which no stamp is known: %+v", at)
 			}
 		case name == on.name && on.call != "list":
 			if at.Node != nil || at.Out == nil || at.Out.Kind != kind || at.Out.Below {
@@ -212,7 +208,7 @@ func TestAFileThatCannotBeHashed(t *testing.T) {
 	memory := fileAt(t, "/proc/self/mem") // its first bytes can't be read
 	memory.Node.Size = 5
 	unseen := fileAt(t, path)
-	unseen.Disk = adapt.Directory(&faulty{Filesystem: fs.NewFilesystem(fs.FilesystemTypeBasic, filepath.Dir(path)), call: "info", name: "file", err: syscall.EIO})
+	unseen.Disk = adapt.Directory(&faulty{Filesystem: fs.NewFilesystem(fs.FilesystemTypeBasic, filepath.Dir(path)), call: "stat", name: "file", err: syscall.EIO})
 	symlink := filepath.Join(room, "files/link")
 	if err := os.Symlink(path, symlink); err != nil {
 		t.Fatal(err)

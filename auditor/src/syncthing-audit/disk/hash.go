@@ -280,14 +280,11 @@ func (j *Job) Wait() ([]part.Content, *part.Differ, []byte, error) {
 // check says whether the file that was found is at its path still, with its size and time.
 func (j *Job) check() error {
 	after, err := j.file.Disk.Lstat(j.file.Name)
-	about, failed := j.file.Disk.About(j.file.Name)
-	for _, fault := range []error{err, failed} {
-		if IsDamage(fault) {
-			return unread(fault)
-		}
+	if IsDamage(err) {
+		return unread(err)
 	}
-	if err != nil || failed != nil || !after.IsRegular() || after.Size() != j.file.Node.Size ||
-		after.ModTime().Unix() != j.file.Node.ModifiedS || after.ModTime().Nanosecond() != j.file.Node.ModifiedNs || stampOf(about) != j.file.Stamp {
+	if err != nil || !after.IsRegular() || after.Size() != j.file.Node.Size ||
+		after.ModTime().Unix() != j.file.Node.ModifiedS || after.ModTime().Nanosecond() != j.file.Node.ModifiedNs || stampOf(after.About()) != j.file.Stamp {
 		return ErrChanged
 	}
 	return nil

@@ -43,3 +43,18 @@ func TestLinksThatLeadOutOfAFolder(t *testing.T) {
 		t.Errorf("%+v lead out of the folder, and not 3 names", made)
 	}
 }
+
+// A directory has as many links as directories stand in it, and two more. No other name leads there.
+func TestDirectoriesAreNotLinked(t *testing.T) {
+	room, met := t.TempDir(), links{}
+	if err := os.Mkdir(filepath.Join(room, "below"), 0o700); err != nil {
+		t.Fatal(err)
+	}
+	about, err := os.Lstat(room)
+	if err != nil {
+		t.Fatal(err)
+	}
+	if met.add(about); met.elsewhere() != (part.Count{}) {
+		t.Errorf("%+v", met.elsewhere())
+	}
+}

@@ -12,6 +12,7 @@ import (
 	"github.com/syncthing/syncthing/lib/fs"
 	"github.com/syncthing/syncthing/lib/protocol"
 	"syncthing-audit/adapt"
+	"syncthing-audit/fixture"
 )
 
 // twoRooms makes a folder with a directory, and a copy of it with other bytes at the end of its file. Sizes and times are the
@@ -90,21 +91,6 @@ func TestADirectoryThatIsRenamedBetweenPieces(t *testing.T) {
 	if _, _, _, err := job.Wait(); !errors.Is(err, ErrChanged) {
 		t.Errorf("the copy's last piece was hashed: %v", err)
 	}
-}
-
-// openedIn counts this process's open files in a directory.
-func openedIn(t *testing.T, room string) int {
-	links, err := filepath.Glob("/proc/self/fd/*")
-	if err != nil || len(links) == 0 {
-		t.Skip("no /proc tells what is open")
-	}
-	count := 0
-	for _, one := range links {
-		if path, err := os.Readlink(one); err == nil && filepath.Dir(filepath.Dir(path)) == room {
-			count++
-		}
-	}
-	return count
 }
 
 // placesThatAreTaken are what may stand at the path of a file by the time it is hashed.
@@ -189,4 +175,9 @@ func TestAFileWithALease(t *testing.T) {
 	if _, _, _, err := pool.Begin(file).Wait(); err != nil {
 		t.Error(err)
 	}
+}
+
+// openedIn counts this process's open files in a directory.
+func openedIn(t *testing.T, room string) int {
+	return fixture.CountOpened(t, func(path string) bool { return filepath.Dir(filepath.Dir(path)) == room })
 }

@@ -1,8 +1,8 @@
 package disk
 
 import (
-	"fmt"
 	"os"
+	"strconv"
 	"time"
 )
 
@@ -17,7 +17,13 @@ func Stamp(path string) string {
 	return stampOf(about)
 }
 
-func stampOfTime(at time.Time) string { return fmt.Sprintf("%d.%09d", at.Unix(), at.Nanosecond()) }
+// appendTime appends a time: seconds, and nine digits of nanoseconds.
+func appendTime(to []byte, at time.Time) []byte {
+	to = append(strconv.AppendInt(to, at.Unix(), 10), '.')
+	nanoseconds := len(to)
+	to = strconv.AppendInt(to, int64(at.Nanosecond())+1e9, 10) // a one, and nine digits
+	return append(to[:nanoseconds], to[nanoseconds+1:]...)
+}
 
 // stampOf gives the stamp of what was found, by its path or by a descriptor.
 func stampOf(about os.FileInfo) string {
@@ -25,8 +31,13 @@ func stampOf(about os.FileInfo) string {
 	if !is {
 		return ""
 	}
-	if about.IsDir() {
-		return fmt.Sprintf("%d %d", file.device, file.number)
+	stamp := make([]byte, 0, 96)
+	stamp = append(strconv.AppendUint(stamp, file.device, 10), ' ')
+	stamp = strconv.AppendUint(stamp, file.number, 10)
+	if !about.IsDir() {
+		stamp = appendTime(append(stamp, ' '), changed)
+		stamp = appendTime(append(stamp, ' '), about.ModTime())
+		stamp = strconv.AppendInt(append(stamp, ' '), about.Size(), 10)
 	}
-	return fmt.Sprintf("%d %d %s %s %d", file.device, file.number, stampOfTime(changed), stampOfTime(about.ModTime()), about.Size())
+	return string(stamp)
 }

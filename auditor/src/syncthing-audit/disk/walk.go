@@ -3,6 +3,7 @@ package disk
 
 import (
 	"fmt"
+	"os"
 	"path"
 	"sort"
 	"time"
@@ -147,11 +148,7 @@ func (w *Walker) found(name string, info directory.Info) Found {
 		return out(part.Special, "it is no file, directory or symlink")
 	}
 	if w.Stamps || info.IsRegular() {
-		stamp, err := w.stamp(name)
-		if IsDamage(err) {
-			return Found{Name: name, Out: outOf("it", err)}
-		}
-		found.Stamp = stamp
+		found.Stamp = w.stamp(info.About())
 	}
 	if w.Stamps {
 		node.Stamp = found.Stamp
@@ -172,17 +169,13 @@ func (w *Walker) StampOf(name string) string {
 	return stampOf(about)
 }
 
-// stamp gives the stamp of a name, and counts the links that its file has.
-func (w *Walker) stamp(name string) (string, error) {
-	about, err := w.Disk.About(name)
-	if err != nil {
-		return "", err
-	}
+// stamp gives the stamp of what was found, and counts the links that its file has.
+func (w *Walker) stamp(about os.FileInfo) string {
 	if w.links == nil {
 		w.links = links{}
 	}
 	w.links.add(about)
-	return stampOf(about), nil
+	return stampOf(about)
 }
 
 // Linked counts the names of files that have links elsewhere, outside the names that were walked.

@@ -81,13 +81,16 @@ func withHome(path string) string {
 	return filepath.Join(home, path[1:])
 }
 
-// timeToBeIdle is how long Syncthing is given to be idle.
-const timeToBeIdle = 20 * time.Second
+// timeToBeIdle is how long Syncthing is given to be idle. It is asked so often meanwhile.
+var (
+	timeToBeIdle = 20 * time.Second
+	askedEach    = time.Second
+)
 
 // rest says how Syncthing is seen with a folder: idle, as soon as it is. All names were looked at once by now, so what a scan found before is in the index
 // that the observer's second look is told.
 func (c *configuration) rest(folder string) *part.Rest {
-	for end := time.Now().Add(timeToBeIdle); ; time.Sleep(time.Second) {
+	for end := time.Now().Add(timeToBeIdle); ; time.Sleep(askedEach) {
 		state, err := c.state(folder)
 		switch {
 		case err != nil:

@@ -19,7 +19,7 @@ const (
 	bytesOfView     = 256 // a view without names, and a link
 )
 
-// Document is a check document without its certificate.
+// Document is a check document without its certificate, or a stream of rows.
 type Document struct {
 	Folder      string
 	Own         string // the device whose own the folder is, as join.Folder has it
@@ -27,6 +27,8 @@ type Document struct {
 	First, Last string
 	Rows        []*join.Row // in the order of names
 	Written     []byte
+	Unknown     int          // of a stream: names of it that nothing holds, and that a document doesn't count
+	of          *join.Folder // of a stream: the folder
 }
 
 // About says what the document is about.
@@ -181,8 +183,11 @@ func (b *Builder) takeSequences(row *join.Row) *part.LeftOut {
 }
 
 // Take gives the document as it is, and begins another.
-func (b *Builder) Take() *Document {
-	document := &Document{Folder: b.folder.ID, Own: b.folder.Own, Rows: b.rows, Written: b.write()}
+func (b *Builder) Take() *Document { return b.document(b.write()) }
+
+// document gives what is written of all names since the last one, and begins another.
+func (b *Builder) document(written []byte) *Document {
+	document := &Document{Folder: b.folder.ID, Own: b.folder.Own, Rows: b.rows, Written: written}
 	if len(b.rows) > 0 {
 		document.First, document.Last = b.rows[0].Name, b.rows[len(b.rows)-1].Name
 	}

@@ -25,6 +25,9 @@ func (w *writer) begin(name string) { w.name = quoted(name) }
 
 // quoted gives a text as JSON.
 func quoted(text string) string {
+	if isPlain(text) {
+		return `"` + text + `"`
+	}
 	var written strings.Builder
 	encoder := json.NewEncoder(&written)
 	encoder.SetEscapeHTML(false)
@@ -34,10 +37,21 @@ func quoted(text string) string {
 	return strings.TrimSuffix(written.String(), "\n")
 }
 
+// isPlain says whether a text stands in JSON as it is.
+func isPlain(text string) bool {
+	for place := 0; place < len(text); place++ {
+		if letter := text[place]; letter < 0x20 || letter > 0x7e || letter == '"' || letter == '\\' {
+			return false
+		}
+	}
+	return true
+}
+
 // standInOf gives the stand-in of a content.
 func (w *writer) standInOf(content *part.Content) *standIn {
-	if w.standIn.text == "" || *content != w.last {
-		w.last, w.standIn = *content, newStandIn(content)
+	if len(w.standIn.text) == 0 || *content != w.last {
+		w.last = *content
+		w.standIn.take(content)
 	}
 	return &w.standIn
 }
@@ -49,7 +63,9 @@ func (w *writer) number(member string, value int64, isNeeded bool) {
 	if value == 0 && !isNeeded {
 		return
 	}
-	w.text(`,"` + member + `":`)
+	w.text(`,"`)
+	w.text(member)
+	w.text(`":`)
 	w.written = strconv.AppendInt(w.written, value, 10)
 }
 
@@ -67,9 +83,18 @@ func (w *writer) take() []byte {
 	return text
 }
 
-// record gives an entry of an index. A file's block size is the one of the length that the document has.
+// record gives an entry of an index.
 func (w *writer) record(record *part.Record) []byte {
-	w.text(`{"name":` + w.name)
+	w.addUntilSequence(record)
+	w.written = strconv.AppendInt(w.written, record.Sequence, 10)
+	w.addBehindSequence(record)
+	return w.take()
+}
+
+// addUntilSequence writes a record until its sequence.
+func (w *writer) addUntilSequence(record *part.Record) {
+	w.text(`{"name":`)
+	w.text(w.name)
 	w.number("type", int64(record.Type), true)
 	w.number("modified_s", record.ModifiedS, true)
 	w.number("modified_ns", int64(record.ModifiedNs), false)
@@ -78,20 +103,29 @@ func (w *writer) record(record *part.Record) []byte {
 	w.flag("deleted", record.Deleted)
 	w.flag("invalid", record.Invalid)
 	w.version(record.Version)
-	w.number("sequence", record.Sequence, true)
+	w.text(`,"sequence":`)
+}
+
+// addBehindSequence writes what stands behind a record's sequence. A file's block size is the one of the length that the document has.
+func (w *writer) addBehindSequence(record *part.Record) {
 	switch {
 	case record.Content == nil:
 	case w.withBytes:
 		w.file(record.Content.Size, record.Blocks)
 	default:
 		stands := w.standInOf(record.Content)
-		w.file(int64(len(stands.text)), [][32]byte{stands.block})
+		w.file(int64(len(stands.text)), stands.block[:])
 	}
-	if record.Target != "" {
-		w.text(`,"target":` + quoted(record.Target))
-	}
+	w.target(record.Target)
 	w.text("}")
-	return w.take()
+}
+
+// target writes where a symlink leads to.
+func (w *writer) target(target string) {
+	if target != "" {
+		w.text(`,"target":`)
+		w.text(quoted(target))
+	}
 }
 
 // file writes a file's length, block size and block hashes.
@@ -124,37 +158,55 @@ func (w *writer) blocks(hashes [][32]byte) {
 		if place > 0 {
 			w.text(",")
 		}
-		w.text(`"` + hex.EncodeToString(hashes[place][:]) + `"`)
+		w.text(`"`)
+		w.written = appendHex(w.written, hashes[place][:])
+		w.text(`"`)
 	}
 	w.text("]")
 }
 
 // node gives what stands on a member's disk. It also gives how many bytes of text a file of it has in the document.
 func (w *writer) node(row []*part.Name, at int) ([]byte, int) {
+	length := w.addNode(row, at)
+	return w.take(), length
+}
+
+// addNode writes what stands on a member's disk, and gives how many bytes of text a file of it has.
+func (w *writer) addNode(row []*part.Name, at int) int {
 	disk := row[at].Disk
-	w.text(`{"name":` + w.name)
+	w.text(`{"name":`)
+	w.text(w.name)
 	w.number("type", int64(disk.Type), true)
 	w.number("modified_s", disk.ModifiedS, true)
 	w.number("modified_ns", int64(disk.ModifiedNs), false)
-	text, digits := "", ""
+	length := 0
 	switch {
 	case disk.Contents == nil:
 	case w.withBytes:
-		text, digits = textOrHex(disk.Data)
+		length = w.bytes(disk.Data)
 	default:
-		text = w.standInOf(contentOnDisk(row, at)).text
+		stands := w.standInOf(contentOnDisk(row, at))
+		length = len(stands.text)
+		w.text(`,"text":"`) // it has no character that JSON writes otherwise
+		w.written = append(w.written, stands.text...)
+		w.text(`"`)
 	}
+	w.target(disk.Target)
+	w.text("}")
+	return length
+}
+
+// bytes writes a file's bytes, and gives how many of them are written as text.
+func (w *writer) bytes(data []byte) int {
+	text, digits := textOrHex(data)
 	if text != "" {
-		w.text(`,"text":` + quoted(text))
+		w.text(`,"text":`)
+		w.text(quoted(text))
 	}
 	if digits != "" {
 		w.text(`,"hex":"` + digits + `"`)
 	}
-	if disk.Target != "" {
-		w.text(`,"target":` + quoted(disk.Target))
-	}
-	w.text("}")
-	return w.take(), len(text)
+	return len(text)
 }
 
 // textOrHex gives bytes as text where they are UTF-8 without control characters other than tabs and ends of lines,

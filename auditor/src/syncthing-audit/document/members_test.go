@@ -1,6 +1,7 @@
 package document
 
 import (
+	"encoding/json"
 	"strings"
 	"testing"
 
@@ -45,6 +46,22 @@ func TestTextOrHex(t *testing.T) {
 	for _, one := range cases {
 		if text, digits := textOrHex([]byte(one.data)); text != one.text || digits != one.digits {
 			t.Errorf("%q: %q, %q", one.data, text, digits)
+		}
+	}
+}
+
+// A quoted text is JSON of that text, whichever letters stand in it, and what JSON doesn't have to escape stands there as it is.
+func TestQuoted(t *testing.T) {
+	for letter := rune(0); letter <= 0x180; letter++ {
+		for _, text := range []string{string(letter), "a" + string(letter), string(letter) + "a", strings.Repeat(string(letter), 2)} {
+			var read string
+			written := quoted(text)
+			if err := json.Unmarshal([]byte(written), &read); err != nil || read != text {
+				t.Errorf("%q: %s, read as %q, %v", text, written, read, err)
+			}
+			if letter >= 0x20 && letter != '"' && letter != '\\' && written != `"`+text+`"` {
+				t.Errorf("%q: %s", text, written)
+			}
 		}
 	}
 }

@@ -3,7 +3,7 @@ package document
 
 import (
 	"crypto/sha256"
-	"fmt"
+	"strconv"
 
 	"syncthing-audit/part"
 )
@@ -12,22 +12,39 @@ import (
 // where the lists of block hashes are, unless SHA-256 collides. For a file of one block the block size makes no
 // difference.
 func StandIn(content *part.Content) string {
-	cut := fmt.Sprintf("in blocks of %d", content.BlockSize)
+	return string(appendStandIn(nil, content))
+}
+
+// appendStandIn appends the same text.
+func appendStandIn(to []byte, content *part.Content) []byte {
+	to = append(strconv.AppendInt(to, content.Size, 10), " bytes in "...)
 	if content.Size <= content.BlockSize {
-		cut = "in one block"
+		to = append(to, "one block: "...)
+	} else {
+		to = append(strconv.AppendInt(append(to, "blocks of "...), content.BlockSize, 10), ": "...)
 	}
-	return fmt.Sprintf("%d bytes %s: %s", content.Size, cut, content.Hash)
+	return appendHex(to, content.Hash[:])
+}
+
+// appendHex appends bytes as hexadecimal digits.
+func appendHex(to, data []byte) []byte {
+	const digits = "0123456789abcdef"
+	for _, one := range data {
+		to = append(to, digits[one>>4], digits[one&15])
+	}
+	return to
 }
 
 // standIn is a stand-in with the hash of its one block.
 type standIn struct {
-	text  string
-	block [32]byte
+	text  []byte
+	block [1][32]byte
 }
 
-func newStandIn(content *part.Content) standIn {
-	text := StandIn(content)
-	return standIn{text, sha256.Sum256([]byte(text))}
+// take takes the stand-in of another content.
+func (s *standIn) take(content *part.Content) {
+	s.text = appendStandIn(s.text[:0], content)
+	s.block[0] = sha256.Sum256(s.text)
 }
 
 // contentOnDisk gives the content of a file on the disk. A file may be cut in several ways. Then it has the content of

@@ -32,6 +32,9 @@ func TestStandIns(t *testing.T) {
 		if (StandIn(one.one) == StandIn(one.other)) != one.equal {
 			t.Errorf("%s: %s, %s", one.why, StandIn(one.one), StandIn(one.other))
 		}
+		if IsSame(one.one, one.other) != one.equal || IsSame(one.other, one.one) != one.equal {
+			t.Errorf("%s: the same: %v", one.why, !one.equal)
+		}
 	}
 	if length := len(StandIn(contentOf(1<<63-1, 16<<20, 0))); length >= 128 {
 		t.Errorf("a stand-in has %d bytes", length)

@@ -73,7 +73,7 @@ type Folder struct {
 	Unlisted    Unlisted
 	Outside     Count                // names that each device which has them ignores: Syncthing doesn't take them for the folder's
 	Live        *Live                // of devices that were looked at while they ran
-	Outlook     *outlook.Outlook     `json:",omitempty"` // what happens if nobody does anything; nothing where an older program made the export
+	Outlook     *outlook.Outlook     `json:"Foretold,omitempty"` // what happens if nobody does anything; nothing where an older program made the export
 	Rows        map[string]*join.Row // of names that something is told of, as far as a room allowed
 }
 
@@ -126,8 +126,8 @@ type Bits struct {
 
 // Conflict is the copy that Syncthing kept of a file that lost to another version.
 type Conflict struct {
-	Name  string
-	Bytes int64
+	Name  part.Bytes `json:"name"`
+	Bytes int64      `json:"bytes"`
 }
 
 // LeftOut is a name that wasn't audited, or all names below it.
@@ -163,8 +163,21 @@ var Reasons = []string{"CertificateOrder", "NameMissing", "NameUnknown", "NotWin
 // Place gives the place of a reason in that order, or -1.
 func Place(reason string) int { return slices.Index(Reasons, reason) }
 
-// IsBefore says whether a document tells one failure before another one.
-func IsBefore(failure, other *Failure) bool { return isBefore(failure, other, Reasons) }
+// IsBefore says whether a document tells one failure before another one. What keeps it from being firm comes last.
+func IsBefore(failure, other *Failure) bool { return isBefore(failure, other, allReasons) }
+
+var allReasons = append(append([]string{}, Reasons...), FirmReasons...)
+
+// First gives the failure that a document tells first; nothing of none.
+func First(failures []Failure) *Failure {
+	var first *Failure
+	for place := range failures {
+		if first == nil || IsBefore(&failures[place], first) {
+			first = &failures[place]
+		}
+	}
+	return first
+}
 
 // isBefore says the same of failures whose reasons stand in this order.
 func isBefore(failure, other *Failure, order []string) bool {

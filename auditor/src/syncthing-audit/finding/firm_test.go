@@ -65,4 +65,12 @@ func TestLooseNamesBeginWithWhatSyncauditSays(t *testing.T) {
 			t.Error("other names were taken")
 		}
 	}
+	unasked, failed := &Folder{}, &Folder{Firmness: Firmness{Asked: true}}
+	failed.Failures.Add(Failure{"StoreDiffers", "a", 1})
+	for _, folder := range []*Folder{unasked, failed} { // syncaudit says nothing of these
+		folder.Members = members
+		if folder.Loose.Add(sees); folder.CheckLoose() != nil {
+			t.Error(folder.CheckLoose())
+		}
+	}
 }

@@ -25,7 +25,7 @@ func TestWhyDevicesKeepNames(t *testing.T) {
 		one.change(devices, name)
 		for _, end := range New(Usual).OfGroup(devices, []Name{name}).Ends {
 			if !reflect.DeepEqual(end.Apart, []Stuck{{1, "a.txt", one.why}}) {
-				t.Errorf("%d: %+v", one.why, end.Apart)
+				t.Errorf("%s: %+v", one.why, end.Apart)
 			}
 		}
 	}

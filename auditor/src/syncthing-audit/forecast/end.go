@@ -16,6 +16,17 @@ type End struct {
 	Apart []Stuck // names that a device needs nothing of, and keeps otherwise than others may have them
 }
 
+// Contents gives the bytes that stand on some disk; those of what has none are one of them.
+func (e *End) Contents() map[Content]bool {
+	contents := map[Content]bool{}
+	for _, disk := range e.Disks {
+		for _, place := range disk {
+			contents[place.Node.Content] = true
+		}
+	}
+	return contents
+}
+
 // Place is what stands at a name, or in a conflict copy of it that Syncthing made.
 type Place struct {
 	Name   string

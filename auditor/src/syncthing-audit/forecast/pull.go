@@ -1,25 +1,29 @@
 package forecast
 
 // Why a device doesn't take what it needs.
-type Why uint8
+type Why string
 
 const (
-	NoReason         Why = iota
-	OnlySends            // the folder only sends, and what prevails differs
-	NoSource             // no device has the bytes that are recorded
-	NotScanned           // something else stands there than is recorded
-	HasUnscanned         // a directory has something that isn't recorded
-	HasLocalChanges      // a directory has local changes
-	NotEmpty             // a directory isn't empty
-	BelowNoDirectory     // what is above isn't a directory
-	IsDirectory          // a file is to be deleted, and it is a directory
-	NotThere             // another time or mode is to be set, and nothing is there
+	NoReason         Why = ""
+	OnlySends        Why = "only-sends"         // the folder only sends, and what prevails differs
+	NoSource         Why = "no-source"          // no device has the bytes that are recorded
+	NotScanned       Why = "not-scanned"        // something else stands there than is recorded
+	HasUnscanned     Why = "has-unscanned"      // a directory has something that isn't recorded
+	HasLocalChanges  Why = "has-local-changes"  // a directory has local changes
+	NotEmpty         Why = "not-empty"          // a directory isn't empty
+	BelowNoDirectory Why = "below-no-directory" // what is above isn't a directory
+	IsDirectory      Why = "is-directory"       // a file is to be deleted, and it is a directory
+	NotThere         Why = "not-there"          // another time or mode is to be set, and nothing is there
 
 	// Why a device keeps a name, though it needs nothing of it.
-	KeepsLocalChange // the folder only receives, and was changed there
-	NotSeen          // the disk has other bytes than recorded, which no scan sees
-	IgnoresDeletions // the folder takes no deletions
+	KeepsLocalChange Why = "local-change"      // the folder only receives, and was changed there
+	NotSeen          Why = "not-seen"          // the disk has other bytes than recorded, which no scan sees
+	IgnoresDeletions Why = "ignores-deletions" // the folder takes no deletions
 )
+
+// AllWhys are all of them.
+var AllWhys = []Why{NoReason, OnlySends, NoSource, NotScanned, HasUnscanned, HasLocalChanges, NotEmpty, BelowNoDirectory, IsDirectory, NotThere, KeepsLocalChange,
+	NotSeen, IgnoresDeletions}
 
 // pull is one pull of one device. It works on the state, and reads what the device knew when the pull began: its index is written at the
 // end of a pull.

@@ -50,6 +50,7 @@ type World struct {
 
 // Device is a device and the options of its folder.
 type Device struct {
+	ID                string
 	Kind              Kind
 	Release           Release
 	Number            uint64 // the first 8 bytes of its id

@@ -16,6 +16,7 @@ import (
 	"syncthing-audit/choice"
 	"syncthing-audit/device"
 	"syncthing-audit/disk"
+	"syncthing-audit/fixture"
 	"syncthing-audit/part"
 	"syncthing-audit/shell"
 )
@@ -145,13 +146,7 @@ func (f fillsRoom) Patterns() (*ignore.Matcher, error) {
 // Where there is no room for a later folder's glance, those of the folders before it are closed.
 func TestAGlanceWithoutRoomLeavesNothingOpen(t *testing.T) {
 	t.Setenv("TMPDIR", t.TempDir())
-	open := func() int {
-		entries, err := os.ReadDir("/proc/self/fd")
-		if err != nil {
-			t.Skip(err)
-		}
-		return len(entries)
-	}
+	open := func() int { return fixture.CountOpened(t, fixture.Any) }
 	device := &Device{Look: &part.Look{}, Folders: []Folder{fillsRoom{directory{aDirectory(t)}, t}, directory{aDirectory(t)}}}
 	before := open()
 	glanced, err := device.Glance()

@@ -8,6 +8,7 @@ import (
 	"github.com/syncthing/syncthing/lib/ignore"
 	"github.com/syncthing/syncthing/lib/protocol"
 	"golang.org/x/exp/slices"
+	"syncthing-audit/adapt"
 	"syncthing-audit/device"
 	"syncthing-audit/disk"
 	"syncthing-audit/limits"
@@ -20,6 +21,7 @@ type merge struct {
 	device   *Device
 	patterns *ignore.Matcher
 	walker   *disk.Walker
+	hashed   disk.File // has the folder once more, for another look at what was hashed: the walk goes on meanwhile, with another directory open
 	own      *puller[device.Entry]
 	views    []*puller[device.Entry]
 	nodes    *puller[disk.Found]
@@ -34,7 +36,7 @@ var errStopped = errors.New("stopped")
 
 // newMerge begins to read a folder.
 func newMerge(of *Device, folder Folder, about *part.Folder, patterns *ignore.Matcher, to *disk.Queue) *merge {
-	m := &merge{device: of, patterns: patterns, to: to, walker: of.walker(folder), folder: about.ID}
+	m := &merge{device: of, patterns: patterns, to: to, walker: of.walker(folder), hashed: disk.File{Disk: adapt.Directory(folder.Disk())}, folder: about.ID}
 	m.own = pull(func(take func(device.Entry) bool) error { return folder.Own(of.Names, take) })
 	for _, view := range about.Views {
 		view := view
@@ -237,7 +239,7 @@ func (m *merge) send(line *part.Name, recorded [][32]byte, stamp string) bool {
 	isHashed := node != nil && node.Type == int(protocol.FileInfoTypeFile) && len(line.Out) == 0 && !m.device.isSecondLook()
 	file := disk.File{}
 	if isHashed {
-		file = disk.File{Disk: m.walker.Disk, Name: string(line.Name), Stamp: stamp, Node: node, BlockSizes: blockSizes(line),
+		file = disk.File{Disk: m.hashed.Disk, Name: string(line.Name), Stamp: stamp, Node: node, BlockSizes: blockSizes(line),
 			Longest: longest(line), Recorded: recorded, Keep: m.device.Bytes}
 		pending.Weight += len(recorded)
 		for _, size := range file.BlockSizes {

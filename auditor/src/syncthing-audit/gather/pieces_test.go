@@ -17,6 +17,7 @@ import (
 	"github.com/syncthing/syncthing/lib/protocol"
 	"syncthing-audit/adapt"
 	"syncthing-audit/disk"
+	"syncthing-audit/fixture"
 	"syncthing-audit/limits"
 	"syncthing-audit/part"
 	"syncthing-audit/shell"
@@ -121,13 +122,7 @@ func (u unlistable) Patterns() (*ignore.Matcher, error) {
 func TestNothingIsOpenAfterAGlance(t *testing.T) {
 	t.Setenv("TMPDIR", t.TempDir())
 	good := directory{aDirectory(t)}
-	open := func() int {
-		entries, err := os.ReadDir("/proc/self/fd")
-		if err != nil {
-			t.Skip(err)
-		}
-		return len(entries)
-	}
+	open := func() int { return fixture.CountOpened(t, fixture.Any) }
 	before := open()
 	glanced, err := (&Device{Look: &part.Look{}, Folders: []Folder{good, good}}).Glance()
 	if err != nil || open() != before+2 {

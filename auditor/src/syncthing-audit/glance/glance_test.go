@@ -1,9 +1,11 @@
 package glance
 
 import (
+	"encoding/json"
 	"errors"
 	"fmt"
 	"io"
+	"math/rand"
 	"os"
 	"path/filepath"
 	"reflect"
@@ -54,7 +56,7 @@ func TestAGlanceThatIsNotWhole(t *testing.T) {
 	lines := func() []part.Line {
 		return []part.Line{{Begin: &part.Begin{}}, {Name: &part.Name{Name: "a"}}, {Name: &part.Name{Name: "d", Out: []part.LeftOut{{Kind: part.Unreadable}}}}, {End: &part.End{Names: 2}}}
 	}
-	for text, expected := range map[string]string{"": "ad2", one: "ab!d3", three: "ab!d3", "x\n": "", one + "x\n": "", "\"b\"\n": "", "\"b\"": "", "\"b\"\nx\n": "", one + "\"c\"": ""} {
+	for text, expected := range map[string]string{three + "\"e\"\n\"x\"\n": "ab!de!4", "\"a\"\n\"x\"\nx\n": "", "": "ad2", one: "ab!d3", three: "ab!d3", "x\n": "", one + "x\n": "", "\"b\"\n": "", "\"b\"": "", "\"b\"\nx\n": "", one + "\"c\"": ""} {
 		for failsAt := 0; failsAt < 6; failsAt++ {
 			told, count, failed := "", 0, errors.New("no room")
 			take := glanceOf(t, text).Compare(func(line part.Line) error {
@@ -141,4 +143,143 @@ func TestWhatADiskFailsToGiveAtOneWalk(t *testing.T) {
 			t.Errorf("%s: %s", why, told)
 		}
 	}
+}
+
+// A glance that is closed has no file open, and one that has no room is said so at once, where much is written.
+func TestTheFilesOfAGlance(t *testing.T) {
+	glance := glanceOf(t, "")
+	glance.Close()
+	if _, err := glance.Folders[0].Read(make([]byte, 1)); !errors.Is(err, os.ErrClosed) {
+		t.Errorf("it is open: %v", err)
+	}
+	if err := NewWriter(glance.Folders[0]).Take(disk.Found{Name: strings.Repeat("a", 1<<17)}, false); !errors.Is(err, os.ErrClosed) {
+		t.Errorf("it is written: %v", err)
+	}
+}
+
+// madeUp is what a glance and the lines behind it have of a name.
+type madeUp struct {
+	found     *disk.Found // nothing where the glance hasn't it
+	isIgnored bool        // at the glance
+	line      *part.Name  // nothing where it is gone
+}
+
+// madeUpName gives a name of which few things are told, so that both often tell the same.
+func madeUpName(random *rand.Rand, name string) (made madeUp) {
+	node := func() *part.Node {
+		return []*part.Node{nil, {Size: 3, Stamp: "1"}, {Size: 3, Stamp: "2"}, {Type: 1}}[random.Intn(4)]
+	}
+	if random.Intn(4) > 0 {
+		made.found = &disk.Found{Name: name, Node: node()}
+		switch random.Intn(6) {
+		case 0:
+			made.found.Out = &part.LeftOut{Kind: part.Damaged, Why: "lost", Below: random.Intn(2) == 0}
+		case 1:
+			made.found.Out = &part.LeftOut{Kind: part.Unreadable, Why: "why"}
+		case 2:
+			made.isIgnored = true
+		}
+	}
+	if random.Intn(4) > 0 {
+		made.line = &part.Name{Name: part.Bytes(name), Disk: node()}
+		if kinds := []string{"", "", part.Unreadable, part.Damaged, part.Ignored, part.Changing, part.Rescan}; random.Intn(2) == 0 {
+			if kind := kinds[random.Intn(len(kinds))]; kind != "" {
+				made.line.Out = []part.LeftOut{{Kind: kind, Why: "why"}}
+			}
+		}
+		if random.Intn(6) == 0 {
+			made.line.Moved = []string{part.MovedViews}
+		}
+	}
+	return made
+}
+
+// told gives what is told of a name; nothing where nothing is.
+func (m madeUp) told() *part.Name {
+	var lost *part.LeftOut
+	mark := ""
+	if m.found != nil {
+		if out := m.found.Out; out != nil && out.Kind == part.Damaged {
+			lost = &part.LeftOut{Kind: part.Damaged, Why: out.Why, Below: out.Below}
+		}
+		mark = m.found.Node.Mark()
+	}
+	isUnread := m.found != nil && m.found.Node == nil && lost == nil
+	if m.line == nil {
+		switch {
+		case m.found == nil || m.isIgnored:
+			return nil
+		case lost != nil:
+			return &part.Name{Name: part.Bytes(m.found.Name), Out: []part.LeftOut{*lost}}
+		}
+		return &part.Name{Name: part.Bytes(m.found.Name), Moved: []string{part.MovedDisk}}
+	}
+	name := *WithoutChanging(m.line)
+	isOut := len(name.Out) > 0
+	switch {
+	case isOut && name.Out[0].Kind != part.Unreadable || name.Moved != nil || isUnread && isOut && name.Disk == nil:
+	case lost != nil:
+		name.Out = append(append([]part.LeftOut{}, name.Out...), *lost)
+	case isUnread || name.Disk.Mark() != mark:
+		return &part.Name{Name: name.Name, Moved: []string{part.MovedDisk}}
+	}
+	return &name
+}
+
+// Of made-up folders each name is told as a plain reading of both walks says, and how many there are.
+func TestAGlanceIsComparedAsAPlainReadingSays(t *testing.T) {
+	room := t.TempDir()
+	for seed := int64(0); seed < 500 && !t.Failed(); seed++ {
+		random, glance := rand.New(rand.NewSource(seed)), &Glance{}
+		var lines, told, due []part.Line
+		for folder := 0; folder < 2; folder++ {
+			file, err := os.Create(filepath.Join(room, fmt.Sprint(folder)))
+			if err != nil {
+				t.Fatal(err)
+			}
+			glance.Folders = append(glance.Folders, file)
+			writer, count := NewWriter(file), int64(0)
+			lines, due = append(lines, part.Line{Begin: &part.Begin{}}), append(due, part.Line{Begin: &part.Begin{}})
+			listed := int64(0)
+			for _, name := range []string{"a", "b", "b/c", "d\n\"", "e"} {
+				made := madeUpName(random, name)
+				if made.found != nil && writer.Take(*made.found, made.isIgnored) != nil {
+					t.Fatal("it isn't written")
+				}
+				if made.line != nil {
+					lines = append(lines, part.Line{Name: made.line})
+					listed++
+				}
+				if name := made.told(); name != nil {
+					due = append(due, part.Line{Name: name})
+					count++
+				}
+			}
+			lines, due = append(lines, part.Line{End: &part.End{Names: listed}}), append(due, part.Line{End: &part.End{Names: count}})
+			if writer.Flush() != nil {
+				t.Fatal("it isn't written")
+			}
+			if _, err := file.Seek(0, io.SeekStart); err != nil {
+				t.Fatal(err)
+			}
+		}
+		take := glance.Compare(func(line part.Line) error { told = append(told, line); return nil })
+		for _, line := range lines {
+			if err := take(line); err != nil {
+				t.Fatal(err)
+			}
+		}
+		if glance.Close(); !reflect.DeepEqual(told, due) {
+			t.Errorf("seed %d: %s, not %s", seed, text(told), text(due))
+		}
+	}
+}
+
+// text gives lines as text.
+func text(of []part.Line) string {
+	told, err := json.Marshal(of)
+	if err != nil {
+		panic(err)
+	}
+	return string(told)
 }

@@ -209,8 +209,8 @@ func (s *Stream) join(wire, disk *part.Name) *part.Name {
 }
 
 // union gives all of both, each once.
-func union(one, other []string) []string {
-	words := append([]string{}, one...)
+func union(some, other []string) []string {
+	words := append([]string{}, some...)
 	for _, word := range other {
 		if !slices.Contains(words, word) {
 			words = append(words, word)

@@ -152,7 +152,12 @@ func TestUnknownPatterns(t *testing.T) {
 	for _, ignores := range []*part.Ignores{{Unknown: "a line that isn't known"}, {Lines: []string{"#escape=|"}}, {Lines: []string{"a["}}} {
 		disks := diskHead("linux")
 		disks.Folders[0].Ignores = ignores
-		names := joined(t, giving(wireHead()), giving(disks, &part.Name{Name: "new", Disk: &part.Node{Type: bep.Directory}}))
+		record := &part.Record{Type: bep.Directory, Sequence: 1}
+		names := joined(t, giving(wireHead(), &part.Name{Name: "old", Own: record}), giving(disks, &part.Name{Name: "new", Disk: &part.Node{Type: bep.Directory}},
+			&part.Name{Name: "old", Disk: &part.Node{Type: bep.Directory}}))
+		if old := names["old"]; old == nil || old.Own != record || old.Disk == nil || len(old.Out)+len(old.Moved) > 0 {
+			t.Errorf("%+v: %+v", ignores, old)
+		}
 		if one := names["new"]; len(one.Out) != 1 || one.Out[0].Kind != part.Unknown || len(one.Moved) > 0 {
 			t.Errorf("%+v: %+v", ignores, one)
 		}

@@ -50,9 +50,9 @@ type AskedReader struct {
 // AskedReader begins before the first name.
 func (h *History) AskedReader(folder string, device uint64) *AskedReader {
 	prefix := keyOfAsked(folder, device, "")
-	made := &AskedReader{all: h.db.NewIterator(util.BytesPrefix(prefix), nil), prefix: len(prefix)}
-	made.isEnd = !made.all.Next()
-	return made
+	reader := &AskedReader{all: h.db.NewIterator(util.BytesPrefix(prefix), nil), prefix: len(prefix)}
+	reader.isEnd = !reader.all.Next()
+	return reader
 }
 
 // name gives the name at which the reader is.
@@ -66,8 +66,8 @@ func (r *AskedReader) Of(name string) (AskedFor, bool, error) {
 	if r.isEnd || r.name() != name {
 		return AskedFor{}, false, r.all.Error()
 	}
-	made, err := readAsked(r.all.Value())
-	return made, err == nil, err
+	asked, err := readAsked(r.all.Value())
+	return asked, err == nil, err
 }
 
 // Release lets go of the reader.

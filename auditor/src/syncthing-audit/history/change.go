@@ -99,17 +99,17 @@ func (h *History) EachChanged(devicesOf func(folder string) []uint64, take func(
 
 // taken gives those of these devices that record the bytes of a change.
 func (h *History) taken(spread *Spread) ([]uint64, error) {
-	made := []uint64{}
+	taken := []uint64{}
 	for _, device := range spread.Devices {
 		is, err := h.db.Has(keyOfTaken(spread.Folder, spread.Name, device), nil)
 		if err != nil {
 			return nil, err
 		}
 		if is {
-			made = append(made, device)
+			taken = append(taken, device)
 		}
 	}
-	return made, nil
+	return taken, nil
 }
 
 // isSpread says whether all devices that have a file have the same bytes of it, and each of these had others under that time.

@@ -11,19 +11,19 @@ type Coverage struct {
 
 // Coverage gives that of a device in a folder.
 func (h *History) Coverage(folder string, device uint64) (Coverage, error) {
-	var made Coverage
+	var coverage Coverage
 	prefix := keyOfReadings(folder, device)
 	err := h.each(prefix, func(key, value []byte) error {
 		reading, err := readReading(value)
 		if err != nil {
 			return err
 		}
-		if made.Files == 0 || reading.At.Before(made.Oldest) {
-			made.Oldest, made.OldestName = reading.At, string(key[len(prefix):])
+		if coverage.Files == 0 || reading.At.Before(coverage.Oldest) {
+			coverage.Oldest, coverage.OldestName = reading.At, string(key[len(prefix):])
 		}
-		made.Files++
-		made.Bytes += reading.Content.Size
+		coverage.Files++
+		coverage.Bytes += reading.Content.Size
 		return nil
 	})
-	return made, err
+	return coverage, err
 }

@@ -14,7 +14,7 @@ import (
 
 var errUnread = errors.New("no more is read")
 
-// unreadable is a storage of which nothing is read any more after so many reads.
+// unreadable is a storage of which one read fails, behind so many. Those after it don't, so who passes over the error isn't told by another one.
 type unreadable struct {
 	storage.Storage
 	left, failed *int
@@ -34,8 +34,7 @@ func (u unreadable) Open(file storage.FileDesc) (storage.Reader, error) {
 }
 
 func (u unreadable) read() error {
-	*u.left--
-	if *u.left < 0 {
+	if *u.left--; *u.left == -1 {
 		*u.failed++
 		return errUnread
 	}
@@ -64,6 +63,17 @@ func oldHistory(t *testing.T, more int) storage.Storage {
 				device[fmt.Sprintf("n%060d", number)] = file{bytes: byte(number)}
 			}
 			if err := history.Take(device.partOf(place, choice.Names{}), night(day)); err != nil {
+				t.Fatal(err)
+			}
+			asked := history.AskedWriter("docs", part.Number(ids[place]))
+			err := asked.Put("b", AskedFor{int64(day), 1})
+			for number := 0; err == nil && number < more; number++ {
+				err = asked.Put(fmt.Sprintf("n%060d", number), AskedFor{int64(day), 1})
+			}
+			if err == nil {
+				err = asked.End()
+			}
+			if asked.Release(); err != nil {
 				t.Fatal(err)
 			}
 		}
@@ -130,6 +140,31 @@ var questions = map[string]func(history *History) error{
 	},
 	"spread": func(history *History) error {
 		return history.EachSpread(func(string) []uint64 { return []uint64{part.Number(ids[0]), part.Number(ids[1])} }, func(Spread) error { return nil })
+	},
+	"asked": func(history *History) error {
+		writer := history.AskedWriter("docs", part.Number(ids[0]))
+		defer writer.Release()
+		err := writer.Stay("a")
+		if err == nil {
+			_, _, err = writer.Of("b")
+		}
+		if err == nil {
+			err = writer.Put("b", AskedFor{1, 2})
+		}
+		if err == nil {
+			err = writer.End()
+		}
+		return err
+	},
+	"asked for": func(history *History) error {
+		reader := history.AskedReader("docs", part.Number(ids[1]))
+		defer reader.Release()
+		for _, name := range []string{"a", "b", "n2"} {
+			if _, _, err := reader.Of(name); err != nil {
+				return err
+			}
+		}
+		return nil
 	},
 	"last":   func(history *History) error { _, err := history.Last(); return err },
 	"seen":   func(history *History) error { _, err := history.Seen(named("a")[0]); return err },
@@ -256,6 +291,19 @@ func keyAt(t *testing.T, history *History, place int) []byte {
 		t.Fatal(err)
 	}
 	return nil
+}
+
+// What is kept of one folder, device and name stands under another key for each kind of it.
+func TestEachKindHasItsKeys(t *testing.T) {
+	kinds := map[byte]bool{}
+	keys := [][]byte{keyOfFormat(), keyOfLast(), keyOfReading("docs", 7, "a"), keyOfAsked("docs", 7, "a"), keyOfPart("docs", 7), keyOfChange("docs", "a", 7), keyOfTaken("docs", "a", 7),
+		keyOfFault(Fault{"docs", "a", 7, "x"})}
+	for _, key := range keys {
+		kinds[key[0]] = true
+	}
+	if len(kinds) != len(keys) {
+		t.Errorf("%d keys are of %d kinds", len(keys), len(kinds))
+	}
 }
 
 // A key that is none of a name's is told as that.

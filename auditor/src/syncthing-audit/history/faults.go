@@ -135,11 +135,11 @@ func (h *History) Seen(fault Fault) (*Seen, error) {
 }
 
 func (s *Seen) bytes() []byte {
-	made := []byte{}
+	text := []byte{}
 	for _, at := range []time.Time{s.First, s.Last, s.Mended} {
-		made = appendTime(made, at)
+		text = appendTime(text, at)
 	}
-	return binary.BigEndian.AppendUint64(made, uint64(s.Audits))
+	return binary.BigEndian.AppendUint64(text, uint64(s.Audits))
 }
 
 func readSeen(value []byte) (*Seen, error) {

@@ -41,12 +41,12 @@ func Open(directory string) (*History, error) {
 	if err != nil {
 		return nil, told(directory, err)
 	}
-	made, err := openIn(files)
+	opened, err := openIn(files)
 	if err != nil {
 		files.Close()
 		return nil, told(directory, err)
 	}
-	return made, nil
+	return opened, nil
 }
 
 // openIn opens the history that these files have.

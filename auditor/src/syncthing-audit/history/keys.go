@@ -84,10 +84,10 @@ func isBusy(err error) bool {
 
 // sorted gives the folders, rising.
 func sorted(folders map[string][]uint64) []string {
-	made := []string{}
+	keys := []string{}
 	for folder := range folders {
-		made = append(made, folder)
+		keys = append(keys, folder)
 	}
-	sort.Strings(made)
-	return made
+	sort.Strings(keys)
+	return keys
 }

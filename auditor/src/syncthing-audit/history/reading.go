@@ -41,11 +41,11 @@ const lengthOfReading = 5*8 + 32
 var errValue = errors.New("a value isn't one of this format")
 
 func (r *Reading) bytes() []byte {
-	made := make([]byte, 0, lengthOfReading)
+	text := make([]byte, 0, lengthOfReading)
 	for _, number := range []int64{r.At.Unix(), r.ModifiedS, int64(r.ModifiedNs), r.Content.Size, r.Content.BlockSize} {
-		made = binary.BigEndian.AppendUint64(made, uint64(number))
+		text = binary.BigEndian.AppendUint64(text, uint64(number))
 	}
-	return append(made, r.Content.Hash[:]...)
+	return append(text, r.Content.Hash[:]...)
 }
 
 func readReading(value []byte) (*Reading, error) {
@@ -53,8 +53,8 @@ func readReading(value []byte) (*Reading, error) {
 		return nil, errValue
 	}
 	number := func(place int) int64 { return int64(binary.BigEndian.Uint64(value[8*place:])) }
-	made := &Reading{At: time.Unix(number(0), 0).UTC(), ModifiedS: number(1), ModifiedNs: int(number(2))}
-	made.Content = part.Content{Size: number(3), BlockSize: number(4)}
-	copy(made.Content.Hash[:], value[5*8:])
-	return made, nil
+	reading := &Reading{At: time.Unix(number(0), 0).UTC(), ModifiedS: number(1), ModifiedNs: int(number(2))}
+	reading.Content = part.Content{Size: number(3), BlockSize: number(4)}
+	copy(reading.Content.Hash[:], value[5*8:])
+	return reading, nil
 }

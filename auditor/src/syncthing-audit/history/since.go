@@ -83,15 +83,15 @@ type Audited struct {
 
 // Since keeps an audit, and says what the history has beside its answer.
 func (h *History) Since(audit Audited) (*Since, error) {
-	made := &Since{Changed: []Changed{}, Taken: []Changed{}, Read: []Read{}}
+	since := &Since{Changed: []Changed{}, Taken: []Changed{}, Read: []Read{}}
 	before, err := h.Last()
 	if err != nil {
 		return nil, err
 	}
 	if !before.IsZero() {
-		made.Before = &before
+		since.Before = &before
 	}
-	if err := h.addChanged(made, &audit); err != nil {
+	if err := h.addChanged(since, &audit); err != nil {
 		return nil, err
 	}
 	absent, err := h.absent(&audit)
@@ -105,12 +105,12 @@ func (h *History) Since(audit Audited) (*Since, error) {
 	for _, kind := range []struct {
 		faults []Fault
 		to     *List
-	}{{news.New, &made.New}, {news.Lasting, &made.Lasting}, {news.Mended, &made.Mended}, {news.Unasked, &made.Unasked}} {
+	}{{news.New, &since.New}, {news.Lasting, &since.Lasting}, {news.Mended, &since.Mended}, {news.Unasked, &since.Unasked}} {
 		if *kind.to, err = h.list(kind.faults, audit.IDs); err != nil {
 			return nil, err
 		}
 	}
-	return made, h.addRead(made, audit)
+	return since, h.addRead(since, audit)
 }
 
 // sharing gives all devices that share a folder which was audited.
@@ -136,34 +136,34 @@ func (a *Audited) hasLooked(fault Fault, isOneAbsent bool) bool {
 
 // absent says of which folders a device that was read before wasn't audited.
 func (h *History) absent(audit *Audited) (map[string]bool, error) {
-	made := map[string]bool{}
+	absent := map[string]bool{}
 	for folder := range audit.Folders {
 		for _, device := range audit.Sharing[folder] {
 			found := h.db.NewIterator(util.BytesPrefix(keyOfReadings(folder, device)), nil)
-			made[folder] = made[folder] || !slices.Contains(audit.Folders[folder], device) && found.Next()
+			absent[folder] = absent[folder] || !slices.Contains(audit.Folders[folder], device) && found.Next()
 			found.Release()
 			if err := found.Error(); err != nil {
 				return nil, err
 			}
 		}
 	}
-	return made, nil
+	return absent, nil
 }
 
 // list lists the first faults.
 func (h *History) list(faults []Fault, ids map[uint64]string) (List, error) {
-	made := List{Count: int64(len(faults)), First: []Told{}}
+	told := List{Count: int64(len(faults)), First: []Told{}}
 	for _, fault := range faults {
-		if len(made.First) == MostListed {
+		if len(told.First) == MostListed {
 			break
 		}
 		seen, err := h.Seen(fault)
 		if err != nil {
 			return List{}, err
 		}
-		made.First = append(made.First, Told{fault.Folder, part.Bytes(fault.Name), ids[fault.Device], fault.Cause, seen.First, seen.Audits})
+		told.First = append(told.First, Told{fault.Folder, part.Bytes(fault.Name), ids[fault.Device], fault.Cause, seen.First, seen.Audits})
 	}
-	return made, nil
+	return told, nil
 }
 
 // Causes of files whose bytes changed under one time: on all devices that have them, or on one that records them, so that others take them.
@@ -174,7 +174,7 @@ const (
 
 // addChanged adds the files whose bytes changed on all devices, and those whose bytes changed where they are recorded. Each is a fault of the audit, too: it
 // is new once.
-func (h *History) addChanged(made *Since, audit *Audited) error {
+func (h *History) addChanged(since *Since, audit *Audited) error {
 	return h.EachChanged(audit.sharing, func(spread Spread, isEverywhere bool) error {
 		on, err := h.taken(&spread)
 		if err != nil {
@@ -188,9 +188,9 @@ func (h *History) addChanged(made *Since, audit *Audited) error {
 		switch {
 		case isEverywhere:
 			audit.Found = append(audit.Found, Fault{Folder: spread.Folder, Name: spread.Name, Cause: ChangedEverywhere})
-			add(&made.Changed, &made.Count, &spread, spread.Devices, audit)
+			add(&since.Changed, &since.Count, &spread, spread.Devices, audit)
 		case len(on) > 0:
-			add(&made.Taken, &made.Takes, &spread, on, audit)
+			add(&since.Taken, &since.Takes, &spread, on, audit)
 		}
 		return nil
 	})
@@ -222,14 +222,14 @@ func add(to *[]Changed, count *int64, spread *Spread, on []uint64, audit *Audite
 	*to = append(*to, changed)
 }
 
-func (h *History) addRead(made *Since, audit Audited) error {
+func (h *History) addRead(since *Since, audit Audited) error {
 	for _, folder := range sorted(audit.Folders) {
 		for _, device := range audit.Folders[folder] {
 			covered, err := h.Coverage(folder, device)
 			if err != nil {
 				return err
 			}
-			made.Read = append(made.Read, Read{folder, audit.IDs[device], covered.Files, covered.Bytes, covered.Oldest, part.Bytes(covered.OldestName)})
+			since.Read = append(since.Read, Read{folder, audit.IDs[device], covered.Files, covered.Bytes, covered.Oldest, part.Bytes(covered.OldestName)})
 		}
 	}
 	return nil

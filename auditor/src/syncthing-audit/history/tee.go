@@ -71,13 +71,13 @@ type place struct{ folder, name string }
 
 // Watch gives a watch over all names that were at fault.
 func (h *History) Watch() (*Watch, error) {
-	made := &Watch{unclear: map[place]bool{}}
+	watch := &Watch{unclear: map[place]bool{}}
 	err := h.each([]byte{ofFault}, func(key, _ []byte) error {
 		folder, name, _, _, err := readName(key)
-		made.unclear[place{folder, name}] = false
+		watch.unclear[place{folder, name}] = false
 		return err
 	})
-	return made, err
+	return watch, err
 }
 
 // WasAtFault says whether something was wrong with a name before.

@@ -14,10 +14,10 @@ func seenOverWire(head *part.Head, line *part.Name) *part.Name {
 	case line.Own == nil || line.Own.Content == nil || line.Disk.Differ != nil || line.Disk.Size != line.Own.Content.Size:
 		return unread
 	}
-	made, disk := *line, *line.Disk
+	seen, disk := *line, *line.Disk
 	disk.ModifiedS, disk.ModifiedNs = line.Own.ModifiedS, line.Own.ModifiedNs
-	made.Disk = &disk
-	return &made
+	seen.Disk = &disk
+	return &seen
 }
 
 // isUnclearOverWire says whether a name of such a part isn't audited, so that nobody knows whether a fault of it was mended: no bytes were asked for,

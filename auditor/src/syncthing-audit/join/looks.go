@@ -111,29 +111,30 @@ func (f *Folder) IsUnheard(row *Row, knower, of int) bool {
 	if knower == of || at == nil || at.Own == nil || !sharesWith(f.Members[of].About, f.Members[knower].Head.Device) {
 		return false
 	}
-	for place, view := range f.Members[knower].About.Views {
-		if view.Device != f.Members[of].Head.Device {
-			continue
-		}
-		heard := view.Heard
-		if f.Members[knower].Head.Look == nil { // a stopped device hears of nothing more
-			heard = view.Max
-		}
-		seen := row.seen(knower, place)
-		return seen == nil || heard < at.Own.Sequence || seen.Invalid != at.Own.Invalid || !slices.Equal(seen.Version, at.Own.Version)
+	view, seen := ViewOf(f.Members, row, knower, of)
+	if view == nil || seen == nil {
+		return true
 	}
-	return true
+	heard := view.Heard
+	if f.Members[knower].Head.Look == nil { // a stopped device hears of nothing more
+		heard = view.Max
+	}
+	return heard < at.Own.Sequence || seen.Invalid != at.Own.Invalid || !slices.Equal(seen.Version, at.Own.Version)
 }
 
-// seen gives the record that a member has in a view.
-func (r *Row) seen(member, view int) *part.Record {
-	if r.At[member] == nil {
-		return nil
-	}
-	for _, seen := range r.At[member].Views {
-		if seen.View == view {
-			return seen.Record
+// ViewOf gives a member's view of another one, and the record of a name that it has there; nothing where it has none.
+func ViewOf(members []Member, row *Row, knower, of int) (*part.View, *part.Record) {
+	for place := range members[knower].About.Views {
+		view := &members[knower].About.Views[place]
+		if view.Device != members[of].Head.Device {
+			continue
 		}
+		if at := row.At[knower]; at != nil {
+			if seen := slices.IndexFunc(at.Views, func(seen part.Seen) bool { return seen.View == place }); seen >= 0 {
+				return view, at.Views[seen].Record
+			}
+		}
+		return view, nil
 	}
-	return nil
+	return nil, nil
 }

@@ -61,7 +61,7 @@ func (c Claim) isBelowAny(claims []Claim) bool {
 // Winner gives the own record that wins a name, of the members of which this is so; nothing where there is none. A record that is a local change of a
 // device that only receives never does.
 func (r *Row) Winner(isOf func(member int) bool) *part.Record {
-	records, claims := []*part.Record{}, []Claim{}
+	records, claims := make([]*part.Record, 0, len(r.At)), make([]Claim, 0, len(r.At))
 	for member, at := range r.At {
 		if at != nil && at.Own != nil && !at.Own.Invalid && isOf(member) {
 			records, claims = append(records, at.Own), append(claims, ClaimOf(at.Own))

@@ -154,7 +154,11 @@ func observers(devices []*Device, known []string) map[string]bool {
 }
 
 // Observer is a device that shares a folder and keeps no files of it.
-type Observer struct{ Folder, Device, Name string }
+type Observer struct {
+	Folder string `json:"folder"`
+	Device string `json:"device"`
+	Name   string `json:"name"`
+}
 
 // takeOutObservers takes observers out of what the devices say of each other: nobody asks for an observer's part, and it has none. It gives those that
 // the devices name without having been asked by them over the wire.

@@ -15,10 +15,10 @@ import (
 )
 
 var (
-	mutex     sync.Mutex
-	paths     = map[string]bool{}
-	made      []string // directories at paths that were asked for, each behind the one above it
-	processes = map[*os.Process]bool{}
+	mutex       sync.Mutex
+	paths       = map[string]bool{}
+	directories []string // directories at paths that were asked for, each behind the one above it
+	processes   = map[*os.Process]bool{}
 )
 
 // statusOfSignal is added to a signal's number, as shells do.
@@ -49,17 +49,17 @@ func makeAt(path string) error {
 		return nil
 	}
 	if err == nil {
-		made = append(made, path)
+		directories = append(directories, path)
 	}
 	return err
 }
 
 // removeMade takes them away, each before the one above it.
 func removeMade() {
-	for place := len(made) - 1; place >= 0; place-- {
-		os.Remove(made[place])
+	for place := len(directories) - 1; place >= 0; place-- {
+		os.Remove(directories[place])
 	}
-	made = nil
+	directories = nil
 }
 
 // Run runs a program to its end.

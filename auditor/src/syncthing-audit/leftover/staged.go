@@ -59,7 +59,7 @@ func (s *Staged) Put() error {
 	}
 	syncDirectory(s.to)
 	s.remove()
-	made = nil
+	directories = nil
 	return nil
 }
 

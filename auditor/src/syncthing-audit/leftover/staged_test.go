@@ -48,8 +48,8 @@ func TestStagedFiles(t *testing.T) {
 		if here := namesIn(t, path); len(here) != 1 || here[0][0] != '.' {
 			t.Errorf("%s: %v are there before", one.why, here)
 		}
-		if err := one.end(staged); err != nil || len(made) != 0 || len(paths) != 0 || len(locks) != 0 {
-			t.Errorf("%s: %v, %v, %v", one.why, err, made, paths)
+		if err := one.end(staged); err != nil || len(directories) != 0 || len(paths) != 0 || len(locks) != 0 {
+			t.Errorf("%s: %v, %v, %v", one.why, err, directories, paths)
 		}
 		if left, _ := filepath.Glob(path + "/*"); len(left) != len(one.left) || len(left) > 0 && !reflect.DeepEqual(namesIn(t, path), one.left) {
 			t.Errorf("%s: left are %v", one.why, left)

@@ -18,8 +18,8 @@ func CheckName(name string) error {
 	case strings.ContainsRune(name, 0):
 		return errors.New("its name has a NUL")
 	}
-	for _, part := range strings.Split(name, "/") {
-		if part == "" || part == "." || part == ".." {
+	for part, behind, is := "", name, true; is; {
+		if part, behind, is = strings.Cut(behind, "/"); part == "" || part == "." || part == ".." {
 			return errors.New("its name has a part that is empty, '.' or '..'")
 		}
 	}

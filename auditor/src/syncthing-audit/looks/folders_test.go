@@ -1,6 +1,7 @@
 package looks
 
 import (
+	"errors"
 	"io"
 	"strings"
 	"testing"
@@ -30,7 +31,7 @@ func TestOneFolderWhoseLooksDoNotGoTogether(t *testing.T) {
 			second.Folders, second.Others = second.Folders[1:], []part.Other{{ID: "docs", Away: "its disk is gone", IsStopped: true}}
 		}, "its disk is gone"},
 		"a new index":        {func(_, second *part.Head) { second.Folders[0].IndexID++ }, "made anew"},
-		"an older index":     {func(_, second *part.Head) { second.Folders[0].Max-- }, "went back"},
+		"an older index":     {func(_, second *part.Head) { second.Folders[0].Max-- }, "went back from change 9 to 8"},
 		"another directory":  {func(_, second *part.Head) { second.Folders[0].Directory = "y" }, "configuration changed"},
 		"another kind":       {func(_, second *part.Head) { second.Folders[0].Kind = "send-only" }, "configuration changed"},
 		"shared with others": {func(_, second *part.Head) { second.Folders[0].Sharing = nil }, "configuration changed"},
@@ -68,7 +69,7 @@ func TestOneFolderWhoseLooksDoNotGoTogether(t *testing.T) {
 		if one.told != "" {
 			expected = expected[1:]
 		}
-		isTold := len(others) == 1 && others[0].ID == "docs" && strings.Contains(others[0].Apart+others[0].Away, one.told)
+		isTold := len(others) == 1 && others[0].ID == "docs" && slices.Equal(others[0].Devices, []string{there}) && strings.Contains(others[0].Apart+others[0].Away, one.told)
 		if !slices.Equal(folders, expected) || names != len(expected) || isTold != (one.told != "") || len(stream.Head().Folders) != len(expected) {
 			t.Errorf("%s: %v, %d names, %v", why, folders, names, others)
 		}
@@ -80,12 +81,14 @@ func TestOthersOfJoinedLooks(t *testing.T) {
 	for why, one := range map[string]struct {
 		others   []part.Other
 		isApart  bool
+		isLater  bool // only the second look has the folder
 		expected []string
 	}{
-		"none":            {[]part.Other{}, false, []string{}},
-		"not told":        {nil, false, nil},
-		"some":            {[]part.Other{{ID: "a"}, {ID: "z"}}, false, []string{"a", "z"}},
-		"one of them out": {[]part.Other{{ID: "a"}, {ID: "z"}}, true, []string{"a", "docs", "z"}},
+		"none":                  {[]part.Other{}, false, false, []string{}},
+		"not told":              {nil, false, false, nil},
+		"some":                  {[]part.Other{{ID: "a"}, {ID: "z"}}, false, false, []string{"a", "z"}},
+		"one of them out":       {[]part.Other{{ID: "a"}, {ID: "z"}}, true, false, []string{"a", "docs", "z"}},
+		"one of them out later": {[]part.Other{{ID: "a"}, {ID: "docs"}}, false, true, []string{"a", "docs"}},
 	} {
 		first, second := firstLook(aFile(unchanged)), secondLook(aFile(unchanged))
 		first.addFolder("pics")
@@ -94,16 +97,48 @@ func TestOthersOfJoinedLooks(t *testing.T) {
 		if one.isApart {
 			second.head.Folders[0].IndexID++
 		}
+		if one.isLater {
+			first.head.Folders = first.head.Folders[1:]
+		}
+		before := text(first.head) + text(second.head)
 		stream, err := Join(first, second)
-		if err != nil {
-			t.Fatal(why, err)
+		if err != nil || text(first.head)+text(second.head) != before {
+			t.Fatal(why, err, first.head, second.head)
 		}
 		var told []string
 		for _, other := range stream.Head().Others {
 			told = append(told, other.ID)
 		}
-		if !slices.Equal(told, one.expected) || (stream.Head().Others == nil) != (one.expected == nil) {
+		isApart := slices.IndexFunc(stream.Head().Others, func(other part.Other) bool { return other.ID == "docs" && other.Apart != "" }) >= 0
+		if !slices.Equal(told, one.expected) || isApart != (one.isApart || one.isLater) || (stream.Head().Others == nil) != (one.expected == nil) {
 			t.Errorf("%s: %v", why, stream.Head().Others)
 		}
+	}
+}
+
+// cutOff is a part that ends in the middle.
+type cutOff struct{ *lines }
+
+var errCutOff = errors.New("it is cut off")
+
+func (c cutOff) Next() (part.Line, error) {
+	line, err := c.lines.Next()
+	if err == io.EOF {
+		err = errCutOff
+	}
+	return line, err
+}
+
+// A look that is cut off in a folder that isn't joined is told as that.
+func TestALookThatIsCutOffInAFolderThatIsOut(t *testing.T) {
+	first, second := firstLook(aFile(unchanged)), secondLook(aFile(unchanged))
+	second.head.Folders[0].IndexID++
+	first.rest = first.rest[:2]
+	stream, err := Join(cutOff{first}, second)
+	if err != nil {
+		t.Fatal(err)
+	}
+	if line, err := stream.Next(); !errors.Is(err, errCutOff) {
+		t.Errorf("%+v, %v", line, err)
 	}
 }

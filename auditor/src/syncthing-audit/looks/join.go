@@ -24,24 +24,24 @@ type reading struct{ *part.Peeking }
 
 // Join joins the two looks at a device. It says why they aren't two looks at one, or what changed that makes them useless.
 func Join(first, second part.Stream) (*Stream, error) {
-	one, other := first.Head(), second.Head()
-	if one.Look == nil || other.Look == nil || !one.Look.IsFirst() || !other.Look.IsSecond() {
+	begun, other := first.Head(), second.Head()
+	if begun.Look == nil || other.Look == nil || !begun.Look.IsFirst() || !other.Look.IsSecond() {
 		return nil, errNoLook
 	}
 	switch {
-	case one.Device != other.Device:
-		return nil, fmt.Errorf("the first look is at device %s, the second one at %s", one.Device, other.Device)
-	case other.Look.After[one.Device] != one.Look.ID:
+	case begun.Device != other.Device:
+		return nil, fmt.Errorf("the first look is at device %s, the second one at %s", begun.Device, other.Device)
+	case other.Look.After[begun.Device] != begun.Look.ID:
 		return nil, fmt.Errorf("its second look has no token of this first look: make the second one anew")
-	case one.Look.Home != other.Look.Home:
+	case begun.Look.Home != other.Look.Home:
 		return nil, fmt.Errorf("the first look is at another home than the second one")
-	case one.Names != other.Names:
-		return nil, fmt.Errorf("the first look is at %s, and the second one at %s: make both with the same %s", one.Names.Words(), other.Names.Words(),
-			one.Unlike(other.Names))
+	case begun.Names != other.Names:
+		return nil, fmt.Errorf("the first look is at %s, and the second one at %s: make both with the same %s", begun.Names.Words(), other.Names.Words(),
+			begun.Unlike(other.Names))
 	}
 	stream := &Stream{first: &reading{part.NewPeeking(first)}, second: &reading{part.NewPeeking(second)}, folder: -1}
-	head := *one
-	head.Look = &part.Look{Home: one.Look.Home, ID: one.Look.ID, After: other.Look.After, At: one.Look.At, Ended: other.Look.At}
+	head := *begun
+	head.Look = &part.Look{Home: begun.Look.Home, ID: begun.Look.ID, After: other.Look.After, At: begun.Look.At, Ended: other.Look.At}
 	stream.head = &head
 	stream.joinFolders()
 	return stream, nil

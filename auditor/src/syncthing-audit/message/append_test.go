@@ -1,8 +1,11 @@
 package message
 
 import (
+	"bytes"
 	"reflect"
 	"testing"
+
+	"google.golang.org/protobuf/encoding/protowire"
 )
 
 // What is appended is read again; a number of 0 and a text of nothing aren't written.
@@ -29,5 +32,17 @@ func TestWhatIsAppended(t *testing.T) {
 	var read []Field
 	if err := Each(made, func(field Field) error { read = append(read, field); return nil }); err != nil || !reflect.DeepEqual(read, due) {
 		t.Errorf("%v, %v, not %v", err, read, due)
+	}
+}
+
+// A message that is appended in place is the same as one that is made first, whatever room its length takes.
+func TestMessagesAreAppendedInPlace(t *testing.T) {
+	for _, length := range []int{0, 1, 127, 128, 16383, 16384} {
+		inner := bytes.Repeat([]byte{7}, length)
+		appended := AppendMessage([]byte("before"), 5, func(to []byte) []byte { return append(to, inner...) })
+		expected := protowire.AppendBytes(protowire.AppendTag([]byte("before"), 5, protowire.BytesType), inner)
+		if !bytes.Equal(appended, expected) {
+			t.Errorf("a message of %d bytes is appended as %x", length, appended)
+		}
 	}
 }

@@ -11,30 +11,39 @@ type Field struct {
 	Text   []byte // a part of the message itself
 }
 
+// Next gives the first field of a message, and what is behind it.
+func Next(message []byte) (field Field, behind []byte, err error) {
+	number, kind, length := protowire.ConsumeTag(message)
+	if length < 0 {
+		return Field{}, nil, protowire.ParseError(length)
+	}
+	message = message[length:]
+	field.Number = number
+	switch kind {
+	case protowire.VarintType:
+		field.Value, length = protowire.ConsumeVarint(message)
+	case protowire.BytesType:
+		field.Text, length = protowire.ConsumeBytes(message)
+	default:
+		length = protowire.ConsumeFieldValue(number, kind, message)
+	}
+	if length < 0 {
+		return Field{}, nil, protowire.ParseError(length)
+	}
+	return field, message[length:], nil
+}
+
 // Each gives the fields of a message one by one, so that a message of very many fields takes no room for them. The first error ends it.
 func Each(message []byte, take func(Field) error) error {
 	for len(message) > 0 {
-		number, kind, length := protowire.ConsumeTag(message)
-		if length < 0 {
-			return protowire.ParseError(length)
+		field, behind, err := Next(message)
+		if err == nil {
+			err = take(field)
 		}
-		message = message[length:]
-		field := Field{Number: number}
-		switch kind {
-		case protowire.VarintType:
-			field.Value, length = protowire.ConsumeVarint(message)
-		case protowire.BytesType:
-			field.Text, length = protowire.ConsumeBytes(message)
-		default:
-			length = protowire.ConsumeFieldValue(number, kind, message)
-		}
-		if length < 0 {
-			return protowire.ParseError(length)
-		}
-		message = message[length:]
-		if err := take(field); err != nil {
+		if err != nil {
 			return err
 		}
+		message = behind
 	}
 	return nil
 }
@@ -53,4 +62,19 @@ func AppendText(to []byte, field protowire.Number, text []byte) []byte {
 		return to
 	}
 	return protowire.AppendBytes(protowire.AppendTag(to, field, protowire.BytesType), text)
+}
+
+// AppendMessage appends a field with a message, which fill appends in turn. One of nothing is written, too: it is there.
+func AppendMessage(to []byte, field protowire.Number, fill func([]byte) []byte) []byte {
+	to = protowire.AppendTag(to, field, protowire.BytesType)
+	begin := len(to)
+	to = fill(to)
+	length := len(to) - begin
+	room := protowire.SizeVarint(uint64(length))
+	for next := 0; next < room; next++ {
+		to = append(to, 0)
+	}
+	copy(to[begin+room:], to[begin:begin+length])
+	protowire.AppendVarint(to[:begin], uint64(length))
+	return to
 }

@@ -31,40 +31,40 @@ const (
 
 // OpenAddresses reads the addresses in a home; there are none before the first run.
 func OpenAddresses(home string) (*Addresses, error) {
-	made := &Addresses{path: filepath.Join(home, nameOfAddresses)}
-	text, _, err := regular.Read(made.path, mostBytesOfAddresses)
+	addresses := &Addresses{path: filepath.Join(home, nameOfAddresses)}
+	text, _, err := regular.Read(addresses.path, mostBytesOfAddresses)
 	if err == nil {
-		if err := json.Unmarshal(text, made); err != nil {
+		if err := json.Unmarshal(text, addresses); err != nil {
 			return nil, fmt.Errorf("%s is damaged (%w): take it away, and give the devices with their addresses once", nameOfAddresses, err)
 		}
 	}
 	if err != nil && !errors.Is(err, fs.ErrNotExist) {
 		return nil, err
 	}
-	if made.Devices == nil {
-		made.Devices = map[string]string{}
+	if addresses.Devices == nil {
+		addresses.Devices = map[string]string{}
 	}
-	if made.Folders == nil {
-		made.Folders = map[string]map[string]bool{}
+	if addresses.Folders == nil {
+		addresses.Folders = map[string]map[string]bool{}
 	}
-	return made, nil
+	return addresses, nil
 }
 
 // Of gives the devices that were asked of one of these folders or, without any, of whichever, rising.
 func (a *Addresses) Of(folders []string) []string {
-	made := []string{}
+	ids := []string{}
 	for folder, devices := range a.Folders {
 		if len(folders) > 0 && !slices.Contains(folders, folder) {
 			continue
 		}
 		for device := range devices {
-			if !slices.Contains(made, device) {
-				made = append(made, device)
+			if !slices.Contains(ids, device) {
+				ids = append(ids, device)
 			}
 		}
 	}
-	sort.Strings(made)
-	return made
+	sort.Strings(ids)
+	return ids
 }
 
 // Add keeps where a device was reached, and that it was asked of a folder. Of one that connected by itself there is no address.

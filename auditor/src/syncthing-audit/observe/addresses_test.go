@@ -10,15 +10,15 @@ import (
 // What is kept is read again, of each folder its own devices; a file that is none is told, and stays.
 func TestAddresses(t *testing.T) {
 	home := t.TempDir()
-	made, err := OpenAddresses(home)
-	if err != nil || len(made.Of([]string{"docs"})) != 0 {
-		t.Fatal(made, err)
+	addresses, err := OpenAddresses(home)
+	if err != nil || len(addresses.Of([]string{"docs"})) != 0 {
+		t.Fatal(addresses, err)
 	}
-	made.Add("docs", "B", "laptop:22000")
-	made.Add("docs", "A", "")
-	made.Add("more", "C", "nas:22000")
-	made.Add("more", "B", "laptop:22000")
-	if err := made.Keep(); err != nil {
+	addresses.Add("docs", "B", "laptop:22000")
+	addresses.Add("docs", "A", "")
+	addresses.Add("more", "C", "nas:22000")
+	addresses.Add("more", "B", "laptop:22000")
+	if err := addresses.Keep(); err != nil {
 		t.Fatal(err)
 	}
 	read, err := OpenAddresses(home)

@@ -38,7 +38,7 @@ type stranger struct {
 
 // recorded gives the record of a file.
 func recorded(name, text string, sequence int64) protocol.FileInfo {
-	made := protocol.FileInfo{Name: name, Type: protocol.FileInfoTypeFile, Size: int64(len(text)), ModifiedS: 1000, ModifiedBy: 7, Permissions: 0o644, Sequence: sequence,
+	file := protocol.FileInfo{Name: name, Type: protocol.FileInfoTypeFile, Size: int64(len(text)), ModifiedS: 1000, ModifiedBy: 7, Permissions: 0o644, Sequence: sequence,
 		Version: protocol.Vector{Counters: []protocol.Counter{{ID: 7, Value: uint64(sequence)}}}}
 	for offset := 0; offset < len(text); offset += protocol.MinBlockSize {
 		block := text[offset:]
@@ -48,9 +48,9 @@ func recorded(name, text string, sequence int64) protocol.FileInfo {
 		sum := sha256.Sum256([]byte(block))
 		info := protocol.BlockInfo{Hash: sum[:], Offset: int64(offset)}
 		adapt.SetNumber(&info.Size, len(block))
-		made.Blocks = append(made.Blocks, info)
+		file.Blocks = append(file.Blocks, info)
 	}
-	return made
+	return file
 }
 
 // meet makes such a device, which takes connections until the test is over, and an observer of it.
@@ -68,17 +68,17 @@ func meet(t *testing.T, records map[string][]protocol.FileInfo, disk map[string]
 		t.Fatal(err)
 	}
 	t.Cleanup(func() { listener.Close() })
-	made := &stranger{id: protocol.NewDeviceID(certificate.Certificate[0]), listener: listener, observer: observer.ID, indexID: 42, records: records, disk: disk, hidden: map[string]bool{}}
+	met := &stranger{id: protocol.NewDeviceID(certificate.Certificate[0]), listener: listener, observer: observer.ID, indexID: 42, records: records, disk: disk, hidden: map[string]bool{}}
 	go func() {
 		for {
 			raw, err := listener.Accept()
 			if err != nil {
 				return
 			}
-			go made.speak(tls.Server(raw, &tls.Config{Certificates: []tls.Certificate{certificate}, ClientAuth: tls.RequireAnyClientCert, NextProtos: []string{"bep/1.0"}, InsecureSkipVerify: true}))
+			go met.speak(tls.Server(raw, &tls.Config{Certificates: []tls.Certificate{certificate}, ClientAuth: tls.RequireAnyClientCert, NextProtos: []string{"bep/1.0"}, InsecureSkipVerify: true}))
 		}
 	}()
-	return made, observer
+	return met, observer
 }
 
 // speak tells the observer all indexes.
@@ -130,9 +130,9 @@ func (s *stranger) since(folder protocol.Folder) (found []protocol.FileInfo, kno
 			known = device.MaxSequence
 		}
 	}
-	for _, one := range s.records[folder.ID] {
-		if one.Sequence > known {
-			found = append(found, one)
+	for _, file := range s.records[folder.ID] {
+		if file.Sequence > known {
+			found = append(found, file)
 		}
 	}
 	return found, known
@@ -151,9 +151,9 @@ func (h hearing) ClusterConfig(_ protocol.DeviceID, config protocol.ClusterConfi
 
 func (s *stranger) last(folder string) int64 {
 	last := int64(0)
-	for _, one := range s.records[folder] {
-		if one.Sequence > last {
-			last = one.Sequence
+	for _, file := range s.records[folder] {
+		if file.Sequence > last {
+			last = file.Sequence
 		}
 	}
 	return last
@@ -296,16 +296,16 @@ func TestADeviceIsAsked(t *testing.T) {
 
 // hashesOf gives the hashes of a text's blocks.
 func hashesOf(text string) [][32]byte {
-	var made [][32]byte
+	var hashes [][32]byte
 	for _, block := range recorded("", text, 1).Blocks {
-		made = append(made, *(*[32]byte)(block.Hash))
+		hashes = append(hashes, *(*[32]byte)(block.Hash))
 	}
-	return made
+	return hashes
 }
 
 // A second look takes no index that was made anew or went back, and leaves out a folder that isn't shared any more.
 func TestASecondLookAtAnotherIndex(t *testing.T) {
-	for why, one := range map[string]struct {
+	for why, row := range map[string]struct {
 		change  func(far *stranger)
 		told    error
 		folders int
@@ -320,7 +320,7 @@ func TestASecondLookAtAnotherIndex(t *testing.T) {
 		device, connection, _ := far.first(t, observer, t.TempDir(), "docs", "pics")
 		connection.Close()
 		far.mutex.Lock()
-		one.change(far)
+		row.change(far)
 		far.mutex.Unlock()
 		room := t.TempDir()
 		again, err := observer.Dial(context.Background(), far.listener.Addr().String(), far.id, wire.Look{Folders: []string{"docs", "pics"},
@@ -329,10 +329,10 @@ func TestASecondLookAtAnotherIndex(t *testing.T) {
 			err = device.End(context.Background(), again)
 			again.Close()
 		}
-		if (one.told == nil) != (err == nil) || one.told != nil && !errors.Is(err, one.told) {
+		if (row.told == nil) != (err == nil) || row.told != nil && !errors.Is(err, row.told) {
 			t.Errorf("%s: %v", why, err)
 		}
-		if err == nil && (len(device.Folders) != one.folders || (device.Out["docs"] != nil) != (one.folders < 2)) {
+		if err == nil && (len(device.Folders) != row.folders || (device.Out["docs"] != nil) != (row.folders < 2)) {
 			t.Errorf("%s: %d folders, %v", why, len(device.Folders), device.Out)
 		}
 	}

@@ -24,24 +24,24 @@ var deleted = message.AppendNumber(nil, 6, 1)
 
 // folders gives a device with these folders, each of which has three files of three bytes, one of them deleted.
 func folders(t *testing.T, ids ...string) *Device {
-	made := &Device{ID: protocol.DeviceID{0: 1, 7: 1}, Out: map[string]error{}}
+	device := &Device{ID: protocol.DeviceID{0: 1, 7: 1}, Out: map[string]error{}}
 	for _, id := range ids {
-		made.Folders = append(made.Folders, seenIn(t, id, map[string][]byte{"a": fileOf("a", 1, true), "b": fileOf("b", 2, true), "c": fileOf("c", 3, true, deleted...)}))
+		device.Folders = append(device.Folders, seenIn(t, id, map[string][]byte{"a": fileOf("a", 1, true), "b": fileOf("b", 2, true), "c": fileOf("c", 3, true, deleted...)}))
 	}
-	return made
+	return device
 }
 
 // How many bytes will be asked for is the sum of what is recorded of the names that are asked for, of all folders; none where records alone are.
 func TestHowManyBytesAreWanted(t *testing.T) {
 	device := folders(t, "docs", "pics")
-	for _, one := range []struct {
+	for _, row := range []struct {
 		asked Asked
 		bytes int64
 	}{
 		{Asked{}, 12}, {Asked{Records: true}, 0}, {Asked{Names: choice.Names{Prefix: "b"}}, 6}, {Asked{Names: choice.Names{Prefix: "c"}}, 0}, {Asked{Names: choice.Names{Prefix: "none"}}, 0},
 	} {
-		if bytes, err := device.Wanted(one.asked); err != nil || bytes != one.bytes {
-			t.Errorf("%+v: %d bytes, not %d: %v", one.asked, bytes, one.bytes, err)
+		if bytes, err := device.Wanted(row.asked); err != nil || bytes != row.bytes {
+			t.Errorf("%+v: %d bytes, not %d: %v", row.asked, bytes, row.bytes, err)
 		}
 	}
 	if names := device.Folders[0].names; names != 3 {
@@ -118,7 +118,7 @@ func TestWhatIsOutAtTheSecondLook(t *testing.T) {
 
 // Where nothing is seen of a device that is for the folder that is encrypted, the first by its id, if there is one.
 func TestWhyNothingIsSeen(t *testing.T) {
-	for place, one := range []struct {
+	for place, row := range []struct {
 		out  map[string]error
 		told string
 	}{
@@ -126,13 +126,13 @@ func TestWhyNothingIsSeen(t *testing.T) {
 		{map[string]error{"a": errors.New("paused"), "b": wire.EncryptedFolder}, `folder "b": ` + wire.EncryptedFolder.Error()},
 		{map[string]error{"c": wire.EncryptedFolder, "b": wire.EncryptedFolder, "d": wire.EncryptedFolder}, `folder "b": ` + wire.EncryptedFolder.Error()},
 	} {
-		if err := (&Device{Out: one.out}).whyNone(); err == nil || err.Error() != one.told {
-			t.Errorf("%d: %v, not %s", place, err, one.told)
+		if err := (&Device{Out: row.out}).whyNone(); err == nil || err.Error() != row.told {
+			t.Errorf("%d: %v, not %s", place, err, row.told)
 		}
 	}
-	made, err := Begin(context.Background(), &wire.Connection{Out: map[string]error{"a": wire.EncryptedFolder}}, nil, t.TempDir())
-	if made != nil || !errors.Is(err, wire.EncryptedFolder) {
-		t.Errorf("%v, %v", made, err)
+	device, err := Begin(context.Background(), &wire.Connection{Out: map[string]error{"a": wire.EncryptedFolder}}, nil, t.TempDir())
+	if device != nil || !errors.Is(err, wire.EncryptedFolder) {
+		t.Errorf("%v, %v", device, err)
 	}
 }
 
@@ -148,30 +148,30 @@ func TestNothingToCompare(t *testing.T) {
 
 // What was found of a name is had once it was put, and nothing of any other.
 func TestWhatIsKeptOfDisks(t *testing.T) {
-	made, err := newDisks(t.TempDir())
+	disks, err := newDisks(t.TempDir())
 	if err != nil {
 		t.Fatal(err)
 	}
-	defer made.close()
+	defer disks.close()
 	node := &part.Node{Size: 3, ModifiedS: 7}
-	if err := made.put("a", disk{Node: node}); err != nil {
+	if err := disks.put("a", disk{Node: node}); err != nil {
 		t.Fatal(err)
 	}
-	if err := made.db.Put([]byte("odd"), []byte("{"), nil); err != nil {
+	if err := disks.db.Put([]byte("odd"), []byte("{"), nil); err != nil {
 		t.Fatal(err)
 	}
 	for name, due := range map[string]bool{"a": true, "b": false, "": false, "a/b": false} {
-		if found, is, err := made.get(name); err != nil || is != due || (found.Node != nil) != due || due && found.Node.ModifiedS != 7 {
+		if found, is, err := disks.get(name); err != nil || is != due || (found.Node != nil) != due || due && found.Node.ModifiedS != 7 {
 			t.Errorf("%q: %+v, %v, %v", name, found, is, err)
 		}
 	}
-	if found, _, err := made.get("odd"); err == nil {
+	if found, _, err := disks.get("odd"); err == nil {
 		t.Errorf("%+v", found)
 	}
-	if err := made.put("c", disk{}); err != nil {
+	if err := disks.put("c", disk{}); err != nil {
 		t.Fatal(err)
 	}
-	if _, is, err := made.get("c"); err != nil || !is {
+	if _, is, err := disks.get("c"); err != nil || !is {
 		t.Errorf("a name of which nothing was found: %v, %v", is, err)
 	}
 }
@@ -190,7 +190,7 @@ func TestWhatABudgetChooses(t *testing.T) {
 		t.Fatal(err)
 	}
 	defer plan.Close()
-	for _, one := range []struct {
+	for _, row := range []struct {
 		names  choice.Names
 		chosen *budget.Plan
 		told   string
@@ -198,7 +198,7 @@ func TestWhatABudgetChooses(t *testing.T) {
 	}{
 		{choice.Names{}, nil, "a b c", 6}, {choice.Names{}, plan, "a c", 3}, {choice.Names{Prefix: "b"}, plan, "", 0}, {choice.Names{Prefix: "b"}, nil, "b", 3}, {choice.Names{Prefix: "c"}, plan, "c", 0},
 	} {
-		asked := Asked{Names: one.names, Chosen: one.chosen}
+		asked := Asked{Names: row.names, Chosen: row.chosen}
 		var told []string
 		err := folder.index.Each(func(entry entries.Entry) error {
 			is, err := asked.wants("docs")(entry)
@@ -207,8 +207,8 @@ func TestWhatABudgetChooses(t *testing.T) {
 			}
 			return err
 		})
-		if bytes, wanted := device.Wanted(asked); err != nil || wanted != nil || strings.Join(told, " ") != one.told || bytes != one.bytes {
-			t.Errorf("%+v: %q, %d bytes: %v, %v", one, told, bytes, err, wanted)
+		if bytes, wanted := device.Wanted(asked); err != nil || wanted != nil || strings.Join(told, " ") != row.told || bytes != row.bytes {
+			t.Errorf("%+v: %q, %d bytes: %v, %v", row, told, bytes, err, wanted)
 		}
 	}
 	if err := folder.disks.put("a", disk{Node: &part.Node{Size: 3}}); err != nil {
@@ -231,7 +231,7 @@ func TestWhatABudgetChooses(t *testing.T) {
 // A version that a device tells in letters is read, or is none: of an unknown device, of no value, of too great a value, or of one device twice.
 func TestVersionsInLetters(t *testing.T) {
 	devices := map[string]uint64{"AAAAAAA": 7, "BBBBBBB": 3, "CCCCCCC": 0}
-	for _, one := range []struct {
+	for _, row := range []struct {
 		counters []string
 		due      part.Version
 	}{
@@ -240,8 +240,8 @@ func TestVersionsInLetters(t *testing.T) {
 		{[]string{"AAAAAAA"}, nil}, {[]string{"CCCCCCC:1"}, nil}, {[]string{"DDDDDDD:1"}, nil}, {[]string{"AAAAAAA:1", "AAAAAAA:2"}, nil}, {[]string{"BBBBBBB:2", "AAAAAAA:1", "AAAAAAA:1"}, nil},
 		{[]string{"AAAAAAA:1", "DDDDDDD:1"}, nil},
 	} {
-		if read := versionOf(one.counters, devices); !reflect.DeepEqual(read, one.due) {
-			t.Errorf("%q: %v, not %v", one.counters, read, one.due)
+		if read := versionOf(row.counters, devices); !reflect.DeepEqual(read, row.due) {
+			t.Errorf("%q: %v, not %v", row.counters, read, row.due)
 		}
 	}
 }
@@ -271,22 +271,22 @@ func TestWhoHasWhatIsKept(t *testing.T) {
 
 // A device is known by the first letters of its id, but where two begin alike: of these nobody knows which is meant.
 func TestDevicesByTheirFirstLetters(t *testing.T) {
-	one, alike, other := protocol.DeviceID{0: 1, 7: 1}, protocol.DeviceID{0: 1, 7: 2}, protocol.DeviceID{0: 9}
+	first, alike, other := protocol.DeviceID{0: 1, 7: 1}, protocol.DeviceID{0: 1, 7: 2}, protocol.DeviceID{0: 9}
 	letters := func(id protocol.DeviceID) string { return id.String()[:lettersOfShort] }
-	if letters(one) != letters(alike) || part.Number(one.String()) == part.Number(alike.String()) {
+	if letters(first) != letters(alike) || part.Number(first.String()) == part.Number(alike.String()) {
 		t.Fatal("they don't begin alike")
 	}
 	for place, row := range []struct {
 		sharing []protocol.DeviceID
 		known   []protocol.DeviceID
 		due     uint64
-	}{{nil, nil, part.Number(one.String())}, {nil, []protocol.DeviceID{one}, part.Number(one.String())}, {[]protocol.DeviceID{one, other}, []protocol.DeviceID{other, one}, part.Number(one.String())},
-		{[]protocol.DeviceID{alike}, nil, 0}, {nil, []protocol.DeviceID{alike}, 0}, {[]protocol.DeviceID{alike, one}, []protocol.DeviceID{one}, 0}} {
-		folder := &Folder{of: one}
+	}{{nil, nil, part.Number(first.String())}, {nil, []protocol.DeviceID{first}, part.Number(first.String())}, {[]protocol.DeviceID{first, other}, []protocol.DeviceID{other, first}, part.Number(first.String())},
+		{[]protocol.DeviceID{alike}, nil, 0}, {nil, []protocol.DeviceID{alike}, 0}, {[]protocol.DeviceID{alike, first}, []protocol.DeviceID{first}, 0}} {
+		folder := &Folder{of: first}
 		for _, id := range row.sharing {
 			folder.said.Devices = append(folder.said.Devices, wire.Sharing{Device: id})
 		}
-		if numbers := folder.devicesByLetters(row.known); numbers[letters(one)] != row.due || len(row.sharing) == 2 && row.sharing[1] == other && numbers[letters(other)] != part.Number(other.String()) {
+		if numbers := folder.devicesByLetters(row.known); numbers[letters(first)] != row.due || len(row.sharing) == 2 && row.sharing[1] == other && numbers[letters(other)] != part.Number(other.String()) {
 			t.Errorf("%d: %v", place, numbers)
 		}
 	}

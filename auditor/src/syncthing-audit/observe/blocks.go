@@ -11,17 +11,17 @@ import (
 // walk of its disks cuts files into these, too: it knows no index.
 func (d *Device) OtherBlockSizes() ([]int64, error) {
 	has := map[int64]bool{}
-	for _, one := range d.Folders {
-		if err := one.addBlockSizes(has); err != nil {
+	for _, folder := range d.Folders {
+		if err := folder.addBlockSizes(has); err != nil {
 			return nil, err
 		}
 	}
-	made := []int64{}
+	sizes := []int64{}
 	for size := range has {
-		made = append(made, size)
+		sizes = append(sizes, size)
 	}
-	sort.Slice(made, func(a, b int) bool { return made[a] < made[b] })
-	return made, nil
+	sort.Slice(sizes, func(a, b int) bool { return sizes[a] < sizes[b] })
+	return sizes, nil
 }
 
 // addBlockSizes adds those of a folder.

@@ -10,17 +10,17 @@ import (
 
 // filesIn gives the files below a directory.
 func filesIn(t *testing.T, directory string) []string {
-	made := []string{}
+	words := []string{}
 	err := filepath.Walk(directory, func(path string, about os.FileInfo, err error) error {
 		if err == nil && about.Mode().IsRegular() {
-			made = append(made, path)
+			words = append(words, path)
 		}
 		return err
 	})
 	if err != nil {
 		t.Fatal(err)
 	}
-	return made
+	return words
 }
 
 // A kept index that a disk damaged keeps no run from a device, and crashes or hangs none. What couldn't be read is told, and the next run keeps one again.

@@ -43,20 +43,20 @@ var errWentBack = errors.New("its index was made anew or went back between the l
 
 // Begin begins the first look at a device on a connection: it takes all its indexes, which go into the next ones that are kept.
 func Begin(ctx context.Context, connection *wire.Connection, kept func(folder string) *Kept, room string) (*Device, error) {
-	made := &Device{ID: connection.Device, Hello: connection.Hello, Out: map[string]error{}}
+	device := &Device{ID: connection.Device, Hello: connection.Hello, Out: map[string]error{}}
 	for id, why := range connection.Out {
-		made.Out[id] = why
+		device.Out[id] = why
 	}
-	for _, one := range connection.Folders {
-		if err := made.beginFolder(ctx, one, kept(one.ID), room); err != nil {
-			made.Close()
-			return nil, inFolder(one.ID, err)
+	for _, shared := range connection.Folders {
+		if err := device.beginFolder(ctx, shared, kept(shared.ID), room); err != nil {
+			device.Close()
+			return nil, inFolder(shared.ID, err)
 		}
 	}
-	if len(made.Folders) == 0 {
-		return nil, made.whyNone()
+	if len(device.Folders) == 0 {
+		return nil, device.whyNone()
 	}
-	return made, nil
+	return device, nil
 }
 
 // beginFolder begins the first look at a folder. Of one that is encrypted there, and of which no password is given, names and bytes are counted.
@@ -90,9 +90,9 @@ func (d *Device) whyNone() error {
 
 // Read ends the first look: it asks for the bytes, on the same connection. It calls read with how many it has read.
 func (d *Device) Read(ctx context.Context, connection *wire.Connection, asked Asked, read func(bytes int64)) error {
-	for _, one := range d.Folders {
-		if err := one.read(ctx, connection.Shared(one.ID()), asked, read); err != nil {
-			return inFolder(one.ID(), err)
+	for _, folder := range d.Folders {
+		if err := folder.read(ctx, connection.Shared(folder.ID()), asked, read); err != nil {
+			return inFolder(folder.ID(), err)
 		}
 	}
 	d.first = time.Now().UTC()
@@ -101,15 +101,15 @@ func (d *Device) Read(ctx context.Context, connection *wire.Connection, asked As
 
 // Wanted gives how many bytes will be asked for.
 func (d *Device) Wanted(asked Asked) (int64, error) {
-	made := int64(0)
-	for _, one := range d.Folders {
-		bytes, err := one.wanted(asked)
+	sum := int64(0)
+	for _, folder := range d.Folders {
+		bytes, err := folder.wanted(asked)
 		if err != nil {
-			return 0, inFolder(one.ID(), err)
+			return 0, inFolder(folder.ID(), err)
 		}
-		made = part.Sum(made, bytes)
+		sum = part.Sum(sum, bytes)
 	}
-	return made, nil
+	return sum, nil
 }
 
 // inFolder says in which folder something failed.
@@ -117,8 +117,8 @@ func inFolder(id string, err error) error { return fmt.Errorf("folder %q: %w", i
 
 // Close lets go of what was found.
 func (d *Device) Close() {
-	for _, one := range d.Folders {
-		one.disks.close()
+	for _, folder := range d.Folders {
+		folder.disks.close()
 	}
 	if d.room != "" {
 		os.RemoveAll(d.room)
@@ -138,11 +138,11 @@ func (d *Device) Since(room, folder string) (*wire.Index, error) {
 	if err != nil {
 		return nil, err
 	}
-	made, err := wire.OpenIndex(directory)
+	index, err := wire.OpenIndex(directory)
 	if first := d.Folder(folder); err == nil && first != nil {
-		made.ID, made.Highest = first.index.ID, first.index.Highest
+		index.ID, index.Highest = first.index.ID, first.index.Highest
 	}
-	return made, err
+	return index, err
 }
 
 // Folder gives the folder of this id, or nothing.
@@ -161,18 +161,18 @@ func (d *Device) End(ctx context.Context, connection *wire.Connection) error {
 		return fmt.Errorf("another device, %s", connection.Device)
 	}
 	kept := d.Folders[:0:0]
-	for _, one := range d.Folders {
-		id := one.ID()
+	for _, folder := range d.Folders {
+		id := folder.ID()
 		again := connection.Shared(id)
 		if again == nil {
 			d.Out[id] = fmt.Errorf("at the second look: %w", whyOut(connection, id))
-			one.disks.close()
+			folder.disks.close()
 			continue
 		}
-		if err := one.end(ctx, again); err != nil {
+		if err := folder.end(ctx, again); err != nil {
 			return inFolder(id, err)
 		}
-		kept = append(kept, one)
+		kept = append(kept, folder)
 	}
 	if d.Folders = kept; len(kept) == 0 {
 		return wire.NotShared

@@ -24,15 +24,15 @@ type Walked struct {
 }
 
 // Walk takes a name as the walk found it. Of a file with another time or size than recorded nobody asks: it waits for a scan.
-func (w *Walked) Walk(of *Folder, one *part.Name) error {
-	if one.Disk == nil || len(one.Disk.Contents) == 0 || len(one.Out)+len(one.Moved) > 0 || len(w.found) == mostDiffering {
+func (w *Walked) Walk(of *Folder, name *part.Name) error {
+	if name.Disk == nil || len(name.Disk.Contents) == 0 || len(name.Out)+len(name.Moved) > 0 || len(w.found) == mostDiffering {
 		return nil
 	}
-	entry, is, err := of.index.Get(string(one.Name))
-	if err != nil || !is || entry.Record == nil || entry.Record.Content == nil || entry.Record.Content.Size != one.Disk.Size || entry.Record.ModifiedS != one.Disk.ModifiedS {
+	entry, is, err := of.index.Get(string(name.Name))
+	if err != nil || !is || entry.Record == nil || entry.Record.Content == nil || entry.Record.Content.Size != name.Disk.Size || entry.Record.ModifiedS != name.Disk.ModifiedS {
 		return err
 	}
-	for _, found := range one.Disk.Contents {
+	for _, found := range name.Disk.Contents {
 		isThat := found.BlockSize == entry.Record.Content.BlockSize && found.Hash != entry.Record.Content.Hash
 		if isThat && w.bytes+found.Size <= mostBytesOfDiffering {
 			if w.found == nil {
@@ -47,13 +47,13 @@ func (w *Walked) Walk(of *Folder, one *part.Name) error {
 
 // Compare asks, on the connection of the second look, which blocks of these files differ. What comes is taken only where it is what the walk found.
 func (d *Device) Compare(ctx context.Context, connection *wire.Connection, walked []*Walked) error {
-	for _, one := range walked {
-		folder, shared := d.Folder(one.Folder), connection.Shared(one.Folder)
-		if folder == nil || shared == nil || len(one.found) == 0 {
+	for _, walk := range walked {
+		folder, shared := d.Folder(walk.Folder), connection.Shared(walk.Folder)
+		if folder == nil || shared == nil || len(walk.found) == 0 {
 			continue
 		}
-		if err := folder.compare(ctx, shared, one.found); err != nil {
-			return inFolder(one.Folder, err)
+		if err := folder.compare(ctx, shared, walk.found); err != nil {
+			return inFolder(walk.Folder, err)
 		}
 	}
 	return nil

@@ -24,18 +24,18 @@ func TestWhatIsAskedForAfterAWalk(t *testing.T) {
 		recorded[name] = entry.Record.Content.Hash
 	}
 	found := func(name string, change func(*part.Name)) *part.Name {
-		made := &part.Name{Name: part.Bytes(name), Disk: &part.Node{Size: 3, Contents: []part.Content{{Size: 3, BlockSize: protocol.MinBlockSize, Hash: part.Hash{9}}}}}
-		change(made)
-		return made
+		file := &part.Name{Name: part.Bytes(name), Disk: &part.Node{Size: 3, Contents: []part.Content{{Size: 3, BlockSize: protocol.MinBlockSize, Hash: part.Hash{9}}}}}
+		change(file)
+		return file
 	}
 	walked := &Walked{Folder: "docs"}
-	for _, one := range []*part.Name{
+	for _, name := range []*part.Name{
 		found("rot", func(*part.Name) {}), found("same", func(n *part.Name) { n.Disk.Contents[0].Hash = recorded["same"] }), found("edited", func(n *part.Name) { n.Disk.ModifiedS = 7 }),
 		found("longer", func(n *part.Name) { n.Disk.Size = 4 }), found("moved", func(n *part.Name) { n.Moved = []string{part.MovedDisk} }),
 		found("out", func(n *part.Name) { n.Out = []part.LeftOut{{Kind: part.Unreadable}} }), found("cut otherwise", func(n *part.Name) { n.Disk.Contents[0].BlockSize *= 2 }),
 		found("new", func(*part.Name) {}), {Name: "missing"},
 	} {
-		if err := walked.Walk(folder, one); err != nil {
+		if err := walked.Walk(folder, name); err != nil {
 			t.Fatal(err)
 		}
 	}

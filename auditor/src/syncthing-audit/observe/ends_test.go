@@ -18,18 +18,18 @@ import (
 
 // cutFile gives a record of a file of so many bytes in blocks of a size, as it is sent.
 func cutFile(name string, sequence uint64, size, blockSize int64) []byte {
-	made := message.AppendNumber(message.AppendText(nil, 1, []byte(name)), 3, uint64(size))
-	made = message.AppendText(made, 9, message.AppendText(nil, 1, message.AppendNumber(message.AppendNumber(nil, 1, 1), 2, 1)))
-	made = message.AppendNumber(message.AppendNumber(message.AppendNumber(made, 10, sequence), 12, 1), 13, uint64(blockSize))
+	text := message.AppendNumber(message.AppendText(nil, 1, []byte(name)), 3, uint64(size))
+	text = message.AppendText(text, 9, message.AppendText(nil, 1, message.AppendNumber(message.AppendNumber(nil, 1, 1), 2, 1)))
+	text = message.AppendNumber(message.AppendNumber(message.AppendNumber(text, 10, sequence), 12, 1), 13, uint64(blockSize))
 	for offset := int64(0); offset < size; offset += blockSize {
 		length := size - offset
 		if length > blockSize {
 			length = blockSize
 		}
 		block := message.AppendNumber(message.AppendNumber(nil, 1, uint64(offset)), 2, uint64(length))
-		made = message.AppendText(made, 16, message.AppendText(block, 3, make([]byte, 32)))
+		text = message.AppendText(text, 16, message.AppendText(block, 3, make([]byte, 32)))
 	}
-	return made
+	return text
 }
 
 // A walk of disks is told the sizes of blocks that its files are cut into otherwise than by their length, rising, of all folders: where one block or
@@ -49,12 +49,12 @@ func TestTheOtherSizesOfBlocks(t *testing.T) {
 		"no size that Syncthing cuts into":  {900 * kilo, 300 * kilo, false},
 		"much larger blocks of a long file": {3000 * kilo, 1024 * kilo, true},
 	} {
-		made := seen(t, map[string][]byte{"a": cutFile("a", 1, row.size, row.blockSize), "d": fileOf("d", 2, false, message.AppendNumber(nil, 6, 1)...)})
+		device := seen(t, map[string][]byte{"a": cutFile("a", 1, row.size, row.blockSize), "d": fileOf("d", 2, false, message.AppendNumber(nil, 6, 1)...)})
 		expected := []int64{}
 		if row.is {
 			expected = append(expected, row.blockSize)
 		}
-		if sizes, err := made.OtherBlockSizes(); err != nil || !reflect.DeepEqual(sizes, expected) {
+		if sizes, err := device.OtherBlockSizes(); err != nil || !reflect.DeepEqual(sizes, expected) {
 			t.Errorf("%s: %v, not %v: %v", why, sizes, expected, err)
 		}
 	}
@@ -124,22 +124,22 @@ func TestASecondLookWithoutAFolder(t *testing.T) {
 
 // An address is kept for as many devices as there are, and for no more; one that isn't known takes none away.
 func TestHowManyAddressesAreKept(t *testing.T) {
-	made, err := OpenAddresses(t.TempDir())
+	addresses, err := OpenAddresses(t.TempDir())
 	if err != nil {
 		t.Fatal(err)
 	}
 	for number := 0; number < mostAddresses+2; number++ {
-		made.Add("docs", fmt.Sprint(number), "host:1")
+		addresses.Add("docs", fmt.Sprint(number), "host:1")
 	}
-	made.Add("docs", "0", "")
-	if len(made.Devices) != mostAddresses || len(made.Of([]string{"docs"})) != mostAddresses || made.Devices["0"] != "host:1" {
-		t.Errorf("%d, %q", len(made.Devices), made.Devices["0"])
+	addresses.Add("docs", "0", "")
+	if len(addresses.Devices) != mostAddresses || len(addresses.Of([]string{"docs"})) != mostAddresses || addresses.Devices["0"] != "host:1" {
+		t.Errorf("%d, %q", len(addresses.Devices), addresses.Devices["0"])
 	}
-	if err := made.Keep(); err != nil {
+	if err := addresses.Keep(); err != nil {
 		t.Fatal(err)
 	}
-	made.path = filepath.Join(t.TempDir(), "none", "x")
-	if made.Keep() == nil {
+	addresses.path = filepath.Join(t.TempDir(), "none", "x")
+	if addresses.Keep() == nil {
 		t.Error("addresses are kept in no directory")
 	}
 }

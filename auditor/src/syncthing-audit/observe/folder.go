@@ -43,19 +43,19 @@ func (f *Folder) Place(names choice.Names) budget.Place {
 
 // beginFolder takes the index of a folder, and compares it with the one of the last run.
 func beginFolder(ctx context.Context, shared *wire.Shared, kept *Kept, room string, of protocol.DeviceID) (*Folder, error) {
-	made := &Folder{of: of, said: shared.Folder, isOpened: shared.IsOpened()}
+	folder := &Folder{of: of, said: shared.Folder, isOpened: shared.IsOpened()}
 	var err error
-	if made.index, err = shared.Index(ctx); err != nil {
+	if folder.index, err = shared.Index(ctx); err != nil {
 		return nil, err
 	}
-	if made.wentBack, err = kept.WentBackFrom(); err != nil {
+	if folder.wentBack, err = kept.WentBackFrom(); err != nil {
 		return nil, err
 	}
-	if err = made.count(); err != nil {
+	if err = folder.count(); err != nil {
 		return nil, err
 	}
-	made.disks, err = newDisks(room)
-	return made, err
+	folder.disks, err = newDisks(room)
+	return folder, err
 }
 
 // wants gives what says whether an entry's bytes are asked for.
@@ -70,19 +70,19 @@ func (a *Asked) wants(folder string) func(entry device.Entry) (bool, error) {
 
 // wanted gives how many bytes are asked for.
 func (f *Folder) wanted(asked Asked) (int64, error) {
-	made := int64(0)
+	sum := int64(0)
 	if asked.Records {
-		return made, nil
+		return sum, nil
 	}
 	isWanted := asked.wants(f.ID())
 	err := f.index.Each(func(entry device.Entry) error {
 		is, err := isWanted(entry)
 		if is && budget.HasBytes(entry) {
-			made = part.Sum(made, entry.Record.Content.Size)
+			sum = part.Sum(sum, entry.Record.Content.Size)
 		}
 		return err
 	})
-	return made, err
+	return sum, err
 }
 
 // read asks for the bytes of a folder, if they are wanted.

@@ -12,59 +12,59 @@ import (
 
 // head gives the head of a device's part. Of its other folders a device tells nothing, but of those that it shares with the observer.
 func (d *Device) head(asked Asked, observer protocol.DeviceID, look string, devices []*Device) *part.Head {
-	made := &part.Head{Device: d.ID.String(), Name: d.Hello.Name, Runs: d.Hello.Version, Made: time.Now().UTC().Truncate(time.Second), Names: asked.Names,
+	head := &part.Head{Device: d.ID.String(), Name: d.Hello.Name, Runs: d.Hello.Version, Made: time.Now().UTC().Truncate(time.Second), Names: asked.Names,
 		Look: &part.Look{Home: "over the wire", ID: look, After: map[string]string{}, At: d.first, Ended: d.again},
 		Wire: part.NewWire(observer.String(), asked.Records)}
-	made.Wire.Half, made.Wire.IsPartial = d.Half, asked.Chosen != nil
-	for _, one := range d.Folders {
-		made.Folders = append(made.Folders, one.head(observer))
-		if one.wentBack > made.Wire.WentBackFrom {
-			made.Wire.WentBackFrom = one.wentBack
+	head.Wire.Half, head.Wire.IsPartial = d.Half, asked.Chosen != nil
+	for _, folder := range d.Folders {
+		head.Folders = append(head.Folders, folder.head(observer))
+		if folder.wentBack > head.Wire.WentBackFrom {
+			head.Wire.WentBackFrom = folder.wentBack
 		}
 	}
 	for id, why := range d.Out {
-		made.Wire.Without = append(made.Wire.Without, part.Without{Folder: id, Why: why.Error(), IsEncrypted: errors.Is(why, wire.EncryptedFolder)})
+		head.Wire.Without = append(head.Wire.Without, part.Without{Folder: id, Why: why.Error(), IsEncrypted: errors.Is(why, wire.EncryptedFolder)})
 	}
-	sort.Slice(made.Wire.Without, func(a, b int) bool { return made.Wire.Without[a].Folder < made.Wire.Without[b].Folder })
-	for _, one := range devices {
-		made.Look.After[one.ID.String()] = look
+	sort.Slice(head.Wire.Without, func(a, b int) bool { return head.Wire.Without[a].Folder < head.Wire.Without[b].Folder })
+	for _, device := range devices {
+		head.Look.After[device.ID.String()] = look
 	}
-	if made.IsAsked() && len(made.Folders) > 0 {
-		made.Wire.WithoutAsked()
+	if head.IsAsked() && len(head.Folders) > 0 {
+		head.Wire.WithoutAsked()
 	}
-	made.Version = made.DueVersion()
-	return made
+	head.Version = head.DueVersion()
+	return head
 }
 
 // head gives what a part says of a folder at a device. Its own index is that of both looks. What it has of others is that of the first look, and Heard
 // is what it had at the second one.
 func (f *Folder) head(observer protocol.DeviceID) part.Folder {
-	made := part.Folder{ID: f.said.ID, Label: f.said.Label, Kind: f.kind(), Directory: "over the wire: " + f.of.String(), IndexID: f.index.ID, Max: f.since.Highest,
+	folder := part.Folder{ID: f.said.ID, Label: f.said.Label, Kind: f.kind(), Directory: "over the wire: " + f.of.String(), IndexID: f.index.ID, Max: f.since.Highest,
 		IgnoresPermissions: f.said.IgnoresPermissions, Sharing: []part.Sharing{}, Views: []part.View{}, Indexed: f.names, WentBackFrom: f.wentBack, IsOpened: f.isOpened}
-	for _, one := range f.said.Devices {
-		if one.Device == f.of || one.Device == observer {
+	for _, sharing := range f.said.Devices {
+		if sharing.Device == f.of || sharing.Device == observer {
 			continue
 		}
-		made.Sharing = append(made.Sharing, part.Sharing{Device: one.Device.String(), Name: one.Name, Encrypted: one.Encrypted})
-		if one.IndexID != 0 {
-			made.Views = append(made.Views, f.view(one))
+		folder.Sharing = append(folder.Sharing, part.Sharing{Device: sharing.Device.String(), Name: sharing.Name, Encrypted: sharing.Encrypted})
+		if sharing.IndexID != 0 {
+			folder.Views = append(folder.Views, f.view(sharing))
 		}
 	}
-	sort.Slice(made.Sharing, func(a, b int) bool { return made.Sharing[a].Device < made.Sharing[b].Device })
-	sort.Slice(made.Views, func(a, b int) bool { return made.Views[a].Device < made.Views[b].Device })
+	sort.Slice(folder.Sharing, func(a, b int) bool { return folder.Sharing[a].Device < folder.Sharing[b].Device })
+	sort.Slice(folder.Views, func(a, b int) bool { return folder.Views[a].Device < folder.Views[b].Device })
 	if f.told != nil { // it fits, as Tell saw
-		_ = made.TakeConfigured(f.told)
+		_ = folder.TakeConfigured(f.told)
 	}
-	return made
+	return folder
 }
 
 // view gives what the device has of another one's index.
 func (f *Folder) view(of wire.Sharing) part.View {
-	made := part.View{Device: of.Device.String(), IndexID: of.IndexID, Max: of.Sequence}
+	view := part.View{Device: of.Device.String(), IndexID: of.IndexID, Max: of.Sequence}
 	if later, is := f.heard.Of(of.Device); is && later.IndexID == of.IndexID {
-		made.Heard = later.Sequence
+		view.Heard = later.Sequence
 	}
-	return made
+	return view
 }
 
 // kind gives a folder's kind, as far as it is seen: that a folder only receives shows by its local changes alone.

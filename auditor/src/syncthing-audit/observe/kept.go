@@ -41,19 +41,19 @@ func OpenKept(directory string) (*Kept, error) {
 	if err != nil {
 		return nil, err
 	}
-	made := &Kept{directory: directory, lock: lock}
+	kept := &Kept{directory: directory, lock: lock}
 	err = syscall.Flock(int(lock.Fd()), syscall.LOCK_EX|syscall.LOCK_NB)
 	if errors.Is(err, syscall.EWOULDBLOCK) {
 		err = ErrBusy
 	}
 	if err == nil {
-		err = made.open()
+		err = kept.open()
 	}
 	if err != nil {
-		made.Close()
+		kept.Close()
 		return nil, fmt.Errorf("the index that is kept in %s: %w", directory, err)
 	}
-	return made, nil
+	return kept, nil
 }
 
 func (k *Kept) path(name string) string { return filepath.Join(k.directory, name) }

@@ -30,7 +30,7 @@ func run(t *testing.T, directory string, records ...[]byte) int64 {
 // A device that gives sequences anew went back, also where its index goes as far as before or further.
 func TestWentBack(t *testing.T) {
 	a1, b2, b3, c2, c4 := fileOf("a", 1, true), fileOf("b", 2, true), fileOf("b", 3, true), fileOf("c", 2, true), fileOf("c", 4, true)
-	for _, one := range []struct {
+	for _, row := range []struct {
 		what    string
 		records [][]byte
 		from    int64
@@ -42,8 +42,8 @@ func TestWentBack(t *testing.T) {
 		if from := run(t, directory, a1, b2); from != 0 {
 			t.Errorf("a first run: from %d", from)
 		}
-		if from := run(t, directory, one.records...); from != one.from {
-			t.Errorf("%s: from %d, and not %d", one.what, from, one.from)
+		if from := run(t, directory, row.records...); from != row.from {
+			t.Errorf("%s: from %d, and not %d", row.what, from, row.from)
 		}
 	}
 }

@@ -15,15 +15,15 @@ import (
 // Of a local change its device's own Syncthing says the version, by the beginnings of the ids of devices that are known. Where that isn't understood, or
 // of another record, none is taken.
 func TestVersionsOfLocalChanges(t *testing.T) {
-	one, two := protocol.DeviceID{7: 1}, protocol.DeviceID{1: 200, 7: 2}
+	id, two := protocol.DeviceID{7: 1}, protocol.DeviceID{1: 200, 7: 2}
 	short := func(of protocol.DeviceID) string { return of.String()[:7] }
-	folder := &Folder{of: one, said: wire.Folder{ID: "docs", Devices: []wire.Sharing{{Device: two}}}, index: wire.NewIndex(1)}
+	folder := &Folder{of: id, said: wire.Folder{ID: "docs", Devices: []wire.Sharing{{Device: two}}}, index: wire.NewIndex(1)}
 	text := func(name string, sequence uint64) []byte { // a deletion by device 7, which is marked as invalid and has no version
-		made := message.AppendNumber(message.AppendText(nil, 1, []byte(name)), 6, 1)
-		return message.AppendNumber(message.AppendNumber(message.AppendNumber(made, 7, 1), 10, sequence), 12, 7)
+		text := message.AppendNumber(message.AppendText(nil, 1, []byte(name)), 6, 1)
+		return message.AppendNumber(message.AppendNumber(message.AppendNumber(text, 7, 1), 10, sequence), 12, 7)
 	}
-	said := map[string][]string{"a": {short(two) + ":3", short(one) + ":4"}, "b": {"XXXXXXX:3"}, "c": {short(one) + ":x"}, "d": {}, "e": {short(one) + ":1", short(one) + ":2"},
-		"f": {short(one) + ":0"}, "g": {short(one) + ":5"}}
+	said := map[string][]string{"a": {short(two) + ":3", short(id) + ":4"}, "b": {"XXXXXXX:3"}, "c": {short(id) + ":x"}, "d": {}, "e": {short(id) + ":1", short(id) + ":2"},
+		"f": {short(id) + ":0"}, "g": {short(id) + ":5"}}
 	names := []string{"a", "b", "c", "d", "e", "f", "g"}
 	for place, name := range names {
 		if err := folder.index.Put(text(name, uint64(place+1))); err != nil {
@@ -43,7 +43,7 @@ func TestVersionsOfLocalChanges(t *testing.T) {
 		}
 		return sequence, said[name], nil
 	})
-	due := part.Version{{part.Number(one.String()), 4}, {part.Number(two.String()), 3}}
+	due := part.Version{{part.Number(id.String()), 4}, {part.Number(two.String()), 3}}
 	if due[0][0] > due[1][0] {
 		due[0], due[1] = due[1], due[0]
 	}
@@ -51,11 +51,11 @@ func TestVersionsOfLocalChanges(t *testing.T) {
 		t.Errorf("%v, %d, %v", err, asked, folder.locals)
 	}
 	entry := device.Entry{Name: "a", Record: &part.Record{}}
-	if made := folder.withLocal(entry); !reflect.DeepEqual(made.Local, due) || entry.Record.Local != nil {
-		t.Errorf("%+v", made)
+	if record := folder.withLocal(entry); !reflect.DeepEqual(record.Local, due) || entry.Record.Local != nil {
+		t.Errorf("%+v", record)
 	}
-	if made := folder.withLocal(device.Entry{Name: "b", Record: &part.Record{}}); made.Local != nil {
-		t.Errorf("%+v", made)
+	if record := folder.withLocal(device.Entry{Name: "b", Record: &part.Record{}}); record.Local != nil {
+		t.Errorf("%+v", record)
 	}
 	if err := folder.AskLocal(nil, func(string, string) (int64, []string, error) { return 0, nil, errors.New("no answer") }); err == nil {
 		t.Error("no answer is one")

@@ -28,14 +28,14 @@ func TestWhatSyncthingSaysOfItself(t *testing.T) {
 		{"one is otherwise", map[string]*part.Folder{"a": said("receive-only"), "b": said("receive-only")}, []string{"send-receive", "send-only"}, false, true},
 	} {
 		device := &Device{ID: protocol.DeviceID{7: 1}, Folders: []*Folder{{said: wire.Folder{ID: "a"}}, {said: wire.Folder{ID: "b", SendOnly: true}}}}
-		for _, one := range device.Folders {
-			one.of, one.index, one.since = device.ID, wire.NewIndex(1), wire.NewIndex(1)
+		for _, folder := range device.Folders {
+			folder.of, folder.index, folder.since = device.ID, wire.NewIndex(1), wire.NewIndex(1)
 		}
 		err := device.Tell(row.told)
 		head := device.head(Asked{}, protocol.DeviceID{7: 2}, "0f", []*Device{device})
 		kinds := []string{}
-		for _, one := range head.Folders {
-			kinds = append(kinds, one.Kind)
+		for _, folder := range head.Folders {
+			kinds = append(kinds, folder.Kind)
 		}
 		isUnseen := reflect.DeepEqual(head.Wire.Unseen, part.AlwaysUnseen)
 		if (err != nil) != row.isWrong || !reflect.DeepEqual(kinds, row.kinds) || isUnseen == row.isAsked || head.IsAsked() != row.isAsked {
@@ -49,8 +49,8 @@ func TestKindsOverTheWire(t *testing.T) {
 	for kind, folders := range map[string][]*Folder{"send-only": {{said: wire.Folder{SendOnly: true}}, {said: wire.Folder{SendOnly: true}, isReceiver: true}},
 		"receive-only": {{said: wire.Folder{ReceiveOnly: true}}, {isReceiver: true}, {isOpened: true}}, "send-receive": {{}}} {
 		for _, folder := range folders {
-			if made := folder.kind(); made != kind {
-				t.Errorf("%+v: %s", folder, made)
+			if told := folder.kind(); told != kind {
+				t.Errorf("%+v: %s", folder, told)
 			}
 		}
 	}

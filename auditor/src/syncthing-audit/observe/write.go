@@ -26,8 +26,8 @@ func (d *Device) Write(to io.Writer, asked Asked, observer protocol.DeviceID, lo
 
 // lines gives the lines of a part to take.
 func (d *Device) lines(asked Asked, head *part.Head, take part.Sink) error {
-	for place, one := range d.Folders {
-		if err := one.lines(asked, head.Folders[place].Max, place == len(d.Folders)-1, take); err != nil {
+	for place, folder := range d.Folders {
+		if err := folder.lines(asked, head.Folders[place].Max, place == len(d.Folders)-1, take); err != nil {
 			return err
 		}
 	}
@@ -92,48 +92,48 @@ func (f *Folder) each(asked Asked, take func(*part.Name) error) error {
 
 // news gives the names that came between the looks, rising.
 func (f *Folder) news() ([]string, error) {
-	made := []string{}
+	names := []string{}
 	err := f.since.Each(func(entry device.Entry) error {
 		_, is, err := f.index.Get(entry.Name)
 		if err == nil && !is {
-			made = append(made, entry.Name)
+			names = append(names, entry.Name)
 		}
 		return err
 	})
-	return made, err
+	return names, err
 }
 
 // line gives what was seen of a name.
 func (f *Folder) line(asked Asked, entry device.Entry) (*part.Name, error) {
-	made := &part.Name{Name: part.Bytes(entry.Name)}
+	name := &part.Name{Name: part.Bytes(entry.Name)}
 	if part.IsLongName(entry.Name) {
-		made.Name = part.HiddenLongName(f.ID(), entry.Name).Bytes()
-		made.Out = []part.LeftOut{{Kind: part.OddName, Why: fmt.Sprintf("its name has %d bytes, or begins with bytes that stand before hashes in a part", len(entry.Name))}}
-		return made, nil
+		name.Name = part.HiddenLongName(f.ID(), entry.Name).Bytes()
+		name.Out = []part.LeftOut{{Kind: part.OddName, Why: fmt.Sprintf("its name has %d bytes, or begins with bytes that stand before hashes in a part", len(entry.Name))}}
+		return name, nil
 	}
 	_, isMoved, err := f.since.Get(entry.Name)
 	if err != nil {
 		return nil, err
 	}
 	if isMoved {
-		made.Moved = []string{part.MovedRecord}
-		return made, nil
+		name.Moved = []string{part.MovedRecord}
+		return name, nil
 	}
 	found, isRead, err := f.disks.get(entry.Name)
 	if err != nil {
 		return nil, err
 	}
-	made.Differ = f.differ[entry.Name]
-	made.NotRead = !isRead && asked.Chosen != nil && budget.HasBytes(entry)
+	name.Differ = f.differ[entry.Name]
+	name.NotRead = !isRead && asked.Chosen != nil && budget.HasBytes(entry)
 	if found.Out != nil && found.Out.Kind == part.Ignored {
-		made.Out = []part.LeftOut{*found.Out}
-		return made, nil
+		name.Out = []part.LeftOut{*found.Out}
+		return name, nil
 	}
-	made.Own, made.Disk = f.withLocal(entry), found.Node
+	name.Own, name.Disk = f.withLocal(entry), found.Node
 	for _, out := range []*part.LeftOut{entry.Out, found.Out, outOfInvalid(entry.Record)} {
 		if out != nil {
-			made.Out = append(made.Out, *out)
+			name.Out = append(name.Out, *out)
 		}
 	}
-	return made, nil
+	return name, nil
 }

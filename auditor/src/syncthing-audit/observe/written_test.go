@@ -10,6 +10,7 @@ import (
 	"testing"
 
 	"github.com/syncthing/syncthing/lib/protocol"
+	"syncthing-audit/choice"
 	hashing "syncthing-audit/disk"
 	"syncthing-audit/part"
 	"syncthing-audit/wire"
@@ -17,9 +18,9 @@ import (
 
 // written gives a device with names of each kind: before, between and behind those that came between the looks, and two that are too long for a part.
 func written(t *testing.T) *Device {
-	made := seen(t, map[string][]byte{"b": fileOf("b", 1, true), "d": fileOf("d", 2, true), long("x"): fileOf(long("x"), 3, true), long("y"): fileOf(long("y"), 4, true)}, "a", "c", "e", "d")
-	made.Folders[0].since.Highest, made.Folders[0].bytes = 9, 7
-	return made
+	device := seen(t, map[string][]byte{"b": fileOf("b", 1, true), "d": fileOf("d", 2, true), long("x"): fileOf(long("x"), 3, true), long("y"): fileOf(long("y"), 4, true)}, "a", "c", "e", "d")
+	device.Folders[0].since.Highest, device.Folders[0].bytes = 9, 7
+	return device
 }
 
 func long(first string) string { return first + strings.Repeat("l", part.MostNameBytes) }
@@ -197,6 +198,45 @@ func TestWhatIsFoundOfAFile(t *testing.T) {
 				t.Errorf("%s has the bytes of %s", name, had)
 			}
 			hashes[node.Contents[0].Hash] = name
+		}
+	}
+}
+
+// What isn't what was encrypted is no other file's content, on no other device and under no other name; what is encrypted as it should be has its hashes.
+func TestWhatWasEncryptedOtherwise(t *testing.T) {
+	found := wire.Found{State: wire.Differs, Sealed: true, Size: 9, BlockSize: protocol.MinBlockSize, Blocks: [][32]byte{{1}}}
+	hashes := map[part.Hash]string{hashing.HashOf(found.Blocks): "what was read"}
+	for _, name := range []string{"a", "b"} {
+		for _, of := range []protocol.DeviceID{{0: 1}, {0: 2}} {
+			content := diskOf(of, name, found).Node.Contents[0]
+			if had := hashes[content.Hash]; had != "" || content.Size != 9 {
+				t.Errorf("%s has the bytes of %s", name, had)
+			}
+			hashes[content.Hash] = name
+		}
+	}
+	for _, state := range []wire.State{wire.Same, wire.Present} {
+		found.State = state
+		if content := diskOf(protocol.DeviceID{0: 1}, "a", found).Node.Contents[0]; content.Hash != hashing.HashOf(found.Blocks) {
+			t.Errorf("%v: other bytes than those that are there", state)
+		}
+	}
+}
+
+// Of the names alone that are asked for there are lines, be they recorded, new or too long.
+func TestNamesThatAreNotAskedFor(t *testing.T) {
+	for prefix, due := range map[string]string{"": "abcde##", "b": "b", "c": "c", "x": "#", "z": ""} {
+		told := ""
+		err := written(t).Folders[0].each(Asked{Names: choice.Names{Prefix: prefix}}, func(line *part.Name) error {
+			if letter := string(line.Name); len(letter) == 1 {
+				told += letter
+			} else {
+				told += "#"
+			}
+			return nil
+		})
+		if err != nil || told != due {
+			t.Errorf("%q: %s, not %s, %v", prefix, told, due, err)
 		}
 	}
 }

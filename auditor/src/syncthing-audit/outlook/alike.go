@@ -12,53 +12,32 @@ const fewHands = 4
 // of a directory that is gone. It gives nothing where no such way leads to all goals.
 func (p *planner) planAlike(group *forecast.World, hands []hand, lost map[forecast.Content]bool) map[int]*Plan {
 	for _, way := range []func(*forecast.World, advice.Goal) []advice.Step{touches, copies} {
-		world, steps := group.Copied(), make([][]advice.Step, len(hands))
-		for at, hand := range hands {
-			steps[at] = way(&world, hand.goal)
-			for _, step := range steps[at] {
+		world, tried := group.Copied(), append([]hand{}, hands...)
+		for at := range tried {
+			tried[at].steps = way(&world, tried[at].goal)
+			for _, step := range tried[at].steps {
 				step.On(&world, p.search.Present)
 			}
 		}
-		if plans := p.checked(group, hands, steps, lost); plans != nil {
+		goals, steps := together(tried)
+		found, _ := p.search.Together(group.Copied(), goals, steps)
+		if found == nil {
+			continue
+		}
+		if rotten, isLoss := losesOthers(group, tried, found.Costs, lost); !isLoss {
+			plans := p.plansOf(group, tried, found)
+			saveRotten(plans, rotten)
 			return plans
 		}
 	}
 	return nil
 }
 
-// checked gives plans of these steps if all of them together lead to all goals, and are safe from the top.
-func (p *planner) checked(group *forecast.World, hands []hand, steps [][]advice.Step, lost map[forecast.Content]bool) map[int]*Plan {
-	var all []advice.Step
-	for _, some := range steps {
-		all = append(all, some...)
-	}
-	var goals []advice.Goal
-	for _, hand := range hands {
-		goals = append(goals, hand.goal)
-	}
-	found, _ := p.search.Together(group.Copied(), goals, all)
-	if found == nil {
-		return nil
-	}
-	rotten, isLoss := losesOthers(group, hands, found.Costs, lost)
-	if isLoss {
-		return nil
-	}
-	plans := map[int]*Plan{}
-	for at, hand := range hands {
-		mine := *found
-		mine.Steps = steps[at]
-		plans[hand.place] = planOf(group, hand, &mine, p.damage)
-	}
-	saveRotten(plans, rotten)
-	return plans
-}
-
-// touches gives what is wanted a new time where it stands.
+// touches gives what is wanted a new time where it stands: on a device that only receives that isn't sent.
 func touches(world *forecast.World, goal advice.Goal) []advice.Step {
-	for member, what := range nodesAt(world, goal.Name) {
-		if what != nil && what.Type == forecast.File && isSameNode(what, goal.Node) && world.Devices[member].Kind != forecast.ReceiveOnly {
-			return []advice.Step{{Act: advice.Touch, Device: member, Name: goal.Name}}
+	for _, step := range advice.StepsTo(world, goal) {
+		if step.Act == advice.Touch && world.Devices[step.Device].Kind != forecast.ReceiveOnly {
+			return []advice.Step{step}
 		}
 	}
 	return nil
@@ -66,27 +45,11 @@ func touches(world *forecast.World, goal advice.Goal) []advice.Step {
 
 // copies copies what is wanted to all that don't have it.
 func copies(world *forecast.World, goal advice.Goal) []advice.Step {
-	disks, from := nodesAt(world, goal.Name), -1
-	for member, what := range disks {
-		if what != nil && isSameNode(what, goal.Node) && from < 0 {
-			from = member
-		}
-	}
 	var steps []advice.Step
-	for member, what := range disks {
-		if from >= 0 && (what == nil || !isSameNode(what, goal.Node)) && world.HasRoom(member, goal.Name) {
-			steps = append(steps, advice.Step{Act: advice.Copy, Device: member, From: from, Name: goal.Name})
+	for _, step := range advice.StepsTo(world, goal) {
+		if step.Act == advice.Copy {
+			steps = append(steps, step)
 		}
 	}
 	return steps
 }
-
-func nodesAt(world *forecast.World, name string) []*forecast.Node {
-	var nodes []*forecast.Node
-	for member := range world.Devices {
-		nodes = append(nodes, world.At(member, name))
-	}
-	return nodes
-}
-
-func isSameNode(a, b *forecast.Node) bool { return thingOf(a).isSame(thingOf(b)) }

@@ -26,7 +26,7 @@ func BenchmarkNames(b *testing.B) {
 		b.ReportMetric(float64(made.Names), "names")
 		b.ReportMetric(float64(made.Walked), "walked")
 		b.ReportMetric(float64(planned), "planned")
-		b.ReportMetric(float64(made.Count[Unknown]), "not-known")
+		b.ReportMetric(float64(made.NotKnown), "not-known")
 	}
 }
 

@@ -22,14 +22,14 @@ func TestWhatAHarmedChangeReplacedIsLost(t *testing.T) {
 		changed(row, 0, 2, 300)
 		harm(row.At[0])
 		made := outlookOf(folderOf("send-receive", "send-receive", "send-receive"), []*join.Row{row})
-		if made.Count[Lost] != 1 || len(made.Listed[0].Loses) != 1 || shown(made.Plans) != "a: save on 1" {
-			t.Errorf("%s: %v %s", why, made.Count, shown(made.Plans))
+		if made.Lost != 1 || len(made.Listed[0].Loses) != 1 || shown(made.Plans) != "a: save on 1" {
+			t.Errorf("%s: %v %s", why, countsOf(made), shown(made.Plans))
 		}
 	}
 	row := calm("a", 3, 1)
 	changed(row, 0, 2, 300)
-	if made := outlookOf(folderOf("send-receive", "send-receive", "send-receive"), []*join.Row{row}); made.Count[ByItself] != 1 || len(made.Plans) > 0 {
-		t.Errorf("sound: %v %s", made.Count, shown(made.Plans))
+	if made := outlookOf(folderOf("send-receive", "send-receive", "send-receive"), []*join.Row{row}); made.Right != 1 || len(made.Plans) > 0 {
+		t.Errorf("sound: %v %s", countsOf(made), shown(made.Plans))
 	}
 }
 
@@ -40,8 +40,8 @@ func TestWhatAnEmptyFileReplacesIsLost(t *testing.T) {
 	cut(row.At[0].Disk, 0, 0)
 	*row.At[0].Own.Content = row.At[0].Disk.Contents[0]
 	made := outlookOf(folderOf("send-receive", "send-receive", "send-receive"), []*join.Row{row})
-	if made.Count[Lost] != 1 || shown(made.Plans) != "a: save on 1" {
-		t.Errorf("%v %s", made.Count, shown(made.Plans))
+	if made.Lost != 1 || shown(made.Plans) != "a: save on 1" {
+		t.Errorf("%v %s", countsOf(made), shown(made.Plans))
 	}
 }
 
@@ -78,7 +78,7 @@ func TestNothingIsReplacedByNothing(t *testing.T) {
 // findReplacedByNothing finds what goes and has no successor, and counts what goes.
 func (j *judge) findReplacedByNothing(t *testing.T, seed int64, name *forecast.Name) int {
 	gone := 0
-	for _, thing := range thingsNow(name) {
+	for _, thing := range thingsNow(anyDevices, name) {
 		if j.survives(name.Name, &thing) {
 			continue
 		}

@@ -53,17 +53,17 @@ func TestRottenBytesThatARenameCarries(t *testing.T) {
 				plan = &made.Plans[place]
 			}
 		}
-		if plan == nil || !reflect.DeepEqual(plan.Goal.Members, []int{0}) {
+		if plan == nil || !reflect.DeepEqual(plan.Goal.Devices, at(0)) {
 			t.Fatalf("over %v: %+v", over, made.Plans)
 		}
 		saved := slices.IndexFunc(made.Plans, func(one Plan) bool {
-			return one.Goal == nil && one.Names[0] == "a" && reflect.DeepEqual(one.Steps, []Step{{Act: Save, Member: 1}})
+			return one.Goal == nil && one.Names[0] == "a" && reflect.DeepEqual(one.Steps, []Step{{Act: Save, Device: idOf(1)}})
 		})
 		if saved < 0 {
 			t.Errorf("over %v: the rotten bytes aren't saved: %+v", over, made.Plans)
 		}
 		copied := plan.Steps[len(plan.Steps)-1]
-		if copied.Act != Copy || copied.Member != 1 || copied.From != 0 {
+		if copied.Act != Copy || copied.Device != idOf(1) || copied.From != idOf(0) {
 			t.Errorf("over %v: %+v", over, plan.Steps)
 		}
 	}
@@ -114,10 +114,10 @@ func isNotSeen(name *Name) bool {
 func hasRightBytes(name *Name) bool {
 	for _, thing := range name.Ends[0] {
 		for _, now := range name.Now {
-			is := now.isSame(&thing)
+			is := now.IsSame(thing)
 			for _, kept := range name.Kept {
-				for _, member := range thing.Members {
-					is = is && member != kept.Member
+				for _, member := range placesOf(thing.Devices) {
+					is = is && idOf(member) != kept.Device
 				}
 			}
 			if is {

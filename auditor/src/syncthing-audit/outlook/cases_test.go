@@ -112,9 +112,9 @@ func follow(t *testing.T, why string, group *forecast.World, told map[string]*Na
 		answer := forecaster.OfGroup(world.Devices, world.Copied().Names)
 		made := map[forecast.Content]bool{}
 		for place := range answer.Ends {
-			left := bytesOf(&answer.Ends[place])
+			left := answer.Ends[place].Contents()
 			for at := range group.Names {
-				for _, thing := range thingsNow(&group.Names[at]) {
+				for _, thing := range thingsNow(anyDevices, &group.Names[at]) {
 					if thing.Content.Size > 0 && !left[thing.Content] {
 						made[thing.Content] = true
 					}
@@ -130,7 +130,7 @@ func follow(t *testing.T, why string, group *forecast.World, told map[string]*Na
 			continue
 		}
 		for _, step := range name.Plan.Steps {
-			if what := world.At(step.Member, string(name.Name)); step.Act == Save && what != nil {
+			if what := world.At(memberOf(step.Device), string(name.Name)); step.Act == Save && what != nil {
 				saved[what.Content] = true
 				continue
 			}

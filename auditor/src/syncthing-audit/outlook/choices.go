@@ -1,8 +1,9 @@
 package outlook
 
 import (
-	"fmt"
+	"reflect"
 
+	"golang.org/x/exp/slices"
 	"syncthing-audit/damage"
 	"syncthing-audit/forecast"
 	"syncthing-audit/part"
@@ -17,34 +18,40 @@ const (
 
 // Choice is what may be done for the whole folder on a device, and what comes of it as things stand now.
 type Choice struct {
-	Act     Act
-	Member  int
-	Names   int64  // that come to another end by it
-	Alike   int64  // of these: all devices have one thing then
-	Loses   []Loss // what is lost by it alone, by names: the first MostListed
-	Lost    int64  // of how many names that is
-	Goes    []Loss // what else stands on a disk now, stays if nobody does anything and goes by it, since a recorded change or deletion replaces it: the first MostListed
-	Gone    int64  // of how many names that is
-	Unknown int64  // of how many names nobody knows what it does
-	IsAll   bool   // all orders were tried
+	Act     Act    `json:"act"`
+	Device  string `json:"device"`
+	Names   int64  `json:"names"`                   // that come to another end by it
+	Alike   int64  `json:"alike_then"`              // of these: all devices have one thing then
+	Loses   []Loss `json:"loses"`                   // what is lost by it alone, by names: the first MostListed
+	Lost    int64  `json:"names_that_lose"`         // of how many names that is
+	Goes    []Loss `json:"goes,omitempty"`          // what else stands on a disk now, stays if nobody does anything and goes by it, since a recorded change or deletion replaces it: the first MostListed
+	Gone    int64  `json:"names_that_go,omitempty"` // of how many names that is
+	Unknown int64  `json:"not_known"`               // of how many names nobody knows what it does
+	IsAll   bool   `json:"all_orders"`
 }
 
 // Loss is what is lost of a name, where it stands now.
 type Loss struct {
-	Name  part.Bytes
-	Loses []Thing
+	Name  part.Bytes `json:"name"`
+	Loses []Thing    `json:"loses"`
 }
 
 // choices finds what may be chosen, group by group.
 type choices struct {
 	forecaster *forecast.Forecaster
 	damage     map[string][]damage.Kind
-	found      map[Step]*Choice // by its act and its device
-	order      []Step
+	found      map[chosen]*Choice
+	order      []chosen
+}
+
+// chosen is what is chosen on a device.
+type chosen struct {
+	act    Act
+	member int
 }
 
 func newChoices(forecaster *forecast.Forecaster, damaged map[string][]damage.Kind) *choices {
-	return &choices{forecaster: forecaster, damage: damaged, found: map[Step]*Choice{}}
+	return &choices{forecaster: forecaster, damage: damaged, found: map[chosen]*Choice{}}
 }
 
 // take takes a group with what becomes of its names if nobody does anything.
@@ -52,11 +59,11 @@ func (c *choices) take(group *forecast.World, told []Name, before *judge) {
 	for member, device := range group.Devices {
 		switch {
 		case device.Kind == forecast.ReceiveOnly && hasLocals(group, told, member):
-			c.add(group, told, before, Step{Act: Revert, Member: member})
-			c.add(group, told, before, Step{Act: Both, Member: member})
-		case device.Kind == forecast.SendOnly && keeps(told, member, forecast.OnlySends):
-			c.add(group, told, before, Step{Act: Override, Member: member})
-			c.add(group, told, before, Step{Act: Both, Member: member})
+			c.add(group, told, before, chosen{Revert, member})
+			c.add(group, told, before, chosen{Both, member})
+		case device.Kind == forecast.SendOnly && keeps(told, device.ID, forecast.OnlySends):
+			c.add(group, told, before, chosen{Override, member})
+			c.add(group, told, before, chosen{Both, member})
 		}
 	}
 }
@@ -68,7 +75,8 @@ func hasLocals(group *forecast.World, told []Name, member int) bool {
 			return true
 		}
 	}
-	return keeps(told, member, forecast.KeepsLocalChange) || keeps(told, member, forecast.HasLocalChanges)
+	device := group.Devices[member].ID
+	return keeps(told, device, forecast.KeepsLocalChange) || keeps(told, device, forecast.HasLocalChanges)
 }
 
 // isUnscanned says whether a disk isn't as recorded in a way that a scan sees.
@@ -83,22 +91,16 @@ func isUnscanned(own *forecast.Record, what *forecast.Node) bool {
 	return own.Target != what.Target
 }
 
-func keeps(told []Name, member int, why forecast.Why) bool {
-	for place := range told {
-		for _, kept := range told[place].Kept {
-			if kept.Member == member && kept.Why == why {
-				return true
-			}
-		}
-	}
-	return false
+func keeps(told []Name, device string, why forecast.Why) bool {
+	isKept := func(kept Kept) bool { return kept.Device == device && kept.Why == why }
+	return slices.IndexFunc(told, func(name Name) bool { return slices.IndexFunc(name.Kept, isKept) >= 0 }) >= 0
 }
 
 // add counts what a choice does to a group.
-func (c *choices) add(group *forecast.World, told []Name, before *judge, step Step) {
+func (c *choices) add(group *forecast.World, told []Name, before *judge, step chosen) {
 	choice := c.found[step]
 	if choice == nil {
-		choice = &Choice{Act: step.Act, Member: step.Member, IsAll: true}
+		choice = &Choice{Act: step.act, Device: group.Devices[step.member].ID, Loses: []Loss{}, IsAll: true}
 		c.found[step], c.order = choice, append(c.order, step)
 	}
 	answer := c.after(group, step)
@@ -115,33 +117,29 @@ func (c *choices) add(group *forecast.World, told []Name, before *judge, step St
 }
 
 // after gives what comes of a choice.
-func (c *choices) after(group *forecast.World, step Step) forecast.Answer {
-	switch step.Act {
+func (c *choices) after(group *forecast.World, step chosen) forecast.Answer {
+	switch step.act {
 	case Revert, Override:
-		return c.forecaster.OfGroup(group.Devices, group.Copied().Names, forecast.Command{Device: step.Member, IsOverride: step.Act == Override})
+		return c.forecaster.OfGroup(group.Devices, group.Copied().Names, forecast.Command{Device: step.member, IsOverride: step.act == Override})
 	}
 	devices := append([]forecast.Device{}, group.Devices...)
-	devices[step.Member].Kind = forecast.SendReceive
+	devices[step.member].Kind = forecast.SendReceive
 	return c.forecaster.OfGroup(devices, group.Copied().Names)
 }
 
 // take counts what becomes of a name.
 func (c *Choice) take(before *Name, after Name, devices int) {
-	if fmt.Sprint(before.Ends) == fmt.Sprint(after.Ends) {
+	if reflect.DeepEqual(before.Ends, after.Ends) {
 		return
 	}
 	c.Names++
 	c.IsAll = c.IsAll && after.IsAll
-	alike := int64(1)
-	for _, end := range after.Ends {
-		if !isOne(end, devices) {
-			alike = 0
-		}
+	if slices.IndexFunc(after.Ends, func(end []Thing) bool { return !isOne(end, devices) }) < 0 {
+		c.Alike++
 	}
-	c.Alike += alike
 	var loses []Thing
 	for place := range after.Loses {
-		if !has(before.Loses, &after.Loses[place]) {
+		if !isAmong(before.Loses, &after.Loses[place]) {
 			loses = append(loses, after.Loses[place])
 		}
 	}
@@ -157,7 +155,7 @@ func (c *Choice) take(before *Name, after Name, devices int) {
 // takeReplaced counts what goes by a choice since something recorded replaces it.
 func (c *Choice) takeReplaced(name *forecast.Name, before, after *judge) {
 	var goes []Thing
-	for _, thing := range filesOf(thingsNow(name)) {
+	for _, thing := range filesOf(thingsNow(before.group.Devices, name)) {
 		if before.survives(name.Name, &thing) && !after.survives(name.Name, &thing) && after.wayOf(name, &thing) != byNothing {
 			goes = append(goes, thing)
 		}
@@ -171,21 +169,12 @@ func (c *Choice) takeReplaced(name *forecast.Name, before, after *judge) {
 	}
 }
 
-func has(things []Thing, thing *Thing) bool {
-	for place := range things {
-		if things[place].isSame(thing) {
-			return true
-		}
-	}
-	return false
-}
-
 // all gives them in the order of their devices.
 func (c *choices) all() []Choice {
 	var choices []Choice
 	for member := 0; member < 32; member++ {
 		for _, step := range c.order {
-			if choice := c.found[step]; step.Member == member && choice.Names+choice.Unknown > 0 {
+			if choice := c.found[step]; step.member == member && choice.Names+choice.Unknown > 0 {
 				choices = append(choices, *c.found[step])
 			}
 		}

@@ -42,7 +42,7 @@ func TestChoicesOfADeviceThatOnlyReceives(t *testing.T) {
 	row := calm("a", 2, 1)
 	changedAt(row, 1, 70, true)
 	made := outlookOf(folderOf("send-receive", "receive-only"), []*join.Row{row})
-	if made.Count[Stays] != 1 || len(made.Plans) != 0 {
+	if made.Stays != 1 || len(made.Plans) != 0 {
 		t.Fatalf("%+v", made)
 	}
 	told := map[Act]Choice{}
@@ -50,10 +50,10 @@ func TestChoicesOfADeviceThatOnlyReceives(t *testing.T) {
 		told[choice.Act] = choice
 	}
 	revert, both := told[Revert], told[Both]
-	if len(told) != 2 || revert.Member != 1 || revert.Names != 1 || revert.Alike != 1 || both.Names != 1 || both.Alike != 1 || revert.Unknown+both.Unknown > 0 {
+	if len(told) != 2 || revert.Device != idOf(1) || revert.Names != 1 || revert.Alike != 1 || both.Names != 1 || both.Alike != 1 || revert.Unknown+both.Unknown > 0 {
 		t.Errorf("%+v", made.Choices)
 	}
-	if revert.Lost != 1 || !reflect.DeepEqual(revert.Loses[0].Loses[0].Members, []int{1}) || revert.Loses[0].Loses[0].Content.Size != 7 {
+	if revert.Lost != 1 || !reflect.DeepEqual(revert.Loses[0].Loses[0].Devices, at(1)) || revert.Loses[0].Loses[0].Content.Size != 7 {
 		t.Errorf("a revert loses %+v", revert.Loses)
 	}
 }
@@ -63,14 +63,14 @@ func TestChoicesOfADeviceThatOnlySends(t *testing.T) {
 	row := calm("a", 2, 1)
 	changedAt(row, 0, 70, false)
 	made := outlookOf(folderOf("send-receive", "send-only"), []*join.Row{row})
-	if made.Count[Stays] != 1 || len(made.Choices) != 2 || made.Choices[0].Act != Override || made.Choices[1].Act != Both {
+	if made.Stays != 1 || len(made.Choices) != 2 || made.Choices[0].Act != Override || made.Choices[1].Act != Both {
 		t.Fatalf("%+v", made)
 	}
 	override, both := made.Choices[0], made.Choices[1]
-	if override.Member != 1 || override.Alike != 1 || override.Lost != 1 || !reflect.DeepEqual(override.Loses[0].Loses[0].Members, []int{0}) {
+	if override.Device != idOf(1) || override.Alike != 1 || override.Lost != 1 || !reflect.DeepEqual(override.Loses[0].Loses[0].Devices, at(0)) {
 		t.Errorf("an override: %+v", override)
 	}
-	if override.Gone != 0 || both.Gone != 1 || !reflect.DeepEqual(both.Goes[0].Loses[0].Members, []int{1}) {
+	if override.Gone != 0 || both.Gone != 1 || !reflect.DeepEqual(both.Goes[0].Loses[0].Devices, at(1)) {
 		t.Errorf("what is replaced: %+v, %+v", override, both)
 	}
 	if both.Alike != 1 || both.Lost != 0 {
@@ -107,7 +107,7 @@ func TestWhatGoesByItselfGoesByNoChoice(t *testing.T) {
 	row.At[0].Own.Version = [][2]uint64{{1, 6}, {3, 5}, {9, 1}}
 	made := outlookOf(folderOf("send-receive", "send-only", "send-receive"), []*join.Row{row})
 	for _, choice := range made.Choices {
-		if choice.Act == Both && choice.Gone == 1 && len(choice.Goes[0].Loses) == 1 && reflect.DeepEqual(choice.Goes[0].Loses[0].Members, []int{1}) {
+		if choice.Act == Both && choice.Gone == 1 && len(choice.Goes[0].Loses) == 1 && reflect.DeepEqual(choice.Goes[0].Loses[0].Devices, at(1)) {
 			return
 		}
 	}

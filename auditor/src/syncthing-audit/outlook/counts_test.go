@@ -14,7 +14,7 @@ import (
 
 // newTeller gives a teller without names.
 func newTeller() *teller {
-	return &teller{rows: read.NewRows(folderOf("send-receive")), choices: newChoices(forecast.New(forecast.Usual), nil), outlook: &Outlook{Count: map[Fate]int64{}},
+	return &teller{rows: read.NewRows(folderOf("send-receive")), choices: newChoices(forecast.New(forecast.Usual), nil), outlook: &Outlook{},
 		unknown: map[read.Why]int64{}, kept: map[Kept]int64{}}
 }
 
@@ -72,10 +72,10 @@ func TestWhatAnOutlookCounts(t *testing.T) {
 		for count := random.Intn(12); count > 0; count-- {
 			name := Name{Name: part.Bytes(fmt.Sprint(random.Intn(5))), Fate: Fates[random.Intn(len(Fates))], IsAll: random.Intn(2) == 0}
 			for member := random.Intn(3); member > 0; member-- {
-				name.Kept = append(name.Kept, Kept{member, forecast.OnlySends})
+				name.Kept = append(name.Kept, Kept{idOf(member), forecast.OnlySends, member})
 			}
 			for loses := random.Intn(3); loses > 0; loses-- {
-				name.Loses = append(name.Loses, Thing{Members: []int{0}, Content: smallContents[2+random.Intn(3)]})
+				name.Loses = append(name.Loses, Thing{Devices: at(0), Content: smallContents[2+random.Intn(3)]})
 			}
 			if name.Fate == Unknown {
 				group := &forecast.World{Names: []forecast.Name{{Name: string(name.Name)}}}
@@ -89,7 +89,7 @@ func TestWhatAnOutlookCounts(t *testing.T) {
 			}
 			if name.Fate == Stays {
 				for _, one := range name.Kept {
-					kept[fmt.Sprint(one.Member)]++
+					kept[one.Device]++
 				}
 			}
 			teller.add(name)
@@ -104,16 +104,16 @@ func TestWhatAnOutlookCounts(t *testing.T) {
 		}
 		told := map[string]int64{}
 		for _, group := range made.Kept {
-			if group.Why != WhyKept[forecast.OnlySends] {
+			if group.Why != string(forecast.OnlySends) {
 				t.Errorf("%d: %+v", seed, group)
 			}
-			told[fmt.Sprint(group.Members[0])] = group.Names
+			told[group.Devices[0]] = group.Names
 		}
 		toldUnknown := map[read.Why]int64{}
 		for _, group := range made.Unknown {
 			toldUnknown[read.Why(group.Why)] = group.Names
 		}
-		if !reflect.DeepEqual(counts, made.Count) || made.Walked != walked || made.Names != int64(len(made.Listed)) || !reflect.DeepEqual(told, kept) || !reflect.DeepEqual(toldUnknown, unknown) {
+		if !reflect.DeepEqual(counts, countsOf(made)) || made.Walked != walked || made.Names != int64(len(made.Listed)) || !reflect.DeepEqual(told, kept) || !reflect.DeepEqual(toldUnknown, unknown) {
 			t.Fatalf("%d: %+v, not %v, %d, %v, %v", seed, made, counts, walked, kept, unknown)
 		}
 		for _, groups := range [][]Group{made.Kept, made.Unknown} {
@@ -128,18 +128,19 @@ func TestWhatAnOutlookCounts(t *testing.T) {
 func TestWhatAnOutlookLists(t *testing.T) {
 	teller := newTeller()
 	teller.rows.All = []read.Unknown{{Why: read.Paused, Members: []int{2, 3}}, {Why: read.Absent}}
+	teller.devices = folderDevices(4)
 	for count := 0; count < MostListed+1; count++ {
 		teller.addUnknown(&forecast.World{Names: []forecast.Name{{Name: "a"}}}, read.Paused)
 	}
 	made := teller.end()
-	if len(made.Listed) != MostListed || made.Names != MostListed+1 || !reflect.DeepEqual(made.Unknown, []Group{{Why: string(read.Paused), Members: []int{2, 3}, Names: MostListed + 1}}) {
+	if len(made.Listed) != MostListed || made.Names != MostListed+1 || !reflect.DeepEqual(made.Unknown, []Group{{Why: string(read.Paused), Devices: at(2, 3), Names: MostListed + 1}}) {
 		t.Errorf("%d listed of %d: %+v", len(made.Listed), made.Names, made.Unknown)
 	}
 }
 
 // The order of groups is by their names, then by the reason, then by the first device.
 func TestTheOrderOfGroups(t *testing.T) {
-	rising := []Group{{Why: "b", Names: 9}, {Why: "a", Members: []int{1}, Names: 5}, {Why: "a", Members: []int{2}, Names: 5}, {Why: "b", Members: []int{0}, Names: 5}, {Why: "a", Names: 1}}
+	rising := []Group{{Why: "b", Names: 9}, {Why: "a", Devices: at(1), Names: 5, first: 1}, {Why: "a", Devices: at(2), Names: 5, first: 2}, {Why: "b", Devices: at(0), Names: 5}, {Why: "a", Names: 1}}
 	for one := range rising {
 		for other := range rising {
 			if is := rising[one].isBefore(&rising[other]); is != (one < other) {
@@ -147,8 +148,8 @@ func TestTheOrderOfGroups(t *testing.T) {
 			}
 		}
 	}
-	for _, members := range [][]int{nil, {0}} {
-		group := Group{Why: "a", Names: 5, Members: members}
+	for _, devices := range [][]string{nil, at(0)} {
+		group := Group{Why: "a", Names: 5, Devices: devices}
 		if group.isBefore(&Group{Why: "a", Names: 5}) || (&Group{Why: "a", Names: 5}).isBefore(&group) {
 			t.Errorf("%+v", group)
 		}

@@ -26,7 +26,7 @@ func TestWhatADeletionTakesBesideRotIsSaved(t *testing.T) {
 	row.At[0].Own.Deleted, row.At[0].Own.Content, row.At[0].Disk = true, nil, nil
 	row.At[2].Disk.Contents[0].Hash = part.Hash{99}
 	made := outlookOf(folderOf("send-receive", "send-receive", "send-receive"), []*join.Row{row})
-	if len(made.Plans) != 1 || !made.Plans[0].isOf([]Step{{Act: Save, Member: 2}, {Act: Save, Member: 1}}, nil) {
+	if len(made.Plans) != 1 || !made.Plans[0].isOf([]Step{{Act: Save, Device: idOf(2)}, {Act: Save, Device: idOf(1)}}, nil) {
 		t.Errorf("%+v", made.Plans)
 	}
 }
@@ -40,7 +40,7 @@ func TestWhatDamageReplacesIsLost(t *testing.T) {
 		}
 		zeroed(row.At[0])
 		made := outlookOf(folderOf("send-receive", "send-receive", "send-receive"), []*join.Row{row})
-		if len(made.Listed) != 1 || made.Listed[0].Fate != Lost || len(made.Listed[0].Loses) != 1 || len(made.Listed[0].Loses[0].Members) != 2 {
+		if len(made.Listed) != 1 || made.Listed[0].Fate != Lost || len(made.Listed[0].Loses) != 1 || len(made.Listed[0].Loses[0].Devices) != 2 {
 			t.Fatalf("changed %v: %+v", isChanged, made.Listed)
 		}
 		if len(made.Plans) != 1 {
@@ -89,7 +89,7 @@ func TestStepsLeadToNoEmptyFile(t *testing.T) {
 				t.Fatalf("seed %d, %v: %+v leads to %+v", seed, kinds, plan, *plan.Goal)
 			}
 			for _, step := range plan.Steps {
-				if step.Act == Copy && step.From == step.Member {
+				if step.Act == Copy && step.From == step.Device {
 					t.Fatalf("seed %d, %v: %+v", seed, kinds, plan)
 				}
 			}

@@ -87,7 +87,7 @@ func TestStepsCanBeTakenFromTheTop(t *testing.T) {
 						nested++
 					}
 				}
-				above[string(name)] = plan.isOfDirectories()
+				above[string(name)] = plan.IsOfDirectories()
 			}
 		}
 	}
@@ -99,11 +99,11 @@ func TestStepsCanBeTakenFromTheTop(t *testing.T) {
 // cannot says why a step can't be taken.
 func cannot(world *forecast.World, name string, step Step) string {
 	switch {
-	case step.Act == Copy && world.At(step.From, name) == nil:
+	case step.Act == Copy && world.At(memberOf(step.From), name) == nil:
 		return "there is nothing to copy"
-	case step.Act == Copy && !world.HasRoom(step.Member, name):
+	case step.Act == Copy && !world.HasRoom(memberOf(step.Device), name):
 		return "the directory above isn't there"
-	case (step.Act == Touch || step.Act == Save) && world.At(step.Member, name) == nil:
+	case (step.Act == Touch || step.Act == Save) && world.At(memberOf(step.Device), name) == nil:
 		return "nothing stands there"
 	}
 	return ""
@@ -113,10 +113,10 @@ func cannot(world *forecast.World, name string, step Step) string {
 func take(world *forecast.World, name string, step Step) {
 	switch step.Act {
 	case Touch:
-		advice.Step{Act: advice.Touch, Device: step.Member, Name: name}.On(world, presentOfPlans)
+		advice.Step{Act: advice.Touch, Device: memberOf(step.Device), Name: name}.On(world, presentOfPlans)
 	case Copy:
-		advice.Step{Act: advice.Copy, Device: step.Member, From: step.From, Name: name}.On(world, presentOfPlans)
+		advice.Step{Act: advice.Copy, Device: memberOf(step.Device), From: memberOf(step.From), Name: name}.On(world, presentOfPlans)
 	case Delete:
-		advice.Step{Act: advice.Delete, Device: step.Member, Name: name}.On(world, presentOfPlans)
+		advice.Step{Act: advice.Delete, Device: memberOf(step.Device), Name: name}.On(world, presentOfPlans)
 	}
 }

@@ -1,8 +1,6 @@
 package outlook
 
 import (
-	"strings"
-
 	"golang.org/x/exp/slices"
 	"syncthing-audit/damage"
 	"syncthing-audit/forecast"
@@ -23,7 +21,7 @@ func goalOf(name *forecast.Name, told *Name, kinds []damage.Kind) *forecast.Node
 
 // isEmptyBesideBytes says whether something is an empty file, and another one at the name has bytes: it may be damage, also where it was recorded.
 func isEmptyBesideBytes(name *forecast.Name, node *forecast.Node) bool {
-	return thingOf(node).isEmpty() && slices.IndexFunc(name.Disk, func(what *forecast.Node) bool { return what != nil && what.Content.Size > 0 }) >= 0
+	return thingOf(node).isEmpty() && nodeWhere(name, func(what *forecast.Node) bool { return what.Content.Size > 0 }) != nil
 }
 
 func wantedOf(name *forecast.Name, told *Name) *forecast.Node {
@@ -48,7 +46,7 @@ func recordedOf(name *forecast.Name, told *Name) *forecast.Node {
 		if node := comesTo(name, told); node != nil {
 			return node
 		}
-		if own := name.Own[kept.Member]; own != nil {
+		if own := name.Own[kept.member]; own != nil {
 			return nodeOf(name, thingOfRecord(own))
 		}
 	}
@@ -62,9 +60,9 @@ func comesTo(name *forecast.Name, told *Name) *forecast.Node {
 	most := 0
 	for place := range told.Ends[0] {
 		thing := &told.Ends[0][place]
-		isKept := slices.IndexFunc(told.Kept, func(kept Kept) bool { return slices.Contains(thing.Members, kept.Member) }) >= 0
-		if node := nodeOf(name, thing); node != nil && !thing.IsCopy && !isKept && len(thing.Members) > most {
-			there, most = node, len(thing.Members)
+		isKept := slices.IndexFunc(told.Kept, func(kept Kept) bool { return slices.Contains(thing.Devices, kept.Device) }) >= 0
+		if node := nodeOf(name, thing); node != nil && !thing.IsCopy && !isKept && len(thing.Devices) > most {
+			there, most = node, len(thing.Devices)
 		}
 	}
 	return there
@@ -92,8 +90,13 @@ func lastRecorded(name *forecast.Name, things []Thing) *forecast.Node {
 }
 
 func nodeOf(name *forecast.Name, thing *Thing) *forecast.Node {
+	return nodeWhere(name, func(what *forecast.Node) bool { return thing.IsSame(*thingOf(what)) })
+}
+
+// nodeWhere gives what stands at a name on the first device where this is so of it; nothing where it is on none.
+func nodeWhere(name *forecast.Name, is func(what *forecast.Node) bool) *forecast.Node {
 	for _, what := range name.Disk {
-		if what != nil && thingOf(what).isSame(thing) {
+		if what != nil && is(what) {
 			return what
 		}
 	}
@@ -118,11 +121,14 @@ func laterOf(name *forecast.Name, told *Name) *forecast.Node {
 // holdsLost says whether a name is a directory on some devices and not on others, and something below it is lost: that needs the directory first.
 func holdsLost(group *forecast.World, told []Name, place int) bool {
 	name := &group.Names[place]
-	if directoryAt(name) == nil || !isElsewhereNone(name) {
-		return false
-	}
+	isNone := func(what *forecast.Node) bool { return what == nil || what.Type != forecast.Directory }
+	return directoryAt(name) != nil && slices.IndexFunc(name.Disk, isNone) >= 0 && losesBelow(group, told, name.Name)
+}
+
+// losesBelow says whether something that isn't a directory is lost below a name. A directory that was renamed loses nothing.
+func losesBelow(group *forecast.World, told []Name, name string) bool {
 	for at := range told {
-		if told[at].Fate == Lost && !isDirectory(&group.Names[at]) && strings.HasPrefix(group.Names[at].Name, name.Name+"/") {
+		if other := &group.Names[at]; told[at].Fate == Lost && isBelow(other.Name, name) && !isDirectory(other) {
 			return true
 		}
 	}
@@ -131,20 +137,5 @@ func holdsLost(group *forecast.World, told []Name, place int) bool {
 
 // directoryAt gives the directory that stands at a name on some device; nothing where none does.
 func directoryAt(name *forecast.Name) *forecast.Node {
-	for _, what := range name.Disk {
-		if what != nil && what.Type == forecast.Directory {
-			return what
-		}
-	}
-	return nil
-}
-
-// isElsewhereNone says whether on some device no directory stands at a name.
-func isElsewhereNone(name *forecast.Name) bool {
-	for _, what := range name.Disk {
-		if what == nil || what.Type != forecast.Directory {
-			return true
-		}
-	}
-	return false
+	return nodeWhere(name, func(what *forecast.Node) bool { return what.Type == forecast.Directory })
 }

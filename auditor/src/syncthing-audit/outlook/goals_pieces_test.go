@@ -17,25 +17,25 @@ func TestWhatTheOthersComeTo(t *testing.T) {
 	for seed := int64(0); seed < 3000; seed++ {
 		s, group, answer := drawn(seed)
 		name, devices := &group.Names[0], len(group.Devices)
-		told := &Name{Ends: [][]Thing{thingsOf(&answer.Ends[0])["a"]}}
+		told := &Name{Ends: [][]Thing{thingsOf(anyDevices, &answer.Ends[0])["a"]}}
 		keeps := map[int]bool{}
 		for member := 0; member < devices; member++ {
 			if s.Intn(4) == 0 {
 				keeps[member] = true
-				told.Kept = append(told.Kept, Kept{member, forecast.NotSeen})
+				told.Kept = append(told.Kept, Kept{idOf(member), forecast.NotSeen, member})
 			}
 		}
 		due, most := "", 0
 		for _, thing := range told.Ends[0] {
 			key, isKept, stands := keyOf(thing.Type, thing.Content, string(thing.Target), thing.IsCopy), false, false
-			for _, member := range thing.Members {
+			for _, member := range placesOf(thing.Devices) {
 				isKept = isKept || keeps[member]
 			}
 			for member := 0; member < devices; member++ {
 				stands = stands || nowAt(name, member) == key
 			}
-			if !isKept && stands && len(thing.Members) > most {
-				due, most = key, len(thing.Members)
+			if !isKept && stands && len(thing.Devices) > most {
+				due, most = key, len(thing.Devices)
 			}
 		}
 		is := ""
@@ -58,7 +58,7 @@ func TestWhatWasRecordedLast(t *testing.T) {
 	for seed := int64(0); seed < 6000; seed++ {
 		_, group, _ := drawn(seed)
 		name := &group.Names[0]
-		things, node := thingsNow(name), lastRecorded(name, thingsNow(name))
+		things, node := thingsNow(anyDevices, name), lastRecorded(name, thingsNow(anyDevices, name))
 		var candidates []*forecast.Record
 		for _, own := range name.Own {
 			for place := range things {
@@ -116,7 +116,7 @@ func TestWhatWasModifiedLast(t *testing.T) {
 	end := func(places ...int) []Thing {
 		var made []Thing
 		for _, place := range places {
-			made = append(made, Thing{Type: forecast.File, Content: smallContents[place], Members: []int{0}})
+			made = append(made, Thing{Type: forecast.File, Content: smallContents[place], Devices: at(0)})
 		}
 		return made
 	}
@@ -193,11 +193,11 @@ func TestWhatIsSavedFirst(t *testing.T) {
 	name := &forecast.Name{Disk: []*forecast.Node{node(2), node(1), node(3), node(3)}}
 	save := func(members ...int) (made []Step) {
 		for _, member := range members {
-			made = append(made, Step{Act: Save, Member: member})
+			made = append(made, Step{Act: Save, Device: idOf(member)})
 		}
 		return made
 	}
-	things := thingsNow(name)
+	things := thingsNow(anyDevices, name)
 	none := make([]damage.Kind, 4)
 	for place, one := range []struct {
 		things []Thing
@@ -207,7 +207,7 @@ func TestWhatIsSavedFirst(t *testing.T) {
 		{nil, nil, nil}, {things, nil, save(0, 2)}, {things[:1], none, save(0)}, {things[:1], []damage.Kind{damage.Longer, damage.None, damage.Cut, damage.OverZeros}, save(0, 3)},
 		{nil, []damage.Kind{damage.None, damage.Longer, damage.None, damage.None}, save(1)}, {things[1:2], none, nil},
 	} {
-		if made := savesOf(name, one.things, one.kinds); !reflect.DeepEqual(made, one.due) {
+		if made := savesOf(anyDevices, name, one.things, one.kinds); !reflect.DeepEqual(made, one.due) {
 			t.Errorf("%d: %+v, not %+v", place, made, one.due)
 		}
 	}
@@ -219,14 +219,14 @@ func TestWhatIsSavedFirst(t *testing.T) {
 
 // Names with one plan stand together, and directories that are copied first, those above others before these.
 func TestPlansThatStandTogether(t *testing.T) {
-	directory, file := &Thing{Type: forecast.Directory, Members: []int{0}}, &Thing{Type: forecast.File, Members: []int{0}}
-	touch := []Step{{Act: Touch, Member: 1}}
+	directory, file := &Thing{Type: forecast.Directory, Devices: at(0)}, &Thing{Type: forecast.File, Devices: at(0)}
+	touch := []Step{{Act: Touch, Device: idOf(1)}}
 	listed := []Name{
 		{Name: "z", Plan: &Plan{Steps: touch, Goal: file, IsAll: true}}, {Name: "none"}, {Name: "empty", Plan: &Plan{}}, {Name: "d/e", Plan: &Plan{Steps: touch, Goal: directory, Below: 2}},
 		{Name: "d/e/x", Plan: &Plan{by: "d/e"}}, {Name: "d/e/y", Plan: &Plan{by: "elsewhere"}}, {Name: "d", Plan: &Plan{Steps: touch, Goal: directory}},
 		{Name: "y", Plan: &Plan{Steps: touch, Goal: file, IsAll: true}}, {Name: "x", Plan: &Plan{Steps: touch, Goal: file}},
-		{Name: "w", Plan: &Plan{Steps: touch, Goal: &Thing{Type: forecast.File, Members: []int{1}}, IsAll: true}}, {Name: "v", Plan: &Plan{Steps: touch, IsAll: true}},
-		{Name: "u", Plan: &Plan{Steps: touch, Goal: file, IsAll: true, Copies: []int{1}}}, {Name: "d/f", Plan: &Plan{Steps: touch, Goal: directory, Below: 3}},
+		{Name: "w", Plan: &Plan{Steps: touch, Goal: &Thing{Type: forecast.File, Devices: at(1)}, IsAll: true}}, {Name: "v", Plan: &Plan{Steps: touch, IsAll: true}},
+		{Name: "u", Plan: &Plan{Steps: touch, Goal: file, IsAll: true, Copies: at(1)}}, {Name: "d/f", Plan: &Plan{Steps: touch, Goal: directory, Below: 3}},
 	}
 	var names [][]part.Bytes
 	var counts, below []int64
@@ -252,11 +252,11 @@ func TestWhatIsACopyAtAllEnds(t *testing.T) {
 	for seed := int64(0); seed < 4000; seed++ {
 		_, group, answer := drawn(seed)
 		judge := newJudge(group, answer, nil)
-		for _, thing := range thingsNow(&group.Names[0]) {
+		for _, thing := range thingsNow(anyDevices, &group.Names[0]) {
 			due := true
 			for place := range answer.Ends {
 				is := false
-				things := thingsOf(&answer.Ends[place])["a"]
+				things := thingsOf(anyDevices, &answer.Ends[place])["a"]
 				for at, other := range things {
 					key := keyOf(thing.Type, thing.Content, string(thing.Target), true)
 					is = is || keyOf(other.Type, other.Content, string(other.Target), other.IsCopy) == key && !mayGoByMeeting(things, at)
@@ -279,25 +279,25 @@ func TestWhatIsACopyAtAllEnds(t *testing.T) {
 func TestCopiesThatMayMeet(t *testing.T) {
 	for seed := int64(0); seed < 1000; seed++ {
 		_, _, answer := drawn(seed)
-		for _, things := range thingsOf(&answer.Ends[0]) {
+		for _, things := range thingsOf(anyDevices, &answer.Ends[0]) {
 			goes := 0
 			for at := range things {
 				due := false
 				for other := range things {
 					if other != at && things[at].IsCopy && things[other].IsCopy {
 						has := map[int]bool{}
-						for _, member := range things[other].Members {
+						for _, member := range placesOf(things[other].Devices) {
 							has[member] = true
 						}
-						missing := sort.Search(len(things[at].Members), func(place int) bool {
-							for _, member := range things[at].Members[:place+1] {
+						missing := sort.Search(len(things[at].Devices), func(place int) bool {
+							for _, member := range placesOf(things[at].Devices)[:place+1] {
 								if !has[member] {
 									return true
 								}
 							}
 							return false
 						})
-						due = due || missing == len(things[at].Members)
+						due = due || missing == len(things[at].Devices)
 					}
 				}
 				if is := mayGoByMeeting(things, at); is != due {

@@ -2,8 +2,8 @@ package outlook
 
 import (
 	"fmt"
-	"sort"
 
+	"golang.org/x/exp/slices"
 	"syncthing-audit/damage"
 	"syncthing-audit/forecast"
 	"syncthing-audit/part"
@@ -24,63 +24,12 @@ func newJudge(group *forecast.World, answer *forecast.Answer, damaged map[string
 	j := &judge{group: group, answer: answer, damage: damaged}
 	for place := range answer.Ends {
 		end := &answer.Ends[place]
-		j.ends = append(j.ends, thingsOf(end))
-		j.bytes = append(j.bytes, bytesOf(end))
+		j.ends = append(j.ends, thingsOf(group.Devices, end))
+		j.bytes = append(j.bytes, end.Contents())
 		j.sure = append(j.sure, sureBytesOf(j.ends[place]))
 		j.kept = append(j.kept, keptOf(end))
 	}
 	return j
-}
-
-// thingsOf gives what stands at each name at an end. The same thing on several devices stands once.
-func thingsOf(end *forecast.End) map[string][]Thing {
-	standing := map[string][]Thing{}
-	for member, disk := range end.Disks {
-		for _, place := range disk {
-			things := standing[place.Name]
-			thing := Thing{Type: place.Node.Type, Content: place.Node.Content, Target: part.Bytes(place.Node.Target), Time: place.Node.Time, IsCopy: place.IsCopy}
-			found := false
-			for at := range things {
-				if things[at].isSame(&thing) {
-					things[at].Members, found = append(things[at].Members, member), true
-				}
-			}
-			if !found {
-				thing.Members = []int{member}
-				things = append(things, thing)
-			}
-			standing[place.Name] = things
-		}
-	}
-	for _, things := range standing {
-		sort.SliceStable(things, func(a, b int) bool { return things[a].isBefore(&things[b]) })
-	}
-	return standing
-}
-
-// isSame says whether two things are one, whatever their times.
-func (t *Thing) isSame(other *Thing) bool {
-	return t.Type == other.Type && t.Content == other.Content && t.Target == other.Target && t.IsCopy == other.IsCopy
-}
-
-func (t *Thing) isBefore(other *Thing) bool {
-	if t.IsCopy != other.IsCopy {
-		return other.IsCopy
-	}
-	if t.Members[0] != other.Members[0] {
-		return t.Members[0] < other.Members[0]
-	}
-	return t.Content.Hash < other.Content.Hash
-}
-
-func bytesOf(end *forecast.End) map[forecast.Content]bool {
-	contents := map[forecast.Content]bool{}
-	for _, disk := range end.Disks {
-		for _, place := range disk {
-			contents[place.Node.Content] = true
-		}
-	}
-	return contents
 }
 
 func keptOf(end *forecast.End) map[string]map[int]forecast.Why {
@@ -98,7 +47,7 @@ func keptOf(end *forecast.End) map[string]map[int]forecast.Why {
 
 // name says what becomes of a name.
 func (j *judge) name(name *forecast.Name) Name {
-	told := Name{Name: part.Bytes(name.Name), IsAll: j.answer.IsAll, Ends: j.endsOf(name), Loses: j.losesOf(name), Kept: j.keptOf(name), Now: thingsNow(name)}
+	told := Name{Name: part.Bytes(name.Name), IsAll: j.answer.IsAll, Ends: j.endsOf(name), Loses: j.losesOf(name), Kept: j.keptOf(name), Now: thingsNow(j.group.Devices, name)}
 	told.certain = j.losesWithoutMeeting(name, told.Loses)
 	told.deleted = j.deletedOf(name, told.Ends)
 	switch {
@@ -126,11 +75,11 @@ func (j *judge) endsOf(name *forecast.Name) [][]Thing {
 		for _, things := range withMeetings(end[name.Name]) {
 			key := ""
 			for _, thing := range things {
-				key += fmt.Sprint(thing.Members, thing.Type, thing.Content, thing.Target, thing.IsCopy, ";")
+				key += fmt.Sprint(thing.Devices, thing.Type, thing.Content, thing.Target, thing.IsCopy, ";")
 			}
 			if !seen[key] {
 				seen[key] = true
-				ends = append(ends, things)
+				ends = append(ends, append([]Thing{}, things...))
 			}
 		}
 	}
@@ -150,7 +99,7 @@ func (j *judge) keptOf(name *forecast.Name) []Kept {
 			found[member] = why
 		}
 		if len(kept) == 0 {
-			for _, member := range j.minority(end[name.Name], len(name.Disk)) {
+			for _, member := range j.minority(end[name.Name]) {
 				found[member] = forecast.NoReason
 			}
 		}
@@ -158,7 +107,10 @@ func (j *judge) keptOf(name *forecast.Name) []Kept {
 	var all []Kept
 	for member := range name.Disk {
 		if why, is := found[member]; is {
-			all = append(all, Kept{member, why})
+			if why == forecast.NoReason {
+				why = Differs
+			}
+			all = append(all, Kept{j.group.Devices[member].ID, why, member})
 		}
 	}
 	return all
@@ -175,70 +127,41 @@ func hasUnseen(kept map[int]forecast.Why) bool {
 
 // isOne says whether one thing stands at a name on all devices, or nothing on each.
 func isOne(things []Thing, devices int) bool {
-	for place := range things {
-		if !things[place].IsCopy {
-			return len(things[place].Members) == devices
-		}
-	}
-	return true
+	place := slices.IndexFunc(things, func(thing Thing) bool { return !thing.IsCopy })
+	return place < 0 || len(things[place].Devices) == devices
 }
 
 func isStuck(end *forecast.End, name string) bool {
-	for _, stuck := range end.Stuck {
-		if stuck.Name == name {
-			return true
-		}
-	}
-	return false
+	return slices.IndexFunc(end.Stuck, func(stuck forecast.Stuck) bool { return stuck.Name == name }) >= 0
 }
 
 // minority gives the devices that don't have what most devices have at a name.
-func (j *judge) minority(things []Thing, devices int) []int {
-	most, left := -1, devices
+func (j *judge) minority(things []Thing) []int {
+	var most []string
+	left := len(j.group.Devices)
 	for place := range things {
 		if things[place].IsCopy {
 			continue
 		}
-		left -= len(things[place].Members)
-		if most < 0 || len(things[place].Members) > len(things[most].Members) {
-			most = place
+		if left -= len(things[place].Devices); len(things[place].Devices) > len(most) {
+			most = things[place].Devices
 		}
 	}
+	isOfMost := func(device string) bool { return slices.Contains(most, device) }
+	if len(most) < left {
+		isOfMost = func(device string) bool { return !stands(things, device) }
+	}
 	var few []int
-	for member := 0; member < devices; member++ {
-		has := false
-		if most >= 0 && len(things[most].Members) >= left {
-			for _, other := range things[most].Members {
-				has = has || other == member
-			}
-		} else {
-			has = !stands(things, member)
-		}
-		if !has {
+	for member, device := range j.group.Devices {
+		if !isOfMost(device.ID) {
 			few = append(few, member)
 		}
 	}
 	return few
 }
 
-func stands(things []Thing, member int) bool {
-	for place := range things {
-		for _, other := range things[place].Members {
-			if !things[place].IsCopy && other == member {
-				return true
-			}
-		}
-	}
-	return false
-}
-
 func isOnSomeDisk(name *forecast.Name) bool {
-	for _, what := range name.Disk {
-		if what != nil {
-			return true
-		}
-	}
-	return false
+	return nodeWhere(name, func(*forecast.Node) bool { return true }) != nil
 }
 
 // staysAsItIs says whether each device goes on having what it has at a name.
@@ -247,24 +170,11 @@ func (j *judge) staysAsItIs(name *forecast.Name, told *Name) bool {
 		return false
 	}
 	for member, what := range name.Disk {
-		isSame := what == nil && !stands(told.Ends[0], member)
-		for place := range told.Ends[0] {
-			thing := &told.Ends[0][place]
-			for _, other := range thing.Members {
-				isSame = isSame || other == member && what != nil && thing.isSame(thingOf(what))
-			}
-		}
-		if !isSame {
+		device := j.group.Devices[member].ID
+		isSame := func(thing Thing) bool { return slices.Contains(thing.Devices, device) && thing.IsSame(*thingOf(what)) }
+		if what == nil && stands(told.Ends[0], device) || what != nil && slices.IndexFunc(told.Ends[0], isSame) < 0 {
 			return false
 		}
 	}
 	return true
-}
-
-func thingOf(what *forecast.Node) *Thing {
-	thing := &Thing{Type: what.Type, Content: what.Content, Target: part.Bytes(what.Target)}
-	if what.Type == forecast.File {
-		thing.Time = what.Time
-	}
-	return thing
 }

@@ -1,33 +1,19 @@
 package outlook
 
-import "syncthing-audit/forecast"
+import (
+	"golang.org/x/exp/slices"
+	"syncthing-audit/forecast"
+)
 
-// WhyKept are the words for why a device keeps a name otherwise than others, for programs.
-var WhyKept = map[forecast.Why]string{
-	forecast.NoReason:         "differs",
-	forecast.OnlySends:        "only-sends",
-	forecast.NoSource:         "no-source",
-	forecast.NotScanned:       "not-scanned",
-	forecast.HasUnscanned:     "has-unscanned",
-	forecast.HasLocalChanges:  "has-local-changes",
-	forecast.NotEmpty:         "not-empty",
-	forecast.BelowNoDirectory: "below-no-directory",
-	forecast.IsDirectory:      "is-directory",
-	forecast.NotThere:         "not-there",
-	forecast.KeepsLocalChange: "local-change",
-	forecast.NotSeen:          "not-seen",
-	forecast.IgnoresDeletions: "ignores-deletions",
-}
+// Differs is why a device keeps a name otherwise than most others, where there is no other reason.
+const Differs forecast.Why = "differs"
 
 // mayTakeFromTwins says whether names that aren't looked at may matter to these: some device takes bytes which another one hasn't as it says.
 // It takes them from its own disk where another name has them.
 func mayTakeFromTwins(group *forecast.World, answer *forecast.Answer) bool {
-	for place := range answer.Ends {
-		for _, stuck := range answer.Ends[place].Stuck {
-			if stuck.Why == forecast.NoSource {
-				return true
-			}
-		}
+	hasNoSource := func(stuck forecast.Stuck) bool { return stuck.Why == forecast.NoSource }
+	if slices.IndexFunc(answer.Ends, func(end forecast.End) bool { return slices.IndexFunc(end.Stuck, hasNoSource) >= 0 }) >= 0 {
+		return true
 	}
 	isRotten, isAlike := false, true
 	for place := range group.Names {
@@ -39,9 +25,8 @@ func mayTakeFromTwins(group *forecast.World, answer *forecast.Answer) bool {
 
 // hasRot says whether a disk has other bytes of a name than recorded under the recorded time, which no scan sees.
 func hasRot(name *forecast.Name) bool {
-	for i, own := range name.Own {
-		what := name.Disk[i]
-		if own != nil && what != nil && own.Type == forecast.File && what.Type == forecast.File && !own.Deleted && own.Content != what.Content && own.Time == what.Time {
+	for member, own := range name.Own {
+		if what := name.Disk[member]; what != nil && isRot(own, what) {
 			return true
 		}
 	}

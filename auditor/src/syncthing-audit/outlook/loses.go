@@ -4,7 +4,6 @@ import (
 	"golang.org/x/exp/slices"
 	"syncthing-audit/damage"
 	"syncthing-audit/forecast"
-	"syncthing-audit/part"
 )
 
 // How something that stands on a disk comes to be on none, if it isn't lost.
@@ -19,7 +18,7 @@ const (
 // losesOf gives what stands at a name on some disk now and on none at some end, and that nothing recorded replaced.
 func (j *judge) losesOf(name *forecast.Name) []Thing {
 	var lost []Thing
-	for _, thing := range thingsNow(name) {
+	for _, thing := range thingsNow(j.group.Devices, name) {
 		if !j.survives(name.Name, &thing) && j.wayOf(name, &thing) == byNothing {
 			lost = append(lost, thing)
 		}
@@ -30,7 +29,7 @@ func (j *judge) losesOf(name *forecast.Name) []Thing {
 // deletedOf gives what goes by a recorded deletion: nothing stands at the name at some end.
 func (j *judge) deletedOf(name *forecast.Name, ends [][]Thing) []Thing {
 	var gone []Thing
-	for _, thing := range filesOf(thingsNow(name)) {
+	for _, thing := range filesOf(thingsNow(j.group.Devices, name)) {
 		if slices.IndexFunc(ends, isEmptyEnd) >= 0 && !j.survives(name.Name, &thing) && j.wayOf(name, &thing) == byRecord {
 			gone = append(gone, thing)
 		}
@@ -45,33 +44,7 @@ func isEmptyEnd(end []Thing) bool {
 
 // goesBy says whether something that stands at a name goes in this way.
 func (j *judge) goesBy(name *forecast.Name, by way) bool {
-	for _, thing := range thingsNow(name) {
-		if !j.survives(name.Name, &thing) && j.wayOf(name, &thing) == by {
-			return true
-		}
-	}
-	return false
-}
-
-// thingsNow gives what stands at a name now, the same on several devices once.
-func thingsNow(name *forecast.Name) []Thing {
-	var things []Thing
-	for member, what := range name.Disk {
-		if what == nil {
-			continue
-		}
-		thing, found := thingOf(what), false
-		for place := range things {
-			if things[place].isSame(thing) {
-				things[place].Members, found = append(things[place].Members, member), true
-			}
-		}
-		if !found {
-			thing.Members = []int{member}
-			things = append(things, *thing)
-		}
-	}
-	return things
+	return slices.IndexFunc(thingsNow(j.group.Devices, name), func(thing Thing) bool { return !j.survives(name.Name, &thing) && j.wayOf(name, &thing) == by }) >= 0
 }
 
 // survives says whether something stands on some disk at each end, even where conflict copies meet: a file's bytes under any name that hangs together
@@ -85,7 +58,7 @@ func (j *judge) staysIn(bytes []map[forecast.Content]bool, name string, thing *T
 	for place, end := range j.ends {
 		is := thing.Content.Size > 0 && bytes[place][thing.Content]
 		for at, other := range end[name] {
-			is = is || thing.Type == other.Type && thing.Content == other.Content && thing.Target == other.Target && counts(end[name], at)
+			is = is || thing.IsLike(&other) && counts(end[name], at)
 		}
 		if !is {
 			return false
@@ -113,35 +86,28 @@ func (j *judge) wayOf(name *forecast.Name, thing *Thing) way {
 		}
 	}
 	for i, own := range name.Own {
-		if own != nil && own.Flag == forecast.Valid && showsChange(own, name.Disk[i]) && !j.looksDamaged(name.Name, i) && areAll(of, func(record *forecast.Record) bool { return record.IsAtMost(own) }) {
+		if own != nil && own.Flag == forecast.Valid && showsChange(own, name.Disk[i]) && kindOf(j.damage, name.Name, i) == damage.None && areAll(of, func(record *forecast.Record) bool { return record.IsAtMost(own) }) {
 			return byUnscanned
 		}
 	}
 	return byNothing
 }
 
-// looksDamaged says whether what stands at a name on a device's disk looks like damage.
-func (j *judge) looksDamaged(name string, member int) bool {
-	kinds := j.damage[name]
-	return kinds != nil && kinds[member] != damage.None
+// kindOf gives why what stands at a name on a device's disk looks like damage.
+func kindOf(of map[string][]damage.Kind, name string, member int) damage.Kind {
+	if kinds := of[name]; kinds != nil {
+		return kinds[member]
+	}
+	return damage.None
 }
 
 func areAll(records []*forecast.Record, is func(*forecast.Record) bool) bool {
-	for _, record := range records {
-		if !is(record) {
-			return false
-		}
-	}
-	return true
+	return slices.IndexFunc(records, func(record *forecast.Record) bool { return !is(record) }) < 0
 }
 
 // isEmptied says whether an empty file is recorded in place of a file's bytes: a scan may have taken a harmed file for a change.
 func isEmptied(record *forecast.Record, thing *Thing) bool {
 	return !record.Deleted && record.Type == forecast.File && record.Content.Size == 0 && thing.Type == forecast.File && thing.Content.Size > 0
-}
-
-func thingOfRecord(record *forecast.Record) *Thing {
-	return &Thing{Type: record.Type, Content: record.Content, Target: part.Bytes(record.Target)}
 }
 
 func isOf(record *forecast.Record, thing *Thing) bool {

@@ -27,8 +27,8 @@ func mayGoByMeeting(things []Thing, at int) bool {
 	}
 	for other := range things {
 		is := other != at && things[other].IsCopy
-		for _, member := range things[at].Members {
-			is = is && slices.Contains(things[other].Members, member)
+		for _, device := range things[at].Devices {
+			is = is && slices.Contains(things[other].Devices, device)
 		}
 		if is {
 			return true

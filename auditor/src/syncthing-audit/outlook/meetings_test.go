@@ -14,7 +14,7 @@ func TestCopiesThatMeet(t *testing.T) {
 	}
 	made := outlookOf(folderOf("send-receive", "send-receive", "send-receive"), []*join.Row{row})
 	if one := made.Listed[0]; one.Fate != Lost || len(one.Loses) != 2 || len(one.Ends) < 2 || shown(made.Plans) != "a: save on 1, save on 2" {
-		t.Errorf("%v %+v %s", made.Count, one.Loses, shown(made.Plans))
+		t.Errorf("%v %+v %s", countsOf(made), one.Loses, shown(made.Plans))
 	}
 }
 
@@ -27,8 +27,8 @@ func TestCopiesThatDoNotMeet(t *testing.T) {
 				cut(at.Disk, sizes[member], int64(100-member))
 			}
 		}
-		if made := outlookOf(folderOf("send-receive", "send-receive", "send-receive"), []*join.Row{row}); made.Count[Lost] != 0 {
-			t.Errorf("%v: %v %+v", sizes, made.Count, made.Listed)
+		if made := outlookOf(folderOf("send-receive", "send-receive", "send-receive"), []*join.Row{row}); made.Lost != 0 {
+			t.Errorf("%v: %v %+v", sizes, countsOf(made), made.Listed)
 		}
 	}
 }

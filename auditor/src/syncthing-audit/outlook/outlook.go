@@ -29,58 +29,69 @@ const (
 // Fates are all of them, in that order.
 var Fates = []Fate{Lost, Unknown, Depends, Changed, Deleted, Stays, ByItself}
 
+func (o *Outlook) count(of Fate) *int64 {
+	return map[Fate]*int64{Lost: &o.Lost, Unknown: &o.NotKnown, Depends: &o.Depends, Changed: &o.Changed, Deleted: &o.Deleted, Stays: &o.Stays, ByItself: &o.Right}[of]
+}
+
+// MostNamed is how many names a person reads one by one of each kind.
+const MostNamed = 5
+
 // MostListed is how many names are listed one by one, by danger; more are counted.
 const MostListed = 10000
 
-// Outlook is what becomes of the names of a folder that aren't at rest.
+// Outlook is what becomes of the names of a folder that aren't at rest. A person reads it by package print, and a program as JSON: devices are
+// told by their ids, in the folder's order.
 type Outlook struct {
-	Names   int64          // that aren't at rest, or don't stay as they are
-	Count   map[Fate]int64 // of these
-	Walked  int64          // of the names whose fate is known: those of which some orders were tried, and not all
-	Unknown []Group        // why it isn't known what comes of names; a name counts once
-	Kept    []Group        // why names stay wrong; a name counts once for each reason
-	Listed  []Name         // by danger
-	Plans   []Plan         // for names that need a hand; those of the names in most danger come first
-	Choices []Choice       `json:",omitempty"` // for the whole folder, on devices that only send or only receive
+	Names    int64 `json:"names"` // that aren't at rest, or don't stay as they are: each has one of the fates that are counted next
+	Right    int64 `json:"right"`
+	Deleted  int64 `json:"deleted"`
+	Changed  int64 `json:"changed"`
+	Lost     int64 `json:"lost"`
+	Depends  int64 `json:"depends"`
+	Stays    int64 `json:"stays"`
+	NotKnown int64 `json:"not_known"`
+
+	Walked       int64    `json:"not_all_orders_tried"` // of the names whose fate is known: those of which some orders were tried, and not all
+	Unknown      []Group  `json:"why_not_known"`        // a name counts once
+	Kept         []Group  `json:"why_stays"`            // a name counts once for each reason
+	Listed       []Name   `json:"fates"`                // by danger
+	MoreNames    int64    `json:"fates_unlisted"`
+	Plans        []Plan   `json:"plans"`                   // for names that need a hand; those of the names in most danger come first
+	WithoutSteps int64    `json:"without_steps,omitempty"` // names that something is to be done for before a start, and that no plan has
+	Choices      []Choice `json:"choices,omitempty"`       // for the whole folder, on devices that only send or only receive
+
+	FirstWithout []part.Bytes `json:"-"` // the first of the names without steps, which a person reads
 }
 
 // Group counts names with one reason.
 type Group struct {
-	Why     string // of read, or in the words of WhyKept
-	Members []int  // rising; none where it is of none, or of several
-	Names   int64
+	Why     string   `json:"why"` // of read, or of forecast
+	Devices []string `json:"devices,omitempty"`
+	Names   int64    `json:"names"`
+	first   int      // the place of the first device
 }
 
 // Name is a name with what becomes of it.
 type Name struct {
-	Name  part.Bytes
-	Fate  Fate
-	Why   read.Why `json:",omitempty"` // of one that isn't known
-	IsAll bool     // all orders were tried
-	Loses []Thing  `json:",omitempty"` // what is lost at some end, where it stands now
-	Kept  []Kept   `json:",omitempty"` // why devices don't come to have one thing
-	Ends  [][]Thing
-	Now   []Thing // what stands on the disks now
-	Plan  *Plan   `json:"-"`
+	Name  part.Bytes `json:"name"`
+	Fate  Fate       `json:"fate"`
+	Why   read.Why   `json:"why,omitempty"` // of one that isn't known
+	IsAll bool       `json:"all_orders"`
+	Loses []Thing    `json:"loses,omitempty"` // what is lost at some end, where it stands now
+	Kept  []Kept     `json:"kept,omitempty"`  // why devices don't come to have one thing
+	Ends  [][]Thing  `json:"ends,omitempty"`
+	Now   []Thing    `json:"now,omitempty"` // what stands on the disks now
+	Plan  *Plan      `json:"-"`
 
 	certain []Thing // what is lost where no conflict copies meet, too
 	deleted []Thing // what goes by a recorded deletion, where nothing stands at the name in the end
 }
 
-// Thing is what stands at a name, or in a conflict copy of it, on some devices.
-type Thing struct {
-	Members []int // rising
-	Type    forecast.Type
-	Content forecast.Content
-	Target  part.Bytes `json:",omitempty"`
-	Time    int64      `json:",omitempty"` // forecast.Now for what is made later
-	IsCopy  bool       `json:",omitempty"`
-}
-
 // Kept is why a device keeps a name otherwise than others.
 type Kept struct {
-	Member int
-	Why    forecast.Why
+	Device string       `json:"device"`
+	Why    forecast.Why `json:"why"`
+	member int
 }
 
 // Foreteller has what all folders of an answer share: the budget, and what was found already.
@@ -96,14 +107,16 @@ func NewForeteller(budget forecast.Budget, present int64) *Foreteller {
 
 // Of gives what becomes of the names of a folder's rows, and what to do about those that need a hand.
 func (f *Foreteller) Of(rows *read.Rows) *Outlook {
-	t := &teller{rows: rows, planner: f.planner, choices: newChoices(f.forecaster, rows.Damage), outlook: &Outlook{Count: map[Fate]int64{}}, unknown: map[read.Why]int64{},
+	t := &teller{rows: rows, planner: f.planner, choices: newChoices(f.forecaster, rows.Damage), outlook: &Outlook{Listed: []Name{}}, unknown: map[read.Why]int64{},
 		kept: map[Kept]int64{}}
-	for _, group := range rows.World().Groups() {
+	world := rows.World()
+	t.devices = world.Devices
+	for _, group := range world.Groups() {
 		t.group(group, f.forecaster)
 	}
 	t.plan()
 	for why, count := range rows.Count {
-		t.outlook.Count[Unknown] += count
+		t.outlook.NotKnown += count
 		t.outlook.Names += count
 		t.unknown[why] += count
 	}
@@ -112,6 +125,7 @@ func (f *Foreteller) Of(rows *read.Rows) *Outlook {
 
 type teller struct {
 	rows    *read.Rows
+	devices []forecast.Device
 	planner *planner
 	choices *choices
 	outlook *Outlook
@@ -196,14 +210,14 @@ func (t *teller) whyNoAnswer(group *forecast.World, answer *forecast.Answer) rea
 func (t *teller) addUnknown(group *forecast.World, why read.Why) {
 	for place := range group.Names {
 		name := &group.Names[place]
-		t.add(Name{Name: part.Bytes(name.Name), Fate: Unknown, Why: why, Plan: &Plan{Steps: savesOf(name, filesOf(thingsNow(name)), t.rows.Damage[name.Name])}})
+		t.add(Name{Name: part.Bytes(name.Name), Fate: Unknown, Why: why, Plan: &Plan{Steps: savesOf(group.Devices, name, filesOf(thingsNow(group.Devices, name)), t.rows.Damage[name.Name])}})
 		t.unknown[why]++
 	}
 }
 
 func (t *teller) add(told Name) {
 	t.outlook.Names++
-	t.outlook.Count[told.Fate]++
+	*t.outlook.count(told.Fate)++
 	if told.Fate != Unknown && !told.IsAll {
 		t.outlook.Walked++
 	}
@@ -218,17 +232,18 @@ func (t *teller) add(told Name) {
 // end sorts what was told.
 func (t *teller) end() *Outlook {
 	outlook := t.outlook
+	outlook.Unknown, outlook.Kept = []Group{}, []Group{}
 	for why, count := range t.unknown {
 		group := Group{Why: string(why), Names: count}
 		for _, all := range t.rows.All {
 			if all.Why == why {
-				group.Members = all.Members
+				group.Devices = idsOf(t.devices, all.Members)
 			}
 		}
 		outlook.Unknown = append(outlook.Unknown, group)
 	}
 	for kept, count := range t.kept {
-		outlook.Kept = append(outlook.Kept, Group{Why: WhyKept[kept.Why], Members: []int{kept.Member}, Names: count})
+		outlook.Kept = append(outlook.Kept, Group{string(kept.Why), []string{kept.Device}, count, kept.member})
 	}
 	for _, groups := range [][]Group{outlook.Unknown, outlook.Kept} {
 		sort.Slice(groups, func(a, b int) bool { return groups[a].isBefore(&groups[b]) })
@@ -238,7 +253,15 @@ func (t *teller) end() *Outlook {
 	if len(outlook.Listed) > MostListed {
 		outlook.Listed = outlook.Listed[:MostListed]
 	}
+	outlook.MoreNames = outlook.Names - int64(len(outlook.Listed))
 	return outlook
+}
+
+// AddWithoutSteps adds a name that something is to be done for before a start, and that no plan has.
+func (o *Outlook) AddWithoutSteps(name string) {
+	if o.WithoutSteps++; len(o.FirstWithout) < MostNamed {
+		o.FirstWithout = append(o.FirstWithout, part.Bytes(name))
+	}
 }
 
 func (g *Group) isBefore(other *Group) bool {
@@ -248,7 +271,7 @@ func (g *Group) isBefore(other *Group) bool {
 	if g.Why != other.Why {
 		return g.Why < other.Why
 	}
-	return len(g.Members) > 0 && len(other.Members) > 0 && g.Members[0] < other.Members[0]
+	return g.first < other.first
 }
 
 // isBefore says whether a name is in more danger than another one: by its fate, then by how many bytes it loses, then by its name.

@@ -7,6 +7,7 @@ import (
 	"sort"
 	"strings"
 
+	"golang.org/x/exp/slices"
 	"syncthing-audit/advice"
 	"syncthing-audit/damage"
 	"syncthing-audit/forecast"
@@ -15,10 +16,10 @@ import (
 
 // Step is one step on one device's disk, for a name.
 type Step struct {
-	Act    Act
-	Member int
-	From   int  `json:",omitempty"` // of a copy
-	Over   bool `json:",omitempty"` // whether a copy takes the place of what stands there now
+	Act    Act    `json:"act"`
+	Device string `json:"device"`
+	From   string `json:"from,omitempty"` // of a copy
+	Over   bool   `json:"over,omitempty"` // whether a copy takes the place of what stands there now
 }
 
 // Act is what a step does.
@@ -34,14 +35,14 @@ const (
 
 // Plan is what to do about names, while Syncthing is stopped on all devices of the folder. It is followed from the top.
 type Plan struct {
-	Names  []part.Bytes // by danger
-	Count  int64        // of all names: the first MostListed are there
-	Steps  []Step
-	Goal   *Thing `json:",omitempty"` // of the first name: what all devices have then; where it stands now. Without one the steps save what is lost
-	Copies []int  `json:",omitempty"` // the devices whose present bytes are kept as a conflict copy then
-	Below  int64  `json:",omitempty"` // of a directory that is copied: of how many names below it the same holds
-	IsAll  bool   // all orders were tried
-	by     string // the directory whose plan does what this one's name needs
+	Names  []part.Bytes `json:"names"`                 // by danger
+	Count  int64        `json:"names_count"`           // of all names: the first MostListed are there
+	Below  int64        `json:"names_below,omitempty"` // of a directory that is copied: of how many names below it the same holds
+	Steps  []Step       `json:"steps"`
+	Goal   *Thing       `json:"then,omitempty"`           // of the first name: what all devices have then; where it stands now. Without one the steps save what is lost
+	Copies []string     `json:"kept_as_copies,omitempty"` // the devices whose present bytes are kept as a conflict copy then
+	IsAll  bool         `json:"all_orders"`
+	by     string       // the directory whose plan does what this one's name needs
 }
 
 // mostOfGroup is for how many names that hang together a plan is searched at most.
@@ -74,7 +75,7 @@ func (p *planner) plan(group *forecast.World, told []Name, damaged map[string][]
 			node = directoryAt(name)
 		}
 		if node != nil && told[place].Plan == nil {
-			hands = append(hands, hand{place, advice.Goal{Name: name.Name, Node: node}})
+			hands = append(hands, hand{place: place, goal: advice.Goal{Name: name.Name, Node: node}})
 		}
 	}
 	if len(group.Names) <= mostOfGroup && len(hands) > 0 {
@@ -85,17 +86,36 @@ func (p *planner) plan(group *forecast.World, told []Name, damaged map[string][]
 		}
 	}
 	for place := range told {
-		if told[place].Plan == nil && told[place].Fate == Lost {
-			goes := append(append([]Thing{}, told[place].Loses...), told[place].deleted...)
-			told[place].Plan = &Plan{Steps: savesOf(&group.Names[place], goes, damaged[group.Names[place].Name]), IsAll: told[place].IsAll}
+		if goes := told[place].toSave(); told[place].Plan == nil && (len(goes) > 0 || told[place].Fate == Lost) {
+			told[place].Plan = &Plan{Steps: savesOf(group.Devices, &group.Names[place], goes, damaged[group.Names[place].Name]), IsAll: told[place].IsAll}
 		}
 	}
 }
 
-// hand is a name that needs a hand, by its place in its group, and what is to stand there.
+// hand is a name that needs a hand, by its place in its group, what is to stand there, and steps that may lead to that.
 type hand struct {
 	place int
 	goal  advice.Goal
+	steps []advice.Step
+}
+
+// together gives all goals and all steps.
+func together(hands []hand) (goals []advice.Goal, steps []advice.Step) {
+	for _, hand := range hands {
+		goals, steps = append(goals, hand.goal), append(steps, hand.steps...)
+	}
+	return goals, steps
+}
+
+// plansOf gives each of these names its steps of what was found for all of them together.
+func (p *planner) plansOf(group *forecast.World, hands []hand, found *advice.Plan) map[int]*Plan {
+	plans := map[int]*Plan{}
+	for _, hand := range hands {
+		mine := *found
+		mine.Steps = hand.steps
+		plans[hand.place] = planOf(group, hand, &mine, p.damage)
+	}
+	return plans
 }
 
 // planAll plans for each of these names in the world that the plans before it leave. The last world's ends are then all goals at once, or there
@@ -123,8 +143,8 @@ func (p *planner) planAll(group *forecast.World, world forecast.World, goals []a
 			step.On(&world, p.search.Present)
 		}
 	}
-	for _, goal := range goals[:max(len(goals)-1, 0)] {
-		if len(plans) > 0 && p.search.Check(world, goal, nil) == nil {
+	for at, goal := range goals {
+		if isLast := at == len(goals)-1; !isLast && len(plans) > 0 && p.search.Check(world, goal, nil) == nil {
 			return nil
 		}
 	}
@@ -160,13 +180,6 @@ func plannedAbove(name string, plans map[int]*Plan, group *forecast.World) strin
 	return ""
 }
 
-func max(a, b int) int {
-	if a > b {
-		return a
-	}
-	return b
-}
-
 // find finds a plan of a goal. Nothing of it deletes where another one does without.
 func (p *planner) find(world *forecast.World, goal advice.Goal) *advice.Plan {
 	names := world.Copied().Names
@@ -192,67 +205,67 @@ func (p *planner) find(world *forecast.World, goal advice.Goal) *advice.Plan {
 }
 
 func holderOf(name *forecast.Name, node *forecast.Node) int {
-	for member, what := range name.Disk {
-		if what != nil && *what == *node {
-			return member
-		}
-	}
-	return -1
+	return slices.IndexFunc(name.Disk, func(what *forecast.Node) bool { return what != nil && *what == *node })
 }
 
 // best gives the first plan that deletes nothing, or else the first one.
 func best(plans []advice.Plan) *advice.Plan {
-	for place := range plans {
-		deletes := false
-		for _, step := range plans[place].Steps {
-			deletes = deletes || step.Act == advice.Delete
-		}
-		if !deletes {
-			return &plans[place]
-		}
+	if len(plans) == 0 {
+		return nil
 	}
-	if len(plans) > 0 {
-		return &plans[0]
+	deletes := func(step advice.Step) bool { return step.Act == advice.Delete }
+	place := slices.IndexFunc(plans, func(plan advice.Plan) bool { return slices.IndexFunc(plan.Steps, deletes) < 0 })
+	if place < 0 {
+		place = 0
+	}
+	return &plans[place]
+}
+
+// toSave gives what a plan saves that leads to no goal: what is lost, and what goes by a recorded deletion beside it; or else what goes from a device on which
+// nothing takes its place though the name stays on others.
+func (n *Name) toSave() []Thing {
+	switch n.Fate {
+	case Lost:
+		return append(append([]Thing{}, n.Loses...), n.deleted...)
+	case Stays, Depends:
+		return n.goes()
 	}
 	return nil
 }
 
+// goes gives what stands on a device now, and at some end nowhere, where the device has nothing then.
+func (n *Name) goes() []Thing {
+	var gone []Thing
+	for _, thing := range filesOf(n.Now) {
+		isGone := func(end []Thing) bool {
+			return !isAmongAll(end, &thing) && slices.IndexFunc(thing.Devices, func(device string) bool { return !stands(end, device) }) >= 0
+		}
+		if slices.IndexFunc(n.Ends, isGone) >= 0 {
+			gone = append(gone, thing)
+		}
+	}
+	return gone
+}
+
+// isAmongAll says whether a thing is one of some things, or a copy that is kept of it.
+func isAmongAll(things []Thing, thing *Thing) bool {
+	return slices.IndexFunc(things, func(other Thing) bool { return other.IsLike(thing) }) >= 0
+}
+
 // savesOf saves things that are lost else, and what may be right where the record may be the damage. An empty file has nothing to save.
-func savesOf(name *forecast.Name, things []Thing, kinds []damage.Kind) []Step {
+func savesOf(devices []forecast.Device, name *forecast.Name, things []Thing, kinds []damage.Kind) []Step {
 	var steps []Step
 	for place := range things {
 		if !things[place].isEmpty() {
-			steps = append(steps, Step{Act: Save, Member: things[place].Members[0]})
+			steps = append(steps, Step{Act: Save, Device: things[place].Devices[0]})
 		}
 	}
 	for member, kind := range kinds {
 		if kind.MayBeOfRecord() && !isAmong(things, thingOf(name.Disk[member])) {
-			steps = append(steps, Step{Act: Save, Member: member})
+			steps = append(steps, Step{Act: Save, Device: devices[member].ID})
 		}
 	}
 	return steps
-}
-
-func isAmong(things []Thing, thing *Thing) bool {
-	for place := range things {
-		if things[place].isSame(thing) {
-			return true
-		}
-	}
-	return false
-}
-
-func (t *Thing) isEmpty() bool { return t.Type == forecast.File && t.Content.Size == 0 }
-
-// filesOf leaves directories out: what is below them are names, too.
-func filesOf(things []Thing) []Thing {
-	var files []Thing
-	for _, thing := range things {
-		if thing.Type != forecast.Directory {
-			files = append(files, thing)
-		}
-	}
-	return files
 }
 
 var acts = map[advice.Act]Act{advice.Touch: Touch, advice.Copy: Copy, advice.Delete: Delete}
@@ -260,56 +273,49 @@ var acts = map[advice.Act]Act{advice.Touch: Touch, advice.Copy: Copy, advice.Del
 // planOf gives a plan of a name in which what is lost on the way is saved first.
 func planOf(group *forecast.World, hand hand, found *advice.Plan, damaged map[string][]damage.Kind) *Plan {
 	name, plan, judge := &group.Names[hand.place], &Plan{IsAll: found.Answer.IsAll}, newJudge(group, &found.Answer, damaged)
-	for _, thing := range thingsNow(name) {
-		if thing.isSame(thingOf(hand.goal.Node)) {
+	for _, thing := range thingsNow(group.Devices, name) {
+		if thing.IsLike(thingOf(hand.goal.Node)) {
 			thing := thing
 			plan.Goal = &thing
 		}
 		if !thing.isEmpty() && !judge.survives(name.Name, &thing) && judge.wayOf(name, &thing) != byRecord {
-			plan.Steps = append(plan.Steps, Step{Act: Save, Member: thing.Members[0]})
+			plan.Steps = append(plan.Steps, Step{Act: Save, Device: thing.Devices[0]})
 		}
 		if judge.isCopyAtAll(name.Name, &thing) {
-			plan.Copies = append(plan.Copies, thing.Members...)
+			plan.Copies = append(plan.Copies, thing.Devices...)
 		}
 	}
 	for _, step := range found.Steps {
-		if step.Act != advice.Touch && !plan.does(Save, step.Device) && hasBelow(group, step.Device, name.Name) {
-			plan.Steps = append([]Step{{Act: Save, Member: step.Device}}, plan.Steps...)
+		next := Step{Act: acts[step.Act], Device: group.Devices[step.Device].ID}
+		if next.Act != Touch && !plan.does(Save, next.Device) && hasBelow(group, step.Device, name.Name) {
+			plan.Steps = append([]Step{{Act: Save, Device: next.Device}}, plan.Steps...)
 		}
-		plan.Steps = append(plan.Steps, Step{acts[step.Act], step.Device, step.From, step.Act == advice.Copy && name.Disk[step.Device] != nil && !plan.does(Delete, step.Device)})
+		if next.Act == Copy {
+			next.From, next.Over = group.Devices[step.From].ID, name.Disk[step.Device] != nil && !plan.does(Delete, next.Device)
+		}
+		plan.Steps = append(plan.Steps, next)
 	}
-	sort.Ints(plan.Copies)
+	sort.Slice(plan.Copies, func(a, b int) bool {
+		return placeOf(group.Devices, plan.Copies[a]) < placeOf(group.Devices, plan.Copies[b])
+	})
 	return plan
 }
 
 // does says whether a plan has this step on a device.
-func (p *Plan) does(act Act, member int) bool {
-	for _, step := range p.Steps {
-		if step.Act == act && step.Member == member {
-			return true
-		}
-	}
-	return false
+func (p *Plan) does(act Act, device string) bool {
+	return slices.IndexFunc(p.Steps, func(step Step) bool { return step.Act == act && step.Device == device }) >= 0
 }
 
 // hasBelow says whether a device has something below a name: it goes with the directory.
 func hasBelow(group *forecast.World, member int, name string) bool {
-	for place := range group.Names {
-		if group.Names[place].Disk[member] != nil && strings.HasPrefix(group.Names[place].Name, name+"/") {
-			return true
-		}
-	}
-	return false
+	return slices.IndexFunc(group.Names, func(other forecast.Name) bool { return other.Disk[member] != nil && isBelow(other.Name, name) }) >= 0
 }
 
 // isCopyAtAll says whether something stands as a conflict copy of a name at each end.
 func (j *judge) isCopyAtAll(name string, thing *Thing) bool {
 	for _, end := range j.ends {
-		is := false
-		for at, other := range end[name] {
-			is = is || other.IsCopy && !mayGoByMeeting(end[name], at) && other.Content == thing.Content && other.Type == thing.Type && other.Target == thing.Target
-		}
-		if !is {
+		at := slices.IndexFunc(end[name], func(other Thing) bool { return other.IsCopy && other.IsLike(thing) })
+		if at < 0 || mayGoByMeeting(end[name], at) {
 			return false
 		}
 	}
@@ -327,7 +333,7 @@ func plansOf(listed []Name) []Plan {
 		}
 		key := fmt.Sprint(plan.Steps, plan.Goal == nil, plan.Copies, plan.IsAll, plan.depthOf(listed[place].Name))
 		if plan.Goal != nil {
-			key += fmt.Sprint(plan.Goal.Members)
+			key += fmt.Sprint(plan.Goal.Devices)
 		}
 		at, is := places[key]
 		if !is {
@@ -356,11 +362,11 @@ func plansOf(listed []Name) []Plan {
 
 // depthOf says how far below the folder's root a name stands whose directory is copied. All other names are deeper than any directory.
 func (p *Plan) depthOf(name part.Bytes) int {
-	if !p.isOfDirectories() {
+	if !p.IsOfDirectories() {
 		return math.MaxInt32
 	}
 	return strings.Count(string(name), "/")
 }
 
-// isOfDirectories says whether directories are copied with all below them.
-func (p *Plan) isOfDirectories() bool { return p.Goal != nil && p.Goal.Type == forecast.Directory }
+// IsOfDirectories says whether directories are copied with all below them.
+func (p *Plan) IsOfDirectories() bool { return p.Goal != nil && p.Goal.Type == forecast.Directory }

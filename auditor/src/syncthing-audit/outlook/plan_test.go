@@ -28,7 +28,7 @@ func calm(name string, devices int, hash byte) *join.Row {
 }
 
 func (p *Plan) isOf(steps []Step, goal []int) bool {
-	return reflect.DeepEqual(p.Steps, steps) && (p.Goal == nil) == (goal == nil) && (goal == nil || reflect.DeepEqual(p.Goal.Members, goal))
+	return reflect.DeepEqual(p.Steps, steps) && (p.Goal == nil) == (goal == nil) && (goal == nil || reflect.DeepEqual(p.Goal.Devices, at(goal...)))
 }
 
 var plansOfNames = []struct {
@@ -38,8 +38,8 @@ var plansOfNames = []struct {
 	goal   []int
 }{
 	{"rot is replaced by a good copy, once it is saved", func(_ *join.Folder, row *join.Row) { row.At[1].Disk.Contents[0].Hash = part.Hash{99} },
-		[]Step{{Act: Save, Member: 1}, {Act: Copy, Member: 1, Over: true}}, []int{0, 2}},
-	{"what is missing is copied back", func(_ *join.Folder, row *join.Row) { row.At[1].Disk = nil }, []Step{{Act: Copy, Member: 1}}, []int{0, 2}},
+		[]Step{{Act: Save, Device: idOf(1)}, {Act: Copy, Device: idOf(1), From: idOf(0), Over: true}}, []int{0, 2}},
+	{"what is missing is copied back", func(_ *join.Folder, row *join.Row) { row.At[1].Disk = nil }, []Step{{Act: Copy, Device: idOf(1), From: idOf(0)}}, []int{0, 2}},
 	{"what loses and isn't recorded is saved", func(folder *join.Folder, row *join.Row) {
 		for member, one := range folder.Members {
 			one.About.Options.MaxConflicts = 0
@@ -48,7 +48,7 @@ var plansOfNames = []struct {
 				row.At[member].Disk.Contents[0].Hash, row.At[member].Disk.ModifiedS = part.Hash{byte(70 + member)}, int64(200+member)
 			}
 		}
-	}, []Step{{Act: Save}}, nil},
+	}, []Step{{Act: Save, Device: idOf(0)}}, nil},
 	{"what comes right by itself has no plan", func(_ *join.Folder, row *join.Row) {
 		row.At[1].Disk.Contents[0].Hash, row.At[1].Disk.ModifiedS = part.Hash{70}, 200
 	}, nil, nil},
@@ -79,7 +79,7 @@ func TestNamesWithOnePlan(t *testing.T) {
 		row.At[1].Disk = nil
 		from.Take(row)
 	}
-	made := &teller{rows: from, planner: newPlanner(1000e9), choices: newChoices(forecast.New(forecast.Usual), nil), outlook: &Outlook{Count: map[Fate]int64{}}, unknown: map[read.Why]int64{}, kept: map[Kept]int64{}}
+	made := &teller{rows: from, planner: newPlanner(1000e9), choices: newChoices(forecast.New(forecast.Usual), nil), outlook: &Outlook{}, unknown: map[read.Why]int64{}, kept: map[Kept]int64{}}
 	for _, group := range from.World().Groups() {
 		made.group(group, forecast.New(forecast.Usual))
 	}
@@ -133,25 +133,52 @@ func carryOut(world *forecast.World, name string, plan *Plan) {
 		return
 	}
 	for _, step := range plan.Steps {
-		what := world.At(step.Member, name)
+		what := world.At(memberOf(step.Device), name)
 		switch step.Act {
 		case Touch:
 			touched := *what
 			touched.Time = presentOfPlans
-			world.Put(step.Member, name, touched)
+			world.Put(memberOf(step.Device), name, touched)
 		case Copy:
-			advice.Step{Act: advice.Copy, Device: step.Member, From: step.From, Name: name}.On(world, presentOfPlans)
+			advice.Step{Act: advice.Copy, Device: memberOf(step.Device), From: memberOf(step.From), Name: name}.On(world, presentOfPlans)
 		case Delete:
-			world.Remove(step.Member, name)
+			world.Remove(memberOf(step.Device), name)
 		}
 	}
 }
 
 func standsOnAll(end *forecast.End, name string, goal *Thing) bool {
-	for _, thing := range thingsOf(end)[name] {
-		if thing.isSame(goal) {
-			return len(thing.Members) == len(end.Disks)
+	for _, thing := range thingsOf(anyDevices, end)[name] {
+		if thing.IsSame(*goal) {
+			return len(thing.Devices) == len(end.Disks)
 		}
 	}
 	return false
+}
+
+// What goes from some devices though others keep the name is to be saved: where nothing comes in its place there, and no copy of it is kept.
+func TestWhatGoesFromSomeDevicesIsSaved(t *testing.T) {
+	thing := func(hash string, members ...int) Thing {
+		return Thing{Devices: at(members...), Type: forecast.File, Content: forecast.Content{Size: 5, Hash: hash}}
+	}
+	copied := thing("good", 0)
+	copied.IsCopy = true
+	for _, one := range []struct {
+		ends   [][]Thing
+		isTold bool
+	}{
+		{[][]Thing{{thing("rot", 1)}}, true},
+		{[][]Thing{{thing("rot", 1), thing("newer", 0)}}, true},
+		{[][]Thing{{thing("rot", 1), copied}}, false},
+		{[][]Thing{{thing("rot", 1), thing("newer", 0, 2)}}, false},
+		{[][]Thing{{thing("rot", 1), thing("good", 0, 2)}, {thing("rot", 1)}}, true},
+	} {
+		for _, fate := range []Fate{Stays, Depends, Deleted, ByItself} {
+			name := Name{Fate: fate, Now: []Thing{thing("rot", 1), thing("good", 0, 2)}, Ends: one.ends}
+			saved := name.toSave()
+			if is := len(saved) == 1 && saved[0].Content.Hash == "good"; is != (one.isTold && (fate == Stays || fate == Depends)) || !is && len(saved) > 0 {
+				t.Errorf("%s, %v: %v", fate, one.ends, saved)
+			}
+		}
+	}
 }

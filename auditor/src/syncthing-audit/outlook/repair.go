@@ -3,7 +3,9 @@ package outlook
 import (
 	"path"
 	"sort"
+	"strings"
 
+	"golang.org/x/exp/slices"
 	"syncthing-audit/advice"
 	"syncthing-audit/damage"
 	"syncthing-audit/forecast"
@@ -22,9 +24,7 @@ type repair struct {
 	damage map[string][]damage.Kind
 	world  forecast.World // after the steps
 	skip   map[string]bool
-	steps  []advice.Step
-	goals  []advice.Goal
-	copied []advice.Step // those of directories
+	hands  []hand
 }
 
 // repairs gives names that hang together the plans that put back what is due, where that leads to it on all devices. It gives the world after the
@@ -34,13 +34,14 @@ func (p *planner) repairs(group *forecast.World, told []Name, damaged map[string
 	for try := 0; try < mostTries; try++ {
 		r := &repair{group: group, told: told, damage: damaged, world: group.Copied(), skip: skip}
 		r.find()
-		if len(r.steps) == 0 || len(r.steps) > mostRepairs {
+		goals, steps := together(r.hands)
+		if len(steps) == 0 || len(steps) > mostRepairs {
 			break
 		}
-		found, missed := p.search.Together(group.Copied(), r.goals, r.steps)
+		found, missed := p.search.Together(group.Copied(), goals, steps)
 		if found != nil && r.losesNothing(found) {
-			r.tell(found)
-			return r.world, r.goals
+			r.tell(p.plansOf(group, r.hands, found))
+			return r.world, goals
 		}
 		if len(missed) == 0 {
 			break
@@ -87,15 +88,15 @@ func (r *repair) find() {
 		if due == nil {
 			continue
 		}
-		wasHarmed := false
+		isHarmed, next := false, hand{place: place, goal: advice.Goal{Name: name.Name, Node: due}}
 		for member := range name.Disk {
-			wasHarmed = wasHarmed || r.isHarmed(name, member, name.Disk[member], &r.told[place])
+			isHarmed = isHarmed || r.isHarmed(name, member, name.Disk[member], &r.told[place])
 			if what := r.world.At(member, name.Name); member != from && r.isHarmed(name, member, what, &r.told[place]) && r.hasDirectoryAbove(member, name.Name) {
-				r.add(name.Name, member, from, what, due)
+				next.steps = append(next.steps, r.copyTo(name.Name, member, from, what, due)...)
 			}
 		}
-		if wasHarmed {
-			r.goals = append(r.goals, advice.Goal{Name: name.Name, Node: due})
+		if isHarmed || len(next.steps) > 0 {
+			r.hands = append(r.hands, next)
 		}
 	}
 }
@@ -118,27 +119,21 @@ func (r *repair) order() []int {
 
 // isDirectory says whether a name is a directory by some record.
 func isDirectory(name *forecast.Name) bool {
-	for _, own := range name.Own {
-		if own != nil && own.Flag == forecast.Valid && !own.Deleted && own.Type == forecast.Directory {
-			return true
-		}
-	}
-	return false
+	return slices.IndexFunc(name.Own, func(own *forecast.Record) bool {
+		return own != nil && own.Flag == forecast.Valid && !own.Deleted && own.Type == forecast.Directory
+	}) >= 0
 }
 
-// add adds the steps of a name on a device. What stands in place of a directory is taken away before.
-func (r *repair) add(name string, member, from int, what, due *forecast.Node) {
+// copyTo takes the steps of a name on a device. What stands in place of a directory is taken away before.
+func (r *repair) copyTo(name string, member, from int, what, due *forecast.Node) []advice.Step {
 	steps := []advice.Step{{Act: advice.Copy, Device: member, From: from, Name: name}}
-	if due.Type == forecast.Directory {
-		r.copied = append(r.copied, steps[0])
-		if what != nil {
-			steps = append([]advice.Step{{Act: advice.Delete, Device: member, Name: name}}, steps...)
-		}
+	if due.Type == forecast.Directory && what != nil {
+		steps = append([]advice.Step{{Act: advice.Delete, Device: member, Name: name}}, steps...)
 	}
 	for _, step := range steps {
 		step.On(&r.world, 0)
 	}
-	r.steps = append(r.steps, steps...)
+	return steps
 }
 
 // hasDirectoryAbove says whether something can be copied to a name on a device as things are after the steps so far.
@@ -149,18 +144,10 @@ func (r *repair) hasDirectoryAbove(member int, name string) bool {
 	}
 	what := r.world.At(member, above)
 	if what == nil {
-		return !r.isAmong(above) && r.hasDirectoryAbove(member, above)
+		isAbove := func(name forecast.Name) bool { return name.Name == above }
+		return slices.IndexFunc(r.group.Names, isAbove) < 0 && r.hasDirectoryAbove(member, above)
 	}
 	return what.Type == forecast.Directory
-}
-
-func (r *repair) isAmong(name string) bool {
-	for place := range r.group.Names {
-		if r.group.Names[place].Name == name {
-			return true
-		}
-	}
-	return false
 }
 
 // isHarmed says whether what stands on a device's disk, or what doesn't stand there, looks like damage to what the device recorded. Something that is
@@ -172,7 +159,7 @@ func (r *repair) isHarmed(name *forecast.Name, member int, what *forecast.Node, 
 	}
 	switch {
 	case own.Type == forecast.Directory && (what == nil || what.Type != forecast.Directory):
-		return r.losesBelow(name.Name)
+		return losesBelow(r.group, r.told, name.Name)
 	case what == nil:
 		return told.Fate == Lost
 	case own.Type != forecast.File || what.Type != forecast.File:
@@ -180,26 +167,9 @@ func (r *repair) isHarmed(name *forecast.Name, member int, what *forecast.Node, 
 	}
 	kind := damage.None
 	if was := name.Disk[member]; was != nil && *was == *what {
-		kind = r.kindOf(name.Name, member)
+		kind = kindOf(r.damage, name.Name, member)
 	}
 	return !kind.MayBeOfRecord() && (kind != damage.None || isRot(own, what))
-}
-
-// losesBelow says whether something that isn't a directory is lost below a name. A directory that was renamed loses nothing.
-func (r *repair) losesBelow(name string) bool {
-	for place := range r.group.Names {
-		if other := &r.group.Names[place]; isBelow(other.Name, name) && r.told[place].Fate == Lost && !isDirectory(other) {
-			return true
-		}
-	}
-	return false
-}
-
-func (r *repair) kindOf(name string, member int) damage.Kind {
-	if kinds := r.damage[name]; kinds != nil {
-		return kinds[member]
-	}
-	return damage.None
 }
 
 // dueOf gives what is to stand at a name, and a device that has it: a change that no scan has seen yet, or else what was recorded last. It gives
@@ -211,7 +181,7 @@ func (r *repair) dueOf(name *forecast.Name, told *Name) (*forecast.Node, int) {
 	for member, what := range name.Disk {
 		own := name.Own[member]
 		switch {
-		case r.kindOf(name.Name, member).MayBeOfRecord():
+		case kindOf(r.damage, name.Name, member).MayBeOfRecord():
 			return nil, -1
 		case own == nil || own.Flag != forecast.Valid || r.group.Devices[member].Kind == forecast.ReceiveOnly:
 		case showsChange(own, what) && !r.isHarmed(name, member, what, told):
@@ -270,7 +240,7 @@ func (r *repair) countBelow(member int, name string) (others, count int) {
 		if what == nil || !isBelow(other.Name, name) || what.Type == forecast.Directory {
 			continue
 		}
-		if due, _ := r.dueOf(other, &r.told[place]); due == nil || !thingOf(what).isSame(thingOf(due)) {
+		if due, _ := r.dueOf(other, &r.told[place]); due == nil || !thingOf(what).IsLike(thingOf(due)) {
 			others++
 		} else {
 			count++
@@ -279,38 +249,26 @@ func (r *repair) countBelow(member int, name string) (others, count int) {
 	return others, count
 }
 
-func isBelow(name, above string) bool {
-	return len(name) > len(above) && name[:len(above)] == above && name[len(above)] == '/'
-}
+func isBelow(name, above string) bool { return strings.HasPrefix(name, above+"/") }
 
 // tell gives each name its plan. Those without steps of their own are among what is below a directory that is copied.
-func (r *repair) tell(found *advice.Plan) {
-	for _, goal := range r.goals {
-		place := sort.Search(len(r.group.Names), func(at int) bool { return r.group.Names[at].Name >= goal.Name })
-		own := *found
-		own.Steps = nil
-		for _, step := range found.Steps {
-			if step.Name == goal.Name {
-				own.Steps = append(own.Steps, step)
-			}
-		}
-		plan := planOf(r.group, hand{place, goal}, &own, r.damage)
-		if len(own.Steps) == 0 {
+func (r *repair) tell(plans map[int]*Plan) {
+	for _, hand := range r.hands {
+		plan := plans[hand.place]
+		switch {
+		case len(hand.steps) == 0:
 			plan.Steps = nil
+		case hand.goal.Node.Type == forecast.Directory:
+			plan.Below = r.namesBelow(hand.goal.Name)
 		}
-		for _, step := range r.copied {
-			if step.Name == goal.Name {
-				plan.Below = r.namesBelow(goal.Name)
-			}
-		}
-		r.told[place].Plan = plan
+		r.told[hand.place].Plan = plan
 	}
 }
 
 func (r *repair) namesBelow(name string) int64 {
 	count := int64(0)
-	for _, goal := range r.goals {
-		if isBelow(goal.Name, name) {
+	for _, hand := range r.hands {
+		if isBelow(hand.goal.Name, name) {
 			count++
 		}
 	}

@@ -46,7 +46,7 @@ func TestWhichRecordIsLater(t *testing.T) {
 
 // tree is a world of a directory and what is below it, at two devices, with a fate for each name.
 func tree() (*repair, func(called string) *forecast.Name) {
-	made := &repair{group: &forecast.World{Devices: make([]forecast.Device, 2)}, damage: map[string][]damage.Kind{}, skip: map[string]bool{}}
+	made := &repair{group: &forecast.World{Devices: folderDevices(2)}, damage: map[string][]damage.Kind{}, skip: map[string]bool{}}
 	for _, name := range []string{"d", "d/a", "d/e", "d/e/b", "da", "f"} {
 		record := &forecast.Record{Type: forecast.File, Content: smallContents[2]}
 		if name == "d" || name == "d/e" {
@@ -239,13 +239,14 @@ func TestStepsOfARepair(t *testing.T) {
 	r, find := tree()
 	find("d").Disk[1] = &forecast.Node{Type: forecast.File}
 	r.world = r.group.Copied()
-	r.add("d", 1, 0, find("d").Disk[1], find("d").Disk[0])
-	r.add("f", 1, 0, nil, find("f").Disk[0])
+	steps := append(r.copyTo("d", 1, 0, find("d").Disk[1], find("d").Disk[0]), r.copyTo("f", 1, 0, nil, find("f").Disk[0])...)
 	due := []advice.Step{{Act: advice.Delete, Device: 1, Name: "d"}, {Act: advice.Copy, Device: 1, Name: "d"}, {Act: advice.Copy, Device: 1, Name: "f"}}
-	if !reflect.DeepEqual(r.steps, due) || !reflect.DeepEqual(r.copied, due[1:2]) || r.world.At(1, "d").Type != forecast.Directory {
-		t.Errorf("%+v, %+v", r.steps, r.copied)
+	if !reflect.DeepEqual(steps, due) || r.world.At(1, "d").Type != forecast.Directory {
+		t.Errorf("%+v", steps)
 	}
-	r.goals = []advice.Goal{{Name: "d"}, {Name: "d/a"}, {Name: "d/e/b"}, {Name: "da"}}
+	for _, name := range []string{"d", "d/a", "d/e/b", "da"} {
+		r.hands = append(r.hands, hand{goal: advice.Goal{Name: name}})
+	}
 	if count := r.namesBelow("d"); count != 2 {
 		t.Errorf("%d names below", count)
 	}

@@ -153,9 +153,9 @@ func shown(all []Plan) string {
 	for _, plan := range all {
 		var steps []string
 		for _, step := range plan.Steps {
-			told := fmt.Sprintf("%s on %d", step.Act, step.Member)
+			told := fmt.Sprintf("%s on %d", step.Act, memberOf(step.Device))
 			if step.Act == Copy {
-				told = fmt.Sprintf("copy to %d from %d", step.Member, step.From)
+				told = fmt.Sprintf("copy to %d from %d", memberOf(step.Device), memberOf(step.From))
 			}
 			steps = append(steps, told)
 		}
@@ -165,10 +165,10 @@ func shown(all []Plan) string {
 		}
 		text += ": " + strings.Join(steps, ", ")
 		if plan.Goal != nil {
-			text += fmt.Sprintf("; then what %s have", strings.Trim(strings.ReplaceAll(fmt.Sprint(plan.Goal.Members), " ", ", "), "[]"))
+			text += fmt.Sprintf("; then what %s have", strings.Trim(strings.ReplaceAll(fmt.Sprint(placesOf(plan.Goal.Devices)), " ", ", "), "[]"))
 		}
 		if len(plan.Copies) > 0 {
-			text += fmt.Sprintf(", and copies of %s", strings.Trim(fmt.Sprint(plan.Copies), "[]"))
+			text += fmt.Sprintf(", and copies of %s", strings.Trim(fmt.Sprint(placesOf(plan.Copies)), "[]"))
 		}
 		made = append(made, text)
 	}
@@ -188,7 +188,7 @@ func TestRepairs(t *testing.T) {
 // What a device that only receives changed isn't carried to others with the directory above it.
 func TestLocalChangesAreNotCopied(t *testing.T) {
 	made := outlookOf(folderOf("send-receive", "receive-only", "send-receive"), changedBelow())
-	if text := shown(made.Plans); text != "d and 1 below: copy to 0 from 2; then what 1, 2 have" {
+	if text := shown(made.Plans); text != "d and 1 below: copy to 0 from 2; then what 1, 2 have | d/00: save on 2" {
 		t.Errorf("%s, %+v", text, made.Listed)
 	}
 }
@@ -209,8 +209,8 @@ func TestAllPlansAreSafeFromTheTop(t *testing.T) {
 		for _, plan := range outlookOf(folder, all).Plans {
 			for _, step := range plan.Steps {
 				for _, name := range plan.Names {
-					what := world.At(step.Member, string(name))
-					if step.Act == Save || plan.Goal != nil && isNobodys(&world, string(name), step.Member) {
+					what := world.At(memberOf(step.Device), string(name))
+					if step.Act == Save || plan.Goal != nil && isNobodys(&world, string(name), memberOf(step.Device)) {
 						saved[what.Content] = true
 					}
 					if step.Act != Save {
@@ -263,10 +263,10 @@ func lostAtEnds(world *forecast.World, before, saved map[forecast.Content]bool) 
 		if len(answer.Ends) == 0 || answer.Endless > 0 {
 			return nil, false
 		}
-		for content := range bytesOf(&answer.Ends[0]) {
+		for content := range answer.Ends[0].Contents() {
 			isAtAll := true
 			for place := range answer.Ends {
-				isAtAll = isAtAll && bytesOf(&answer.Ends[place])[content]
+				isAtAll = isAtAll && answer.Ends[place].Contents()[content]
 			}
 			left[content] = left[content] || isAtAll
 		}

@@ -27,7 +27,10 @@ func losesOthers(group *forecast.World, hands []hand, taken []forecast.Content, 
 }
 
 // rottenAt is a name, by its place, and a device on which other bytes than recorded stand under it, that no scan sees.
-type rottenAt struct{ place, member int }
+type rottenAt struct {
+	place  int
+	device string
+}
 
 // rottenWith gives where these bytes stand so; nothing where they stand otherwise, too.
 func rottenWith(group *forecast.World, content forecast.Content) *rottenAt {
@@ -40,7 +43,7 @@ func rottenWith(group *forecast.World, content forecast.Content) *rottenAt {
 			case !isRot(name.Own[member], what):
 				return nil
 			default:
-				found = &rottenAt{place, member}
+				found = &rottenAt{place, group.Devices[member].ID}
 			}
 		}
 	}
@@ -50,11 +53,11 @@ func rottenWith(group *forecast.World, content forecast.Content) *rottenAt {
 // saveRotten gives names whose rotten bytes a plan of another one loses steps that save them, where they have none.
 func saveRotten(plans map[int]*Plan, rotten []rottenAt) {
 	for _, one := range rotten {
-		step := Step{Act: Save, Member: one.member}
+		step := Step{Act: Save, Device: one.device}
 		switch plan := plans[one.place]; {
 		case plan == nil:
 			plans[one.place] = &Plan{Steps: []Step{step}, IsAll: true}
-		case !plan.does(Save, one.member):
+		case !plan.does(Save, one.device):
 			plan.Steps = append([]Step{step}, plan.Steps...)
 		}
 	}

@@ -10,6 +10,18 @@ import (
 	"syncthing-audit/forecast"
 )
 
+// folderDevices gives so many devices of a folder that send and receive.
+func folderDevices(count int) []forecast.Device {
+	made := make([]forecast.Device, count)
+	for place := range made {
+		made[place].ID = idOf(place)
+	}
+	return made
+}
+
+// anyDevices are more devices than any folder here has.
+var anyDevices = folderDevices(32)
+
 // small draws small things: of few bytes, times and versions, so that what is alike meets often.
 type small struct{ *rand.Rand }
 
@@ -116,7 +128,7 @@ func nowAt(name *forecast.Name, member int) string {
 func drawn(seed int64) (s small, group *forecast.World, answer *forecast.Answer) {
 	s = small{rand.New(rand.NewSource(seed))}
 	devices := 1 + s.Intn(4)
-	group = &forecast.World{Devices: make([]forecast.Device, devices), Names: []forecast.Name{*s.name("a", devices), *s.name("b", devices)}}
+	group = &forecast.World{Devices: folderDevices(devices), Names: []forecast.Name{*s.name("a", devices), *s.name("b", devices)}}
 	answer = &forecast.Answer{IsAll: true}
 	for count := 1 + s.Intn(3); count > 0; count-- {
 		answer.Ends = append(answer.Ends, s.end(devices, "a", "b"))
@@ -140,17 +152,17 @@ func TestThingsOfAnEnd(t *testing.T) {
 			}
 		}
 		told := 0
-		for name, things := range thingsOf(end) {
+		for name, things := range thingsOf(anyDevices, end) {
 			for at, thing := range things {
 				members := map[int]bool{}
-				for _, member := range thing.Members {
+				for _, member := range placesOf(thing.Devices) {
 					members[member] = true
 				}
 				key := name + keyOf(thing.Type, thing.Content, string(thing.Target), thing.IsCopy)
-				if !reflect.DeepEqual(members, due[key]) || !sort.IntsAreSorted(thing.Members) {
-					t.Fatalf("%d: %s at %v, not %v", seed, key, thing.Members, due[key])
+				if !reflect.DeepEqual(members, due[key]) || !sort.IntsAreSorted(placesOf(thing.Devices)) {
+					t.Fatalf("%d: %s at %v, not %v", seed, key, thing.Devices, due[key])
 				}
-				if at > 0 && (things[at-1].IsCopy && !thing.IsCopy || things[at-1].IsCopy == thing.IsCopy && things[at-1].Members[0] > thing.Members[0]) {
+				if at > 0 && (things[at-1].IsCopy && !thing.IsCopy || things[at-1].IsCopy == thing.IsCopy && memberOf(things[at-1].Devices[0]) > memberOf(thing.Devices[0])) {
 					t.Fatalf("%d: %+v", seed, things)
 				}
 				told++
@@ -167,13 +179,13 @@ func TestWhoHasNotWhatMostHave(t *testing.T) {
 	for seed := int64(0); seed < 2000; seed++ {
 		_, group, answer := drawn(seed)
 		end, devices := &answer.Ends[0], len(group.Devices)
-		things, count, order := thingsOf(end)["a"], map[string]int{}, []string{}
+		things, count, order := thingsOf(anyDevices, end)["a"], map[string]int{}, []string{}
 		for member := 0; member < devices; member++ {
 			key := standsAt(end, member, "a")
 			if count[key]++; count[key] == 1 && key != "" {
 				order = append(order, key)
 			}
-			if stands(things, member) != (key != "") {
+			if stands(things, idOf(member)) != (key != "") {
 				t.Fatalf("%d: at %d: %+v", seed, member, things)
 			}
 		}
@@ -192,7 +204,7 @@ func TestWhoHasNotWhatMostHave(t *testing.T) {
 				due = append(due, member)
 			}
 		}
-		if told := (&judge{}).minority(things, devices); !reflect.DeepEqual(told, due) {
+		if told := (&judge{group: group}).minority(things); !reflect.DeepEqual(told, due) {
 			t.Fatalf("%d: %v, not %v: %+v", seed, told, due, things)
 		}
 	}
@@ -225,17 +237,17 @@ func TestWhyDevicesKeepAName(t *testing.T) {
 				due[member] = why
 			}
 			if len(of) == 0 {
-				for _, member := range judge.minority(things, len(group.Devices)) {
+				for _, member := range judge.minority(things) {
 					due[member] = forecast.NoReason
 				}
 			}
 		}
 		told := judge.keptOf(&group.Names[0])
 		for at, kept := range told {
-			if why, is := due[kept.Member]; !is || why != kept.Why || at > 0 && told[at-1].Member >= kept.Member {
+			if why, is := due[kept.member]; !is || why != kept.Why && !(why == forecast.NoReason && kept.Why == Differs) || kept.Device != idOf(kept.member) || at > 0 && told[at-1].member >= kept.member {
 				t.Fatalf("%d: %+v, not %v", seed, told, due)
 			}
-			reasons[kept.Why]++
+			reasons[due[kept.member]]++
 		}
 		if len(told) != len(due) {
 			t.Fatalf("%d: %+v, not %v", seed, told, due)
@@ -264,7 +276,7 @@ func TestWhatStaysAsItIs(t *testing.T) {
 		}
 		told := &Name{Fate: []Fate{ByItself, ByItself, Stays}[s.Intn(3)]}
 		for place := range answer.Ends[:1+s.Intn(2)*(len(answer.Ends)-1)] {
-			told.Ends = append(told.Ends, thingsOf(&answer.Ends[place])["a"])
+			told.Ends = append(told.Ends, thingsOf(anyDevices, &answer.Ends[place])["a"])
 		}
 		due := told.Fate == ByItself && len(told.Ends) == 1
 		for member := range name.Disk {
@@ -288,11 +300,11 @@ func TestWhatSurvives(t *testing.T) {
 	for seed := int64(0); seed < 3000; seed++ {
 		_, group, answer := drawn(seed)
 		judge := newJudge(group, answer, nil)
-		for _, thing := range thingsNow(&group.Names[0]) {
+		for _, thing := range thingsNow(anyDevices, &group.Names[0]) {
 			due := true
 			for place := range answer.Ends {
 				is := false
-				for name, things := range thingsOf(&answer.Ends[place]) {
+				for name, things := range thingsOf(anyDevices, &answer.Ends[place]) {
 					for at := range things {
 						isSameBytes := things[at].Content == thing.Content && thing.Content.Size > 0
 						isSameThing := name == "a" && things[at].Type == thing.Type && things[at].Content == thing.Content && string(things[at].Target) == string(thing.Target)
@@ -319,13 +331,13 @@ func TestThingsNow(t *testing.T) {
 		_, group, _ := drawn(seed)
 		name, told := &group.Names[0], map[int]string{}
 		seen := map[string]bool{}
-		for _, thing := range thingsNow(name) {
+		for _, thing := range thingsNow(anyDevices, name) {
 			key := keyOf(thing.Type, thing.Content, string(thing.Target), false)
-			if seen[key] || thing.IsCopy || (thing.Time != 0) != (thing.Type == forecast.File && name.Disk[thing.Members[0]].Time != 0) {
+			if seen[key] || thing.IsCopy || (thing.Time != 0) != (thing.Type == forecast.File && name.Disk[memberOf(thing.Devices[0])].Time != 0) {
 				t.Fatalf("%d: %+v", seed, thing)
 			}
 			seen[key] = true
-			for _, member := range thing.Members {
+			for _, member := range placesOf(thing.Devices) {
 				told[member] = key
 			}
 		}
@@ -349,12 +361,12 @@ func TestDifferentEnds(t *testing.T) {
 		textOf := func(things []Thing) string {
 			text := ""
 			for _, thing := range things {
-				text += fmt.Sprint(thing.Members, keyOf(thing.Type, thing.Content, string(thing.Target), thing.IsCopy))
+				text += fmt.Sprint(placesOf(thing.Devices), keyOf(thing.Type, thing.Content, string(thing.Target), thing.IsCopy))
 			}
 			return text
 		}
 		for place := range answer.Ends {
-			for _, things := range withMeetings(thingsOf(&answer.Ends[place])["a"]) {
+			for _, things := range withMeetings(thingsOf(anyDevices, &answer.Ends[place])["a"]) {
 				due[textOf(things)] = true
 			}
 		}

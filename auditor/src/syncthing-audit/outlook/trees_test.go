@@ -30,11 +30,11 @@ func TestADirectoryIsCopiedWithAllBelow(t *testing.T) {
 		row.At[1].Disk = nil
 	}
 	made := outlookOf(folderOf("send-receive", "send-receive", "send-receive"), all)
-	if made.Count[Lost] != 3 || len(made.Plans) != 1 {
+	if made.Lost != 3 || len(made.Plans) != 1 {
 		t.Fatalf("%+v", made)
 	}
 	plan := made.Plans[0]
-	if fmt.Sprint(plan.Names) != "[d]" || plan.Below != 2 || !reflect.DeepEqual(plan.Steps, []Step{{Act: Copy, Member: 1}}) || !reflect.DeepEqual(plan.Goal.Members, []int{0, 2}) {
+	if fmt.Sprint(plan.Names) != "[d]" || plan.Below != 2 || !reflect.DeepEqual(plan.Steps, []Step{{Act: Copy, Device: idOf(1), From: idOf(0)}}) || !reflect.DeepEqual(plan.Goal.Devices, at(0, 2)) {
 		t.Errorf("%+v", plan)
 	}
 }
@@ -47,7 +47,7 @@ func TestWhatGoesForADirectoryIsSaved(t *testing.T) {
 	made := outlookOf(folderOf("send-receive", "send-receive", "send-receive"), all)
 	for _, plan := range made.Plans {
 		if plan.Names[0] == "d" && plan.Goal != nil && plan.Goal.Type == 2 {
-			if !reflect.DeepEqual(plan.Steps, []Step{{Act: Save, Member: 1}, {Act: Delete, Member: 1}, {Act: Copy, Member: 1}}) {
+			if !reflect.DeepEqual(plan.Steps, []Step{{Act: Save, Device: idOf(1)}, {Act: Delete, Device: idOf(1)}, {Act: Copy, Device: idOf(1), From: idOf(0)}}) {
 				t.Errorf("%+v", plan)
 			}
 			return
@@ -69,7 +69,7 @@ func TestManyNamesThatHangTogether(t *testing.T) {
 			all = append(all, row)
 		}
 		made := outlookOf(folderOf("send-receive", "send-receive", "send-receive"), all)
-		if len(made.Plans) != 1 || made.Plans[0].Count != 30 || made.Plans[0].Goal == nil || !reflect.DeepEqual(made.Plans[0].Goal.Members, []int{0, 2}) {
+		if len(made.Plans) != 1 || made.Plans[0].Count != 30 || made.Plans[0].Goal == nil || !reflect.DeepEqual(made.Plans[0].Goal.Devices, at(0, 2)) {
 			t.Errorf("%+v", made.Plans)
 		}
 	}
@@ -100,7 +100,7 @@ func TestWhatIsNotKnownIsSaved(t *testing.T) {
 	row.At[1].Disk.Contents[0].Hash = part.Hash{99}
 	row.At[2].Own.Invalid = true // of a local change whose version isn't told
 	made := outlookOf(folderOf("send-receive", "send-receive", "receive-only"), []*join.Row{row})
-	if made.Count[Unknown] != 1 || len(made.Plans) != 1 || made.Plans[0].Goal != nil || !reflect.DeepEqual(made.Plans[0].Steps, []Step{{Act: Save}, {Act: Save, Member: 1}}) {
+	if made.NotKnown != 1 || len(made.Plans) != 1 || made.Plans[0].Goal != nil || !reflect.DeepEqual(made.Plans[0].Steps, []Step{{Act: Save, Device: idOf(0)}, {Act: Save, Device: idOf(1)}}) {
 		t.Errorf("%+v, %+v", made, made.Plans)
 	}
 }

@@ -88,7 +88,7 @@ func TestWhatReplacesAThing(t *testing.T) {
 			damaged["a"][s.Intn(len(name.Disk))] = damage.Cut
 		}
 		judge := newJudge(group, answer, damaged)
-		for _, thing := range thingsNow(name) {
+		for _, thing := range thingsNow(anyDevices, name) {
 			thing := thing
 			due := plainWay(judge, name, &thing, damaged["a"])
 			if by := judge.wayOf(name, &thing); by != due {
@@ -156,7 +156,7 @@ func TestWhereAllHaveOneRecord(t *testing.T) {
 			t.Errorf("change %d isn't seen", place)
 		}
 	}
-	if (&judge{}).looksDamaged("a", 0) {
+	if kindOf(nil, "a", 0) != damage.None {
 		t.Error("it looks damaged, and nothing is known of it")
 	}
 }
@@ -190,9 +190,9 @@ func TestWhereTwinsMatter(t *testing.T) {
 // A choice counts the names that come to another end, those on which all agree then, and what is lost by it alone; its list has an end, its counts don't.
 func TestWhatAChoiceCounts(t *testing.T) {
 	file := func(member int, place int) Thing {
-		return Thing{Members: []int{member}, Type: forecast.File, Content: smallContents[place]}
+		return Thing{Devices: at(member), Type: forecast.File, Content: smallContents[place]}
 	}
-	both := Thing{Members: []int{0, 1}, Type: forecast.File, Content: smallContents[2]}
+	both := Thing{Devices: at(0, 1), Type: forecast.File, Content: smallContents[2]}
 	before := &Name{Name: "a", Ends: [][]Thing{{file(0, 2)}}, Loses: []Thing{file(0, 3)}, IsAll: true}
 	for place, one := range []struct {
 		after Name
@@ -227,7 +227,7 @@ func TestWhatGoesByAChoice(t *testing.T) {
 		s, group, answer := drawn(seed)
 		name, after := &group.Names[0], &forecast.Answer{Ends: []forecast.End{s.end(len(group.Devices), "a", "b")}}
 		one, other, due := newJudge(group, answer, nil), newJudge(group, after, nil), []Thing(nil)
-		for _, thing := range thingsNow(name) {
+		for _, thing := range thingsNow(anyDevices, name) {
 			thing := thing
 			if thing.Type != forecast.Directory && one.survives("a", &thing) && !other.survives("a", &thing) && other.wayOf(name, &thing) != byNothing {
 				due = append(due, thing)
@@ -259,21 +259,21 @@ func TestChoicesNobodyKnows(t *testing.T) {
 	world := from.World()
 	made := newChoices(forecast.New(forecast.Budget{States: 1, Walks: 0, Total: 1, Most: 1}), nil)
 	made.forecaster.OfGroup(world.Devices, world.Copied().Names)
-	made.add(&world, []Name{{Name: "a"}}, nil, Step{Act: Revert, Member: 1})
-	made.add(&world, []Name{{Name: "b"}, {Name: "c"}}, nil, Step{Act: Revert, Member: 1})
-	if all := made.all(); len(all) != 1 || all[0].Unknown != 3 || all[0].Names != 0 || all[0].Member != 1 {
+	made.add(&world, []Name{{Name: "a"}}, nil, chosen{Revert, 1})
+	made.add(&world, []Name{{Name: "b"}, {Name: "c"}}, nil, chosen{Revert, 1})
+	if all := made.all(); len(all) != 1 || all[0].Unknown != 3 || all[0].Names != 0 || all[0].Device != idOf(1) {
 		t.Errorf("%+v", all)
 	}
-	made.found, made.order = map[Step]*Choice{}, nil
-	for place, step := range []Step{{Act: Both, Member: 31}, {Act: Revert, Member: 0}, {Act: Override, Member: 1}, {Act: Both, Member: 0}} {
+	made.found, made.order = map[chosen]*Choice{}, nil
+	for place, step := range []chosen{{Both, 31}, {Revert, 0}, {Override, 1}, {Both, 0}} {
 		made.order = append(made.order, step)
-		made.found[step] = &Choice{Act: step.Act, Member: step.Member, Names: int64(place % 2), Unknown: int64(place % 3)}
+		made.found[step] = &Choice{Act: step.act, Device: idOf(step.member), Names: int64(place % 2), Unknown: int64(place % 3)}
 	}
-	var order []Step
+	var order []chosen
 	for _, choice := range made.all() {
-		order = append(order, Step{Act: choice.Act, Member: choice.Member})
+		order = append(order, chosen{choice.Act, memberOf(choice.Device)})
 	}
-	if due := []Step{{Act: Revert, Member: 0}, {Act: Both, Member: 0}, {Act: Override, Member: 1}}; !reflect.DeepEqual(order, due) {
+	if due := []chosen{{Revert, 0}, {Both, 0}, {Override, 1}}; !reflect.DeepEqual(order, due) {
 		t.Errorf("%+v, not %+v", order, due)
 	}
 }

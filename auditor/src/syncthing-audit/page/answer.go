@@ -60,26 +60,26 @@ type Cell struct {
 
 // AnswerOf gives what a page has of an answer; without one, of why there is none.
 func AnswerOf(audit string, at time.Time, status int, text string, told *summary.Summary) Answer {
-	made := Answer{Audit: audit, At: at, Status: status, Text: text}
+	answer := Answer{Audit: audit, At: at, Status: status, Text: text}
 	if told == nil {
-		return made
+		return answer
 	}
-	made.Seen = at
+	answer.Seen = at
 	for _, device := range told.Devices {
-		made.Devices = append(made.Devices, Device{device.ID, outside.Escaped(device.Name), device.Read})
+		answer.Devices = append(answer.Devices, Device{device.ID, outside.Escaped(device.Name), device.Read})
 	}
 	for _, folder := range told.Folders {
-		made.Folders = append(made.Folders, folderOf(told, folder))
+		answer.Folders = append(answer.Folders, folderOf(told, folder))
 	}
-	made.addLeftOut(append(append([]summary.LeftOut{}, told.LeftOut...), told.Earlier...))
-	return made
+	answer.addLeftOut(append(append([]summary.LeftOut{}, told.LeftOut...), told.Earlier...))
+	return answer
 }
 
 // folderOf gives a folder with its devices.
 func folderOf(told *summary.Summary, folder *summary.Folder) Folder {
-	made := Folder{ID: folder.ID, Called: shell.Folder(folder.ID, folder.Label), Verdict: verdictOf(folder), Names: folder.Names, Wrong: folder.Wrong}
+	shown := Folder{ID: folder.ID, Called: shell.Folder(folder.ID, folder.Label), Verdict: verdictOf(folder), Names: folder.Names, Wrong: folder.Wrong}
 	if folder.Live != nil {
-		made.Moving = folder.Live.Moving
+		shown.Moving = folder.Live.Moving
 	}
 	wrong, listed := wrongAt(folder)
 	for _, member := range folder.Devices {
@@ -91,21 +91,21 @@ func folderOf(told *summary.Summary, folder *summary.Folder) Folder {
 				}
 			}
 		}
-		made.Cells = append(made.Cells, cell)
+		shown.Cells = append(shown.Cells, cell)
 	}
-	return made
+	return shown
 }
 
 // wrongAt counts the names that are wrong at each device as far as they are listed, and all that are listed.
 func wrongAt(folder *summary.Folder) (map[string]int64, int64) {
-	made, listed := map[string]int64{}, int64(0)
+	counts, listed := map[string]int64{}, int64(0)
 	for _, file := range folder.Files {
 		at := map[string]bool{}
 		for _, fault := range file.Faults {
 			at[fault.Device] = true
 		}
 		for device := range at {
-			made[device]++
+			counts[device]++
 		}
 		if len(at) > 0 {
 			listed++
@@ -113,11 +113,11 @@ func wrongAt(folder *summary.Folder) (map[string]int64, int64) {
 	}
 	for _, group := range folder.Groups {
 		for _, device := range group.Devices {
-			made[device] += group.Names
+			counts[device] += group.Names
 		}
 		listed += group.Names
 	}
-	return made, listed
+	return counts, listed
 }
 
 // verdictOf says in words how a folder is.

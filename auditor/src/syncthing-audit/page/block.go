@@ -19,7 +19,7 @@ const mostDepth = 3
 
 // blocksOf gives the pieces of a text: each begins at the edge, and its lines are indented by twos.
 func blocksOf(text string) []Block {
-	made := []Block{}
+	blocks := []Block{}
 	for _, line := range strings.Split(text, "\n") {
 		words := strings.TrimLeft(line, " ")
 		if words == "" {
@@ -27,16 +27,16 @@ func blocksOf(text string) []Block {
 		}
 		depth := (len(line) - len(words) + 1) / 2
 		switch {
-		case depth == 0 || len(made) == 0:
-			made = append(made, Block{Head: words})
+		case depth == 0 || len(blocks) == 0:
+			blocks = append(blocks, Block{Head: words})
 		case depth > mostDepth:
-			made[len(made)-1].goOn(words)
+			blocks[len(blocks)-1].goOn(words)
 		default:
-			last := &made[len(made)-1]
+			last := &blocks[len(blocks)-1]
 			last.Lines = append(last.Lines, Line{depth, words})
 		}
 	}
-	return made
+	return blocks
 }
 
 // goOn lengthens the last line.

@@ -36,18 +36,18 @@ const (
 
 // Read reads what nights left in a directory; nothing where none did. What is damaged is as none, and is said: the next night writes it anew.
 func Read(directory string) (*Kept, error) {
-	made := &Kept{}
+	kept := &Kept{}
 	text, _, err := regular.Read(filepath.Join(directory, nameOfKept), mostBytes)
 	if os.IsNotExist(err) {
-		return made, nil
+		return kept, nil
 	}
 	if err == nil {
-		err = json.Unmarshal(text, made)
+		err = json.Unmarshal(text, kept)
 	}
 	if err != nil {
 		return &Kept{}, err
 	}
-	return made, nil
+	return kept, nil
 }
 
 // Add adds a night with its answers. Of an audit without an answer, the devices and folders of its last one stay.

@@ -114,6 +114,10 @@ func TestWhatNightsLeave(t *testing.T) {
 	if err := kept.Save(directory, func(string, string) error { return errors.New("full") }); err == nil || err.Error() != "full" {
 		t.Error(err)
 	}
+	kept.Nights[0].At = time.Date(10000, 1, 1, 0, 0, 0, 0, time.UTC) // no time of JSON
+	if err := kept.Save(directory, func(_, text string) error { t.Errorf("%q is written", text); return nil }); err == nil {
+		t.Error("it is kept")
+	}
 }
 
 // The grid has each folder on each device: what is wrong there, what was left out, and how old its readings are.
@@ -128,6 +132,9 @@ func TestTheGridOfAnAnswer(t *testing.T) {
 				Groups: []*summary.Group{{Devices: []string{"A", "B"}, Names: 2}}},
 			{ID: "music", Verdict: summary.AsFar, Devices: []summary.Member{{Device: "A"}, {Device: "B"}}},
 			{ID: "firm", Verdict: summary.InStep, Firm: finding.IsFirm}, {ID: "loose", Verdict: summary.InStep}}}
+	if wrong, listed := wrongAt(told.Folders[0]); fmt.Sprint(wrong) != "map[A:3 B:2]" || listed != 3 {
+		t.Errorf("%v, %d names are listed", wrong, listed)
+	}
 	made := AnswerOf("run", at, 1, "text", told)
 	docs := made.Folders[0]
 	if made.Audit != "run" || made.Status != 1 || made.Text != "text" || !made.Seen.Equal(at) || docs.Called != "docs (Documents)" || docs.Moving != 3 || docs.Names != 9 || docs.Wrong != 4 {
@@ -168,6 +175,7 @@ func TestWhatACellSays(t *testing.T) {
 	}{
 		{Folder{Verdict: NotInStep, Wrong: 2}, Cell{Wrong: 1}, "1 name wrong here", "bad"},
 		{Folder{Verdict: NotInStep, Wrong: 2}, Cell{Wrong: 2, IsLeast: true}, "at least 2 names wrong here", "bad"},
+		{Folder{Verdict: NotInStep, Wrong: 2}, Cell{Wrong: 1, IsLeast: true}, "at least 1 name wrong here", "bad"},
 		{Folder{Verdict: NotInStep, Wrong: 2}, Cell{IsLeast: true}, "nothing wrong here as far as listed", "part"},
 		{Folder{Verdict: NotInStep, Wrong: 2}, Cell{}, "nothing wrong here", "good"},
 		{Folder{Verdict: NotInStep, Wrong: 2}, Cell{Wrong: 2, LeftOut: "off"}, "left out: off", "part"},
@@ -183,6 +191,11 @@ func TestWhatACellSays(t *testing.T) {
 		}
 		if shown := one.folder.cell(columnView{id: "B"}, at); shown.Words != "not shared here, or not asked" || shown.Kind != "no" {
 			t.Errorf("%+v", shown)
+		}
+	}
+	for moving, told := range []string{"3 names", "3 names, 1 name in motion", "3 names, 2 names in motion"} {
+		if shown := (&Folder{Names: 3, Moving: int64(moving)}).view(nil, at); shown.Size != told {
+			t.Errorf("%q", shown.Size)
 		}
 	}
 	shown := (&Folder{Cells: []Cell{{Device: "A", Files: 1, Bytes: 61300000000, Oldest: at.AddDate(0, 0, -33), OldestName: "x"}}}).cell(columnView{id: "A"}, at)

@@ -8,6 +8,7 @@ import (
 	"strings"
 	"time"
 
+	"syncthing-audit/amount"
 	"syncthing-audit/outside"
 )
 
@@ -18,7 +19,7 @@ const (
 	latest = 36 * time.Hour
 )
 
-var made = template.Must(template.New("page").Parse(look))
+var form = template.Must(template.New("page").Parse(look))
 
 // sign is how something is, for whoever sees colours or not.
 type sign struct{ Kind, Sign, Words string }
@@ -83,7 +84,7 @@ func Write(to io.Writer, kept *Kept, at time.Time, by string) error {
 	shown.addDays(kept, at)
 	var text strings.Builder
 	escape(reflect.ValueOf(&shown).Elem())
-	if err := made.Execute(&text, shown); err != nil {
+	if err := form.Execute(&text, shown); err != nil {
 		return err
 	}
 	_, err := io.WriteString(to, text.String())
@@ -166,9 +167,9 @@ func (a *Answer) view(at time.Time) answerView {
 
 // view gives a folder's row.
 func (f *Folder) view(columns []columnView, at time.Time) rowView {
-	shown := rowView{sign: f.sign(), Called: f.Called, Size: counted(f.Names, "name")}
+	shown := rowView{sign: f.sign(), Called: f.Called, Size: amount.Of(f.Names, "name")}
 	if f.Moving > 0 {
-		shown.Size += ", " + counted(f.Moving, "name") + " in motion"
+		shown.Size += ", " + amount.Of(f.Moving, "name") + " in motion"
 	}
 	for _, column := range columns {
 		shown.Cells = append(shown.Cells, f.cell(column, at))
@@ -180,7 +181,7 @@ func (f *Folder) view(columns []columnView, at time.Time) rowView {
 func (f *Folder) sign() sign {
 	switch f.Verdict {
 	case NotInStep:
-		return sign{"bad", "✗", NotInStep + ": " + counted(f.Wrong, "name") + " wrong"}
+		return sign{"bad", "✗", NotInStep + ": " + amount.Of(f.Wrong, "name") + " wrong"}
 	case AsFar:
 		return sign{"part", "○", AsFar}
 	}
@@ -195,7 +196,7 @@ func (f *Folder) cell(of columnView, at time.Time) cellView {
 		}
 		shown := cellView{sign: f.signAt(cell), Device: of.Called, Read: of.Read}
 		if cell.Files > 0 {
-			shown.More = append(shown.More, counted(cell.Files, "file")+", "+size(cell.Bytes)+" read", "longest ago: "+stamp(cell.Oldest, at)+", "+ago(cell.Oldest, at)+" ("+cell.OldestName+")")
+			shown.More = append(shown.More, amount.Of(cell.Files, "file")+", "+size(cell.Bytes)+" read", "longest ago: "+stamp(cell.Oldest, at)+", "+ago(cell.Oldest, at)+" ("+cell.OldestName+")")
 		}
 		return shown
 	}
@@ -208,23 +209,15 @@ func (f *Folder) signAt(cell Cell) sign {
 	case cell.LeftOut != "":
 		return sign{"part", "○", "left out: " + cell.LeftOut}
 	case cell.Wrong > 0 && cell.IsLeast:
-		return sign{"bad", "✗", "at least " + counted(cell.Wrong, "name") + " wrong here"}
+		return sign{"bad", "✗", "at least " + amount.Of(cell.Wrong, "name") + " wrong here"}
 	case cell.Wrong > 0:
-		return sign{"bad", "✗", counted(cell.Wrong, "name") + " wrong here"}
+		return sign{"bad", "✗", amount.Of(cell.Wrong, "name") + " wrong here"}
 	case cell.IsLeast:
 		return sign{"part", "○", "nothing wrong here as far as listed"}
 	case f.Verdict == NotInStep:
 		return sign{"good", "✓", "nothing wrong here"}
 	}
 	return f.sign()
-}
-
-// counted gives a number with its word.
-func counted(count int64, word string) string {
-	if count != 1 {
-		word += "s"
-	}
-	return fmt.Sprintf("%d %s", count, word)
 }
 
 // size gives bytes as a person reads them.
@@ -248,9 +241,9 @@ func ago(when, at time.Time) string {
 	case spent < time.Minute:
 		return "just now"
 	case spent < 2*time.Hour:
-		return counted(int64(spent.Minutes()), "minute") + " ago"
+		return amount.Of(int64(spent.Minutes()), "minute") + " ago"
 	case spent < 48*time.Hour:
-		return counted(int64(spent.Hours()), "hour") + " ago"
+		return amount.Of(int64(spent.Hours()), "hour") + " ago"
 	}
-	return counted(int64(spent.Hours()/24), "day") + " ago"
+	return amount.Of(int64(spent.Hours()/24), "day") + " ago"
 }

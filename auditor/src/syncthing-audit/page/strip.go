@@ -41,19 +41,19 @@ func daysOf(nights []Night, today time.Time, most int) []Day {
 	if earliest := last.AddDate(0, 0, 1-most); first.Before(earliest) {
 		first = earliest
 	}
-	made, places := []Day{}, map[string]int{}
+	days, places := []Day{}, map[string]int{}
 	for date := first; !date.After(last); date = date.AddDate(0, 0, 1) {
-		places[date.Format(dayLayout)] = len(made)
-		made = append(made, Day{date, "no", "·", "no audit"})
+		places[date.Format(dayLayout)] = len(days)
+		days = append(days, Day{date, "no", "·", "no audit"})
 	}
 	for _, night := range nights {
 		at, is := places[night.At.In(today.Location()).Format(dayLayout)]
 		kind, sign, words := kindOf(night.Status)
-		if is && order[kind] >= order[made[at].Kind] {
-			made[at] = Day{made[at].Date, kind, sign, words + night.numbers()}
+		if is && order[kind] >= order[days[at].Kind] {
+			days[at] = Day{days[at].Date, kind, sign, words + night.numbers()}
 		}
 	}
-	return made
+	return days
 }
 
 const dayLayout = "2006-01-02"

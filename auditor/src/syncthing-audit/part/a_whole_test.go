@@ -53,7 +53,7 @@ func aPart() *aWhole {
 func (w *aWhole) name(line int) *Name { return w.lines[line].Name }
 
 // written gives the bytes of the part, as a device may write them that keeps to no rule.
-func (w *aWhole) written(t *testing.T) []byte {
+func (w *aWhole) written(t testing.TB) []byte {
 	var written bytes.Buffer
 	to, err := NewWriter(&written, w.head)
 	for at := 0; at < len(w.lines) && err == nil; at++ {
@@ -66,6 +66,19 @@ func (w *aWhole) written(t *testing.T) []byte {
 		t.Fatal(err)
 	}
 	return written.Bytes()
+}
+
+// inLines gives the bytes of the part in encoding 1.
+func (w *aWhole) inLines(t *testing.T) []byte {
+	var written bytes.Buffer
+	to, err := NewLinesWriter(&written, w.head)
+	for at := 0; at < len(w.lines) && err == nil; at++ {
+		err = to.Take(w.lines[at])
+	}
+	if err != nil {
+		t.Fatal(err)
+	}
+	return zipped(written.String())
 }
 
 // readAll reads a part to its end, and gives its lines.

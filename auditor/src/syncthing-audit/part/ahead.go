@@ -1,34 +1,46 @@
 package part
 
-// linesAhead is how many lines of a part are read ahead.
-const linesAhead = 256
+import "errors"
+
+// How much of a part is read ahead: so many batches, each of so many lines or, where these are long, of as many as have so many bytes. One line
+// more may come in each, which has as many bytes as a line may have.
+const (
+	batchesAhead  = 4
+	linesOfABatch = 64
+	bytesOfABatch = 1 << 16
+)
 
 // Ahead reads a part in a routine of its own, ahead of the one who asks, so that several parts are read at once.
 type Ahead struct {
 	reader  *Reader
-	lines   chan ahead
+	batches chan batch
 	stopped chan struct{}
-	err     error // once there was one
+	batch   batch
+	place   int // of the next line in the batch
 }
 
-type ahead struct {
-	line Line
-	err  error
+// batch are lines, and why none follows.
+type batch struct {
+	lines []Line
+	err   error
 }
+
+// errClosed says that nobody reads any more.
+var errClosed = errors.New("the reading was ended")
 
 // NewAhead begins to read a part.
 func NewAhead(reader *Reader) *Ahead {
-	a := &Ahead{reader: reader, lines: make(chan ahead, linesAhead), stopped: make(chan struct{})}
+	a := &Ahead{reader: reader, batches: make(chan batch, batchesAhead), stopped: make(chan struct{})}
 	go func() {
-		defer close(a.lines)
+		defer close(a.batches)
 		for {
-			line, err := reader.Next()
+			next := reader.batch()
 			select {
-			case a.lines <- ahead{line, err}:
+			case a.batches <- next:
 			case <-a.stopped:
 				return
 			}
-			if err != nil {
+			if next.err != nil {
 				return
 			}
 		}
@@ -36,22 +48,42 @@ func NewAhead(reader *Reader) *Ahead {
 	return a
 }
 
+// batch reads lines, or the error behind them.
+func (r *Reader) batch() (read batch) {
+	read.lines = make([]Line, 0, linesOfABatch)
+	for bytes := 0; len(read.lines) < linesOfABatch && bytes < bytesOfABatch; bytes += r.text.length() {
+		line, err := r.Next()
+		if err != nil {
+			read.err = err
+			break
+		}
+		read.lines = append(read.lines, line)
+	}
+	return read
+}
+
 // Head gives the part's head.
 func (a *Ahead) Head() *Head { return a.reader.Head() }
 
 // Next gives the next line; io.EOF behind the last.
 func (a *Ahead) Next() (Line, error) {
-	if a.err != nil {
-		return Line{}, a.err
+	for a.place == len(a.batch.lines) {
+		if a.batch.err != nil {
+			return Line{}, a.batch.err
+		}
+		next, is := <-a.batches
+		if !is {
+			next.err = errClosed
+		}
+		a.batch, a.place = next, 0
 	}
-	next := <-a.lines
-	a.err = next.err
-	return next.line, next.err
+	a.place++
+	return a.batch.lines[a.place-1], nil
 }
 
 // Close ends the reading, and waits until nothing of it runs any more.
 func (a *Ahead) Close() {
 	close(a.stopped)
-	for range a.lines {
+	for range a.batches {
 	}
 }

@@ -4,6 +4,7 @@ import (
 	"bufio"
 	"bytes"
 	"compress/gzip"
+	"errors"
 	"fmt"
 	"io"
 	"reflect"
@@ -13,12 +14,15 @@ import (
 
 func newLines(text string) *bufio.Reader { return bufio.NewReaderSize(strings.NewReader(text), 1<<16) }
 
+// zipper is kept: a new one takes longer than all that is done with a small part.
+var zipper, _ = gzip.NewWriterLevel(nil, gzip.NoCompression)
+
 // zipped gives a text as a part is compressed.
 func zipped(text string) []byte {
 	var made bytes.Buffer
-	to := gzip.NewWriter(&made)
-	to.Write([]byte(text))
-	to.Close()
+	zipper.Reset(&made)
+	zipper.Write([]byte(text))
+	zipper.Close()
 	return made.Bytes()
 }
 
@@ -54,6 +58,9 @@ func TestWhatIsReadAhead(t *testing.T) {
 	}
 }
 
+// linesAhead is how many lines are read ahead at most.
+const linesAhead = (batchesAhead + 2) * linesOfABatch
+
 // Who closes a reader ahead, having taken few lines or none, doesn't wait for the rest of the part.
 func TestWhatIsReadAheadIsClosed(t *testing.T) {
 	long := aPart()
@@ -75,8 +82,14 @@ func TestWhatIsReadAheadIsClosed(t *testing.T) {
 			}
 		}
 		ahead.Close()
-		if _, isOpen := <-ahead.lines; isOpen || reader.count > 25*linesAhead {
+		if _, isOpen := <-ahead.batches; isOpen || reader.count > 25*linesAhead {
 			t.Errorf("it still reads, or has read %d lines", reader.count)
+		}
+		for err = nil; err == nil; {
+			_, err = ahead.Next()
+		}
+		if !errors.Is(err, errClosed) {
+			t.Error(err)
 		}
 	}
 }

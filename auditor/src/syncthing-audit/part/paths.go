@@ -13,7 +13,7 @@ func (n *Name) HidePaths(folder string) {
 }
 
 func withinFolder(text, folder string) string {
-	if folder = strings.TrimRight(folder, `/\`); folder == "" { // a part with paths
+	if folder = strings.TrimRight(folder, `/\`); folder == "" || text == "" { // a part with paths, or nothing to tell
 		return text
 	}
 	return strings.NewReplacer(folder+"/", "", folder+`\`, "", folder, ".").Replace(text)

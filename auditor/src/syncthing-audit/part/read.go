@@ -3,7 +3,6 @@ package part
 import (
 	"bufio"
 	"compress/gzip"
-	"encoding/json"
 	"errors"
 	"fmt"
 	"io"
@@ -15,12 +14,20 @@ const mostLineBytes = 1 << 20
 // mostHeadBytes is how long a head may be: it has all folders, with all devices of each.
 const mostHeadBytes = 16 << 20
 
-// Reader reads a part, and refuses what is none.
+// Reader reads a part in either encoding, and refuses what is none.
 type Reader struct {
-	lines *bufio.Reader
+	text  encoded
 	head  Head
 	rules rules
 	count int
+}
+
+// encoded is what a part has, in an encoding.
+type encoded interface {
+	readHead(into *Head) error
+	readLine() (Line, error) // io.EOF behind the last
+	length() int             // of the last line
+	why(err error) error     // in place of an error, once there is one
 }
 
 // ErrNone says that something is no part.
@@ -40,18 +47,40 @@ func NewReader(from io.Reader) (*Reader, error) {
 	if err != nil {
 		return nil, noPart(err)
 	}
-	reader := &Reader{lines: bufio.NewReaderSize(unzipped, 1<<16)}
-	if err := reader.read(&reader.head, mostHeadBytes); err != nil {
-		if err == io.EOF {
-			err = errors.New("it is empty")
-		}
-		return nil, noPart(err)
+	reader := &Reader{count: 1}
+	if reader.text, err = textIn(bufio.NewReaderSize(unzipped, 1<<16)); err != nil {
+		return nil, orNoPart(err)
+	}
+	if err := reader.text.readHead(&reader.head); err != nil {
+		return nil, orNoPart(reader.text.why(err))
 	}
 	if err := checkHead(&reader.head); err != nil {
-		return nil, err
+		return nil, reader.text.why(err)
 	}
 	reader.rules.head = &reader.head
 	return reader, nil
+}
+
+// orNoPart gives why a head can't be read: it is that of no part, unless it is that of a damaged one.
+func orNoPart(why error) error {
+	if errors.Is(why, errDamaged) || errors.Is(why, errMiddle) {
+		return why
+	}
+	return noPart(why)
+}
+
+// textIn finds which encoding a part has. In JSON a head begins with a brace.
+func textIn(from *bufio.Reader) (encoded, error) {
+	begin, err := from.Peek(1)
+	switch {
+	case err == io.EOF:
+		return nil, errors.New("it is empty")
+	case err != nil:
+		return nil, whyUnread(err)
+	case begin[0] == '{':
+		return &lines{from: from}, nil
+	}
+	return newPacked(from)
 }
 
 // Head gives the part's head.
@@ -59,11 +88,11 @@ func (r *Reader) Head() *Head { return &r.head }
 
 // Next gives the next line; io.EOF behind the last.
 func (r *Reader) Next() (Line, error) {
-	var line Line
-	err := r.read(&line, mostLineBytes)
+	line, err := r.text.readLine()
 	if err == io.EOF {
 		return Line{}, r.rules.end()
 	}
+	r.count++
 	if err == nil && line.Name != nil {
 		err = lengthen(line.Name)
 	}
@@ -71,49 +100,7 @@ func (r *Reader) Next() (Line, error) {
 		err = r.rules.take(line)
 	}
 	if err != nil {
-		return Line{}, fmt.Errorf("line %d of the part: %w", r.count, err)
+		return Line{}, fmt.Errorf("line %d of the part: %w", r.count, r.text.why(err))
 	}
 	return line, nil
-}
-
-// read reads a line of at most so many bytes into a value.
-func (r *Reader) read(into interface{}, most int) error {
-	text, err := r.lines.ReadSlice('\n')
-	if errors.Is(err, bufio.ErrBufferFull) {
-		text, err = r.readOn(text, most)
-	}
-	if err := whyNoLine(text, err, most); err != nil {
-		return err
-	}
-	r.count++
-	return json.Unmarshal(text, into)
-}
-
-// readOn reads the rest of a line, as far as it may go.
-func (r *Reader) readOn(begin []byte, most int) ([]byte, error) {
-	whole, err := append([]byte(nil), begin...), bufio.ErrBufferFull
-	for errors.Is(err, bufio.ErrBufferFull) && len(whole) <= most {
-		var text []byte
-		text, err = r.lines.ReadSlice('\n')
-		whole = append(whole, text...)
-	}
-	if len(whole) > most {
-		err = bufio.ErrBufferFull
-	}
-	return whole, err
-}
-
-// whyNoLine says why what was read up to an error is no line of at most so many bytes; io.EOF where nothing is left.
-func whyNoLine(text []byte, err error, most int) error {
-	switch {
-	case err == io.EOF && len(text) == 0:
-		return io.EOF
-	case err == io.EOF:
-		return errors.New("its last line isn't whole")
-	case errors.Is(err, bufio.ErrBufferFull):
-		return fmt.Errorf("it has over %d bytes", most)
-	case err != nil:
-		return fmt.Errorf("it can't be read: %w", err)
-	}
-	return nil
 }

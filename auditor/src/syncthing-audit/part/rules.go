@@ -183,7 +183,7 @@ func (r *rules) finish(line *End) error {
 // end says whether a part may end here, by io.EOF.
 func (r *rules) end() error {
 	if r.in != nil || r.begun < len(r.head.Folders) {
-		return errors.New("the part ends in the middle: it was cut off")
+		return errMiddle
 	}
 	return io.EOF
 }

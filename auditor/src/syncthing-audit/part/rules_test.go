@@ -112,8 +112,6 @@ func TestEachRuleOfAPart(t *testing.T) {
 		{`the part says that it hasn't the folder "a", which isn't in its place`, func(w *aWhole) { w.head.Others[1].ID = "a" }},
 		{`the part says that folder "a" is shared with "x", which is no device id`, func(w *aWhole) { w.head.Others[0].Devices[0] = "x" }},
 
-		{"line 2 of the part: it is no begin, name or end", func(w *aWhole) { w.lines[0] = Line{} }},
-		{"line 2 of the part: it is no begin, name or end", func(w *aWhole) { w.lines[0].Name = w.name(1) }},
 		{`line 2 of the part: no folder has begun`, func(w *aWhole) { w.lines = w.lines[1:] }},
 		{`line 2 of the part: folder "pics" isn't in its place`, func(w *aWhole) { w.lines[0].Begin.Folder = "pics" }},
 		{`line 3 of the part: folder "pics" isn't in its place`, func(w *aWhole) { w.lines[1] = w.lines[7] }},
@@ -198,8 +196,17 @@ func TestEachRuleOfAPart(t *testing.T) {
 	} {
 		whole := aPart()
 		row.change(whole)
-		if _, _, err := readAll(whole.written(t)); err == nil || err.Error() != row.told {
-			t.Errorf("%v,\nnot %s", err, row.told)
+		for _, data := range [][]byte{whole.written(t), whole.inLines(t)} {
+			if _, _, err := readAll(data); err == nil || err.Error() != row.told {
+				t.Errorf("%v,\nnot %s", err, row.told)
+			}
+		}
+	}
+	for _, odd := range []Line{{}, {Begin: &Begin{"docs"}, Name: aPart().name(1)}} {
+		whole := aPart()
+		whole.lines[0] = odd
+		if _, _, err := readAll(whole.inLines(t)); err == nil || err.Error() != "line 2 of the part: it is no begin, name or end" {
+			t.Error(err)
 		}
 	}
 }
@@ -295,32 +302,18 @@ func TestFoldersOfAHead(t *testing.T) {
 	}
 }
 
-// A line as long as a line may be is written and read; one that is longer is left out of a part by its writer, and refused by its reader.
+// A line of a folder that would be too long is refused by its writer, and one of JSON by its reader.
 func TestTheLongestLine(t *testing.T) {
-	for _, length := range []int{1 << 16, mostLineBytes - 1, mostLineBytes, mostLineBytes + 1} {
-		whole := aPart()
-		empty := len(`{"name":{"name":"e","out":[{"kind":"special","why":""}]}}` + "\n")
-		whole.name(5).Out = []LeftOut{{Kind: Special, Why: strings.Repeat("x", length-empty)}}
-		_, lines, err := readAll(whole.written(t))
-		if err != nil {
-			t.Fatal(err)
-		}
-		out := lines[5].Name.Out[0]
-		const told = "what this device has of it takes 1048577 bytes in a part, which has at most 1048576 of a name"
-		if length > mostLineBytes && (out.Kind != OddRecord || out.Why != told) || length <= mostLineBytes && len(out.Why) != length-empty {
-			t.Errorf("%d bytes: %s %.99s", length, out.Kind, out.Why)
-		}
-	}
 	writer, err := NewWriter(io.Discard, aPart().head)
 	if err != nil {
 		t.Fatal(err)
 	}
-	if err := writer.Take(Line{Begin: &Begin{strings.Repeat("x", mostLineBytes)}}); err == nil || !strings.HasPrefix(err.Error(), "refused: a line of the part would have 1048600 bytes") {
+	if err := writer.Take(Line{Begin: &Begin{strings.Repeat("x", mostLineBytes)}}); err == nil || !strings.HasPrefix(err.Error(), "refused: a line of the part would have 1048589 bytes") {
 		t.Error(err)
 	}
 	for _, most := range []int{10, 1 << 17} {
 		for length := most - 1; length <= most+1; length++ {
-			read := &Reader{lines: newLines(strings.Repeat(" ", length-1) + "\n")}
+			read := &lines{from: newLines(strings.Repeat(" ", length-1) + "\n")}
 			line, isOver := "", length > most
 			err := read.read(&line, most)
 			if told := fmt.Sprint(err); length > 1<<16 && isOver != strings.HasPrefix(told, "it has over ") {

@@ -2,7 +2,8 @@ package part
 
 import (
 	"errors"
-	"reflect"
+
+	"golang.org/x/exp/slices"
 )
 
 // shortened gives a name for writing. A view says only the sequence there, if the rest is the own record's.
@@ -23,13 +24,22 @@ func shortened(name *Name) *Name {
 
 // isSame says whether two records are one but for their sequences.
 func isSame(own, other *Record) bool {
-	copied := *other
-	copied.Sequence = own.Sequence
-	return reflect.DeepEqual(own, &copied)
+	if own.Type != other.Type || own.ModifiedS != other.ModifiedS || own.ModifiedNs != other.ModifiedNs || own.ModifiedBy != other.ModifiedBy ||
+		own.Deleted != other.Deleted || own.Invalid != other.Invalid || own.Target != other.Target {
+		return false
+	}
+	return slices.Equal(own.Version, other.Version) && slices.Equal(own.Local, other.Local) && slices.Equal(own.Blocks, other.Blocks) &&
+		isEqual(own.Content, other.Content) && isEqual(own.Permissions, other.Permissions)
+}
+
+// isEqual says whether there is the same, or neither.
+func isEqual[Any comparable](one, other *Any) bool {
+	return one == other || one != nil && other != nil && *one == *other
 }
 
 // lengthen gives each view of a name its record.
 func lengthen(name *Name) error {
+	var records []Record // of all views
 	for place := range name.Views {
 		seen := &name.Views[place]
 		switch {
@@ -40,9 +50,12 @@ func lengthen(name *Name) error {
 		case name.Own == nil:
 			return errors.New("a view has the own record, and there is none")
 		}
-		copied := *name.Own
-		copied.Sequence = seen.Same
-		seen.Record, seen.Same = &copied, 0
+		if cap(records) == len(records) {
+			records = make([]Record, 0, len(name.Views)-place)
+		}
+		records = append(records, *name.Own)
+		seen.Record = &records[len(records)-1]
+		seen.Record.Sequence, seen.Same = seen.Same, 0
 	}
 	return nil
 }

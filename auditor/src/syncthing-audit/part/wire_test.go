@@ -56,8 +56,10 @@ func TestHeadsOfAskedDevices(t *testing.T) {
 		change(made)
 		return made
 	}
-	if err := checkHead(head(func(*Head) {})); err != nil {
-		t.Fatal(err)
+	for count := 1; count <= 2; count++ {
+		if err := checkHead(head(func(h *Head) { h.Folders = h.Folders[:count] })); err != nil {
+			t.Errorf("%d folders: %v", count, err)
+		}
 	}
 	if unseen := head(func(*Head) {}).Wire.Unseen; !reflect.DeepEqual(unseen, []string{"directories", "permissions", "symlinks", "times", "unscanned"}) {
 		t.Error(unseen)

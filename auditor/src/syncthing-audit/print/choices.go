@@ -7,42 +7,9 @@ import (
 	"syncthing-audit/shell"
 )
 
-// Choice is what may be done for the whole folder on a device that only sends or only receives, for programs.
-type Choice struct {
-	Act       string `json:"act"`
-	Device    string `json:"device"`
-	Names     int64  `json:"names"`
-	Alike     int64  `json:"alike_then"`
-	Loses     []Loss `json:"loses"`
-	Lost      int64  `json:"names_that_lose"`
-	Goes      []Loss `json:"goes,omitempty"`
-	Gone      int64  `json:"names_that_go,omitempty"`
-	Unknown   int64  `json:"not_known"`
-	AllOrders bool   `json:"all_orders"`
-}
-
-// Loss is what is lost of a name by that alone.
-type Loss struct {
-	Name  Text    `json:"name"`
-	Loses []Thing `json:"loses"`
-}
-
-func (n naming) choice(choice *outlook.Choice) Choice {
-	told := Choice{Act: string(choice.Act), Device: n[choice.Member], Names: choice.Names, Alike: choice.Alike, Loses: []Loss{}, Lost: choice.Lost,
-		Unknown: choice.Unknown, AllOrders: choice.IsAll}
-	for _, loss := range choice.Loses {
-		told.Loses = append(told.Loses, Loss{Text(loss.Name), n.things(loss.Loses)})
-	}
-	for _, loss := range choice.Goes {
-		told.Goes = append(told.Goes, Loss{Text(loss.Name), n.things(loss.Loses)})
-	}
-	told.Gone = choice.Gone
-	return told
-}
-
 // choices prints what may be chosen for the whole folder on devices, and what each does as things stand now. Where steps are to be taken before, these
 // change what it does, and move what it loses: then another audit says that.
-func (p *Person) choices(folder string, o *Outlook) {
+func (p *Person) choices(folder string, o *outlook.Outlook) {
 	if len(o.Plans) > 0 {
 		return
 	}
@@ -53,7 +20,7 @@ func (p *Person) choices(folder string, o *Outlook) {
 			p.line("\nto choose in %s on %s, for the whole folder, once all that is to stay is saved; or neither:", folder, p.Called(choice.Device))
 		}
 		last = choice.Device
-		p.line("  %s", wordsOfChoice[outlook.Act(choice.Act)])
+		p.line("  %s", wordsOfChoice[choice.Act])
 		p.line("    %s", ofChoice(choice))
 		p.losses(choice.Loses, choice.Lost, "something that stands on a disk now")
 		p.losses(choice.Goes, choice.Gone, "what a recorded change or deletion then replaces")
@@ -64,11 +31,11 @@ func (p *Person) choices(folder string, o *Outlook) {
 }
 
 // choosers names what may be chosen and the devices.
-func (p *Person) choosers(o *Outlook) string {
+func (p *Person) choosers(o *outlook.Outlook) string {
 	var words []string
 	for place := range o.Choices {
 		choice := &o.Choices[place]
-		words = append(words, namesOfChoice[outlook.Act(choice.Act)]+" on "+p.Called(choice.Device))
+		words = append(words, namesOfChoice[choice.Act]+" on "+p.Called(choice.Device))
 	}
 	return strings.Join(words, ", ")
 }
@@ -82,7 +49,7 @@ var wordsOfChoice = map[outlook.Act]string{
 }
 
 // ofChoice counts the names that come to another end than if nobody does anything.
-func ofChoice(choice *Choice) string {
+func ofChoice(choice *outlook.Choice) string {
 	if choice.Names == 0 {
 		return "changes nothing that is known"
 	}
@@ -93,20 +60,17 @@ func ofChoice(choice *Choice) string {
 	case choice.Alike > 0:
 		told += "; of " + Thousands(choice.Alike) + " all devices then have one thing"
 	}
-	if !choice.AllOrders {
-		told += ", in all orders tried"
-	}
-	return told
+	return told + tried(choice.IsAll)
 }
 
 // losses names what goes by a choice alone, of so many names.
-func (p *Person) losses(all []Loss, count int64, of string) {
+func (p *Person) losses(all []outlook.Loss, count int64, of string) {
 	if count == 0 {
 		return
 	}
 	p.line("    %s %s: copy %s elsewhere before Syncthing starts, if it is to stay", Counted(count, "name loses", "names lose"), of, one(count, "it", "that"))
 	for place, loss := range all {
-		if place == mostNamed {
+		if place == outlook.MostNamed {
 			break
 		}
 		var words []string
@@ -116,7 +80,5 @@ func (p *Person) losses(all []Loss, count int64, of string) {
 		}
 		p.line("      %s: %s", shell.Path(string(loss.Name)), strings.Join(words, "; "))
 	}
-	if more := count - mostNamed; more > 0 {
-		p.line("      and %s (--json has them)", Counted(more, "more name", "more names"))
-	}
+	p.more("      ", count-outlook.MostNamed)
 }

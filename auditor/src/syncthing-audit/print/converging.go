@@ -1,8 +1,10 @@
 package print
 
+import "syncthing-audit/outlook"
+
 // Converging prints what is proved of a folder whose records lead to one end: of each name everything that is known of it leads up to
 // one record. Of a folder of which the model foretells more than that, the model's words stand alone.
-func (p *Person) Converging(folder string, o *Outlook, pairs *int64) {
+func (p *Person) Converging(folder string, o *outlook.Outlook, pairs *int64) {
 	if o != nil && o.Lost+o.Depends+o.Stays+o.Changed > 0 {
 		return
 	}

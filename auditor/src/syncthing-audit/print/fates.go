@@ -1,6 +1,12 @@
 package print
 
-import "strings"
+import (
+	"strings"
+
+	"golang.org/x/exp/slices"
+	"syncthing-audit/forecast"
+	"syncthing-audit/outlook"
+)
 
 // Naming names devices, rising.
 type Naming func(devices []string) string
@@ -8,39 +14,43 @@ type Naming func(devices []string) string
 // mostEnds is how many ends of a name are told one by one.
 const mostEnds = 3
 
+// fate is a name with the devices of its folder.
+type fate struct {
+	*outlook.Name
+	devices []string
+	called  Naming
+}
+
 // Foretold says what becomes of a name if nobody does anything, on all of these devices; of several names that become alike, with isMany.
-func (f *Fate) Foretold(devices []string, called Naming, isMany bool) string {
-	var ends []string
+func Foretold(name *outlook.Name, devices []string, called Naming, isMany bool) string {
+	f, ends := fate{name, devices, called}, []string{}
 	for place, end := range f.Ends {
 		if place == mostEnds {
 			ends = append(ends, "to "+Counted(int64(len(f.Ends)-mostEnds), "more end", "more ends"))
 			break
 		}
-		ends = append(ends, f.end(end, devices, called))
+		ends = append(ends, f.end(end))
 	}
 	told := strings.Join(ends, "; or ")
 	if len(ends) > 1 {
 		told = "one of several ends, by the order of what happens: " + told
 	}
-	if words := f.reasons(called); words != "" {
+	if words := f.reasons(); words != "" {
 		told += " (" + words + ")"
 	}
-	if !f.AllOrders {
-		told += ", in all orders tried"
-	}
 	if isMany {
-		return "of each, " + told
+		told = "of each, " + told
 	}
-	return told
+	return told + tried(f.IsAll)
 }
 
 // end says what all devices have at an end, and what is a copy then or gone.
-func (f *Fate) end(end []Thing, devices []string, called Naming) string {
+func (f *fate) end(end []outlook.Thing) string {
 	var words []string
-	left := append([]string{}, devices...)
+	left := append([]string{}, f.devices...)
 	for place := range end {
-		if thing := &end[place]; !thing.Copy {
-			words = append(words, f.holders(thing, devices, called))
+		if thing := &end[place]; !thing.IsCopy {
+			words = append(words, f.holders(thing))
 			left = without(left, thing.Devices)
 		}
 	}
@@ -48,106 +58,65 @@ func (f *Fate) end(end []Thing, devices []string, called Naming) string {
 	case len(words) == 0:
 		words = append(words, "no device has it then")
 	case len(left) > 0:
-		words = append(words, called(left)+" then "+one(int64(len(left)), "has", "have")+" nothing there")
+		words = append(words, f.called(left)+" then "+one(int64(len(left)), "has", "have")+" nothing there")
 	}
 	for place := range end {
-		if thing := &end[place]; thing.Copy {
-			words = append(words, f.now(thing, called)+" is kept as a conflict copy on "+called(thing.Devices))
+		if thing := &end[place]; thing.IsCopy {
+			words = append(words, f.now(thing)+" is kept as a conflict copy on "+f.called(thing.Devices))
 		}
 	}
 	for place := range f.Now {
-		if thing := &f.Now[place]; !isAt(end, thing) && thing.Type != "directory" {
-			words = append(words, f.now(thing, called)+" goes")
+		if thing := &f.Now[place]; slices.IndexFunc(end, func(other outlook.Thing) bool { return other.IsLike(thing) }) < 0 && thing.Type != forecast.Directory {
+			words = append(words, f.now(thing)+" goes")
 		}
 	}
 	return strings.Join(words, "; ")
 }
 
 // holders says which devices have something then.
-func (f *Fate) holders(thing *Thing, devices []string, called Naming) string {
+func (f *fate) holders(thing *outlook.Thing) string {
 	now := f.find(thing)
 	switch {
-	case len(thing.Devices) == len(devices):
-		return "all devices then have " + f.now(thing, called)
+	case len(thing.Devices) == len(f.devices):
+		return "all devices then have " + f.now(thing)
 	case now != nil && len(without(thing.Devices, now.Devices)) == 0:
-		return called(thing.Devices) + " " + one(int64(len(thing.Devices)), "keeps what it has", "keep what they have")
+		return f.called(thing.Devices) + " " + one(int64(len(thing.Devices)), "keeps what it has", "keep what they have")
 	}
-	return called(thing.Devices) + " then " + one(int64(len(thing.Devices)), "has ", "have ") + f.now(thing, called)
+	return f.called(thing.Devices) + " then " + one(int64(len(thing.Devices)), "has ", "have ") + f.now(thing)
 }
 
 // now says what something is by who has it now.
-func (f *Fate) now(thing *Thing, called Naming) string {
+func (f *fate) now(thing *outlook.Thing) string {
 	if len(f.Now) == 0 { // of an export of before
 		return what(thing)
 	}
 	if now := f.find(thing); now != nil {
-		return "what " + called(now.Devices) + " " + one(int64(len(now.Devices)), "has", "have") + " now"
+		return "what " + f.called(now.Devices) + " " + one(int64(len(now.Devices)), "has", "have") + " now"
 	}
-	if thing.Type == "file" {
+	if thing.Type == forecast.File {
 		return "a file that no disk has under this name now"
 	}
-	return "a " + thing.Type + " that no disk has there now"
+	return "a " + outlook.WordsOfTypes[thing.Type] + " that no disk has there now"
 }
 
-func (f *Fate) find(thing *Thing) *Thing {
-	for place := range f.Now {
-		if f.Now[place].isSame(thing) {
-			return &f.Now[place]
-		}
+func (f *fate) find(thing *outlook.Thing) *outlook.Thing {
+	if place := slices.IndexFunc(f.Now, func(now outlook.Thing) bool { return now.IsLike(thing) }); place >= 0 {
+		return &f.Now[place]
 	}
 	return nil
 }
 
-func isAt(end []Thing, thing *Thing) bool {
-	for place := range end {
-		if end[place].isSame(thing) {
-			return true
-		}
-	}
-	return false
-}
-
-// GoesFrom gives the devices from which a file or a symlink goes at some end, where nothing comes in its place there and no copy of it is kept.
-func (f *Fate) GoesFrom() []string {
-	var devices []string
-	for place := range f.Now {
-		thing := &f.Now[place]
-		for _, end := range f.Ends {
-			if thing.Type == "directory" || isAt(end, thing) {
-				continue
-			}
-			left := without(thing.Devices, devices)
-			for _, other := range end {
-				if !other.Copy {
-					left = without(left, other.Devices)
-				}
-			}
-			devices = append(devices, left...)
-		}
-	}
-	return devices
-}
-
-// isSame says whether two things are alike, wherever they stand.
-func (t *Thing) isSame(other *Thing) bool {
-	isSameTarget := t.Target == other.Target || t.Target != nil && other.Target != nil && *t.Target == *other.Target
-	isSameSize := t.Size == other.Size || t.Size != nil && other.Size != nil && *t.Size == *other.Size
-	return t.Type == other.Type && t.Content == other.Content && isSameTarget && isSameSize
-}
-
 // reasons say why devices keep it otherwise than others.
-func (f *Fate) reasons(called Naming) string {
-	var order []string
-	devices := map[string][]string{}
+func (f *fate) reasons() string {
+	var words []string
+	devices := map[forecast.Why][]string{}
 	for _, kept := range f.Kept {
-		if devices[kept.Why] == nil {
-			order = append(order, kept.Why)
-		}
 		devices[kept.Why] = append(devices[kept.Why], kept.Device)
 	}
-	var words []string
-	for _, why := range order {
-		words = append(words, called(devices[why])+": "+wordsOfKept[why])
+	for _, kept := range f.Kept {
+		if devices[kept.Why][0] == kept.Device {
+			words = append(words, f.called(devices[kept.Why])+": "+wordsOfKept[kept.Why])
+		}
 	}
 	return strings.Join(words, "; ")
 }
@@ -155,11 +124,7 @@ func (f *Fate) reasons(called Naming) string {
 func without(devices, those []string) []string {
 	var rest []string
 	for _, device := range devices {
-		is := false
-		for _, other := range those {
-			is = is || device == other
-		}
-		if !is {
+		if !slices.Contains(those, device) {
 			rest = append(rest, device)
 		}
 	}
@@ -167,12 +132,12 @@ func without(devices, those []string) []string {
 }
 
 // WhyUnknown says why it isn't known what becomes of a name, and what would make it known.
-func (o *Outlook) WhyUnknown(fate *Fate, called Naming) string {
+func WhyUnknown(o *outlook.Outlook, name *outlook.Name, called Naming) string {
 	why, devices := "", ""
-	if fate != nil {
-		why = fate.Why
+	if name != nil {
+		why = string(name.Why)
 	}
-	for _, group := range o.WhyNot {
+	for _, group := range o.Unknown {
 		if (why == "" || why == group.Why) && len(group.Devices) > 0 && devices == "" {
 			devices = " (" + called(group.Devices) + ")"
 		}

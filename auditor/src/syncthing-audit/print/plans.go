@@ -4,47 +4,14 @@ import (
 	"path"
 	"strings"
 
-	"syncthing-audit/forecast"
+	"golang.org/x/exp/slices"
 	"syncthing-audit/outlook"
+	"syncthing-audit/part"
 	"syncthing-audit/shell"
 )
 
-// Plan is what to do about names, for programs.
-type Plan struct {
-	Names     []Text   `json:"names"`
-	Count     int64    `json:"names_count"`
-	Below     int64    `json:"names_below,omitempty"` // of directories that are copied: of how many names below them the same holds
-	Steps     []Step   `json:"steps"`
-	Goal      *Thing   `json:"then,omitempty"`
-	Copies    []string `json:"kept_as_copies,omitempty"`
-	AllOrders bool     `json:"all_orders"`
-}
-
-// Step is one step on one device's disk.
-type Step struct {
-	Act    string `json:"act"`
-	Device string `json:"device"`
-	From   string `json:"from,omitempty"`
-	Over   bool   `json:"over,omitempty"`
-}
-
-func (n naming) plan(plan *outlook.Plan) Plan {
-	said := Plan{Names: append([]Text{}, plan.Names...), Count: plan.Count, Below: plan.Below, Copies: n.all(plan.Copies), AllOrders: plan.IsAll}
-	for _, step := range plan.Steps {
-		told := Step{Act: string(step.Act), Device: n[step.Member]}
-		if step.Act == outlook.Copy {
-			told.From, told.Over = n[step.From], step.Over
-		}
-		said.Steps = append(said.Steps, told)
-	}
-	if plan.Goal != nil {
-		said.Goal = &n.things([]outlook.Thing{*plan.Goal})[0]
-	}
-	return said
-}
-
 // plans prints what to do, from the top. What no step puts right comes before the start: that would send it, or lose it.
-func (p *Person) plans(folder string, o *Outlook) {
+func (p *Person) plans(folder string, o *outlook.Outlook) {
 	defer p.choices(folder, o)
 	if len(o.Plans) == 0 {
 		return
@@ -63,16 +30,13 @@ func (p *Person) plans(folder string, o *Outlook) {
 	if len(o.Choices) > 0 {
 		p.line("  %s. audit again, once they are idle. What may be chosen for the whole folder (%s) is told then: these steps change what it does", Thousands(number+2), p.choosers(o))
 	}
-	for place := range o.Plans {
-		if o.Plans[place].Goal != nil {
-			p.line("  what these steps put right needs nothing that the entries below say to do")
-			return
-		}
+	if slices.IndexFunc(o.Plans, func(plan outlook.Plan) bool { return plan.Goal != nil }) >= 0 {
+		p.line("  what these steps put right needs nothing that the entries below say to do")
 	}
 }
 
 // unknownFirst says that a start may do something to names of which nothing is known.
-func unknownFirst(o *Outlook) string {
+func unknownFirst(o *outlook.Outlook) string {
 	if o.NotKnown == 0 {
 		return ""
 	}
@@ -80,7 +44,7 @@ func unknownFirst(o *Outlook) string {
 }
 
 // plan prints the steps of a plan behind so many others, and gives how many there are then.
-func (p *Person) plan(plan *Plan, number int64) int64 {
+func (p *Person) plan(plan *outlook.Plan, number int64) int64 {
 	p.line("  for %s:", namesOf(plan))
 	it := one(plan.Count, "it", "each")
 	for _, step := range plan.Steps {
@@ -88,17 +52,21 @@ func (p *Person) plan(plan *Plan, number int64) int64 {
 		p.line("    %s. on %s: %s", Thousands(number), p.Called(step.Device), p.step(&step, it, plan))
 	}
 	if plan.Goal != nil {
-		p.line("    then all devices have what %s %s now%s%s%s", p.all(plan.Goal.Devices), one(int64(len(plan.Goal.Devices)), "has", "have"),
-			p.timeOf(plan), p.copies(plan), tried(plan))
+		p.line("    then all devices have what %s now%s%s%s", p.have(plan.Goal.Devices), p.timeOf(plan), p.copies(plan), tried(plan.IsAll))
 	}
 	return number
 }
 
+// have says that devices have something.
+func (p *Person) have(devices []string) string {
+	return p.all(devices) + " " + one(int64(len(devices)), "has", "have")
+}
+
 // firstOf gives the first of so many names, and how many more there are.
-func firstOf(all []Text, count int64) string {
+func firstOf(all []part.Bytes, count int64) string {
 	var names []string
 	for place, name := range all {
-		if place < mostNamed {
+		if place < outlook.MostNamed {
 			names = append(names, shell.Path(string(name)))
 		}
 	}
@@ -110,9 +78,9 @@ func firstOf(all []Text, count int64) string {
 }
 
 // namesOf gives the first names of a plan, and how many there are.
-func namesOf(plan *Plan) string {
+func namesOf(plan *outlook.Plan) string {
 	told := firstOf(plan.Names, plan.Count)
-	if plan.Count > mostNamed {
+	if plan.Count > outlook.MostNamed {
 		told += " (--json has them)"
 	}
 	if plan.Below > 0 {
@@ -122,9 +90,8 @@ func namesOf(plan *Plan) string {
 }
 
 // step says what a step does. What is lost for certain is to be copied elsewhere; what a good copy replaces, only if it may be right.
-func (p *Person) step(step *Step, it string, plan *Plan) string {
-	isOfDirectories := plan.Goal != nil && plan.Goal.Type == wordsOfTypes[forecast.Directory]
-	switch outlook.Act(step.Act) {
+func (p *Person) step(step *outlook.Step, it string, plan *outlook.Plan) string {
+	switch step.Act {
 	case outlook.Save:
 		if plan.Goal != nil {
 			return "copy " + it + " elsewhere if what stands there may be right: it goes by the steps below"
@@ -133,9 +100,9 @@ func (p *Person) step(step *Step, it string, plan *Plan) string {
 	case outlook.Touch:
 		return "touch " + it
 	case outlook.Copy:
-		return "copy " + it + " from " + p.Called(step.From) + howToCopy(step, it, plan.Goal)
+		return "copy " + it + " from " + p.Called(step.From) + howToCopy(step, it, plan)
 	}
-	if isOfDirectories {
+	if plan.IsOfDirectories() {
 		return "delete what stands there in " + one(plan.Count, "its place", "their places")
 	}
 	return "delete " + it
@@ -143,9 +110,9 @@ func (p *Person) step(step *Step, it string, plan *Plan) string {
 
 // howToCopy says how something is copied whole. Over a symlink cp would write into what that leads to, and into a directory in place of it. Syncthing can't
 // give a mode to what belongs to another user.
-func howToCopy(step *Step, it string, goal *Thing) string {
+func howToCopy(step *outlook.Step, it string, plan *outlook.Plan) string {
 	told := ", as it is there"
-	if goal.Type == "directory" {
+	if plan.IsOfDirectories() {
 		told += ", with all below " + it
 	}
 	told += " (cp -a, or rsync -aI, as the user who runs Syncthing there)"
@@ -155,36 +122,37 @@ func howToCopy(step *Step, it string, goal *Thing) string {
 	return told
 }
 
-func (p *Person) timeOf(plan *Plan) string {
+func (p *Person) timeOf(plan *outlook.Plan) string {
 	if plan.Count > 1 {
 		return ""
 	}
 	return p.modified(plan.Goal)
 }
 
-func (p *Person) copies(plan *Plan) string {
+func (p *Person) copies(plan *outlook.Plan) string {
 	if len(plan.Copies) == 0 {
 		return ""
 	}
-	return "; what " + p.all(plan.Copies) + " " + one(int64(len(plan.Copies)), "has", "have") + " now is kept as a conflict copy"
+	return "; what " + p.have(plan.Copies) + " now is kept as a conflict copy"
 }
 
-func tried(plan *Plan) string {
-	if plan.AllOrders {
+// tried says whether something holds in those orders that were tried.
+func tried(allOrders bool) string {
+	if allOrders {
 		return ""
 	}
 	return ", in all orders tried"
 }
 
 // PlansByName gives for each name the plan of it: its own, or that of a directory above it which is copied with all below it.
-func (o *Outlook) PlansByName() func(name string) *Plan {
-	found := map[string]*Plan{}
+func PlansByName(o *outlook.Outlook) func(name string) *outlook.Plan {
+	found := map[string]*outlook.Plan{}
 	for place := range o.Plans {
 		for _, name := range o.Plans[place].Names {
 			found[string(name)] = &o.Plans[place]
 		}
 	}
-	return func(name string) *Plan {
+	return func(name string) *outlook.Plan {
 		plan := found[name]
 		for above := path.Dir(name); plan == nil && above != "." && above != "/"; above = path.Dir(above) {
 			if other := found[above]; other != nil && other.Below > 0 {
@@ -196,9 +164,9 @@ func (o *Outlook) PlansByName() func(name string) *Plan {
 }
 
 // Leads says to what a plan leads; nothing where it saves alone.
-func (p *Plan) Leads(called Naming) string {
-	if p.Goal == nil {
+func Leads(plan *outlook.Plan, called Naming) string {
+	if plan.Goal == nil {
 		return ""
 	}
-	return "all devices then have what " + called(p.Goal.Devices) + " " + one(int64(len(p.Goal.Devices)), "has", "have") + " now"
+	return "all devices then have what " + called(plan.Goal.Devices) + " " + one(int64(len(plan.Goal.Devices)), "has", "have") + " now"
 }

@@ -5,6 +5,7 @@ import (
 	"strings"
 	"time"
 
+	"syncthing-audit/forecast"
 	"syncthing-audit/outlook"
 	"syncthing-audit/outside"
 	"syncthing-audit/shell"
@@ -17,11 +18,8 @@ type Person struct {
 	Zone   *time.Location
 }
 
-// mostNamed is how many names are told one by one for each of the fates in which something is lost or stays wrong.
-const mostNamed = 5
-
 // Outlook prints what happens in a folder if nobody does anything; nothing where all names are at rest, or a folder in step stays so.
-func (p *Person) Outlook(folder string, isInStep bool, o *Outlook) {
+func (p *Person) Outlook(folder string, isInStep bool, o *outlook.Outlook) {
 	if o == nil || o.Names == 0 || isInStep && o.Right == o.Names {
 		return
 	}
@@ -37,9 +35,12 @@ func (p *Person) Outlook(folder string, isInStep bool, o *Outlook) {
 	p.plans(folder, o)
 }
 
-// NoOutlook says that what happens isn't known of an older program's export.
+// OfOlder is why nothing is foretold of an older program's export, which has another form of it or none.
+const OfOlder = "a program of 0.16.0 or before made the export"
+
+// NoOutlook says that what happens isn't known of such an export.
 func (p *Person) NoOutlook(folder string) {
-	p.line("\nit isn't known what happens in %s if nobody does anything: a program of 0.14.0 or before made the export", folder)
+	p.line("\nit isn't known what happens in %s if nobody does anything: %s", folder, OfOlder)
 }
 
 func (p *Person) line(format string, words ...interface{}) {
@@ -54,10 +55,11 @@ func itOrThem(count int64) string {
 }
 
 // right tells of names of which nothing is lost, and that end alike everywhere.
-func (p *Person) right(o *Outlook) {
+func (p *Person) right(o *outlook.Outlook) {
 	if o.Right > 0 {
 		p.line("  %s right by %s, and %s nothing but what a recorded change replaced", Counted(o.Right, "name comes", "names come"),
 			one(o.Right, "itself", "themselves"), one(o.Right, "loses", "lose"))
+		p.line("    if not, see whether a device or the folder is paused, whether they are connected, whether a disk is full, and whether Syncthing's page lists 'Failed Items'")
 	}
 	if o.Deleted > 0 {
 		p.line("  %s deleted on all devices, as is recorded", Counted(o.Deleted, "name is", "names are"))
@@ -75,104 +77,110 @@ func one(count int64, alone, several string) string {
 }
 
 // lost tells of names that lose something, the first ones by name.
-func (p *Person) lost(o *Outlook) {
+func (p *Person) lost(o *outlook.Outlook) {
 	if o.Lost == 0 {
 		return
 	}
 	p.line("  %s something that stands on a disk now:", Counted(o.Lost, "name loses", "names lose"))
-	p.named(o, outlook.Lost, o.Lost, func(fate *Fate) {
-		for _, thing := range fate.Loses {
-			p.line("    %s: %s on %s%s; then on no device%s", shell.Path(string(fate.Name)), what(&thing), p.all(thing.Devices), p.modified(&thing), some(fate))
+	p.named(o, outlook.Lost, o.Lost, func(name *outlook.Name) {
+		for _, thing := range name.Loses {
+			p.line("    %s: %s on %s%s; then on no device%s", shell.Path(string(name.Name)), what(&thing), p.all(thing.Devices), p.modified(&thing), some(name))
 		}
 	})
 }
 
 // some says whether something happens in some orders alone.
-func some(fate *Fate) string {
-	if len(fate.Ends) > 1 {
+func some(name *outlook.Name) string {
+	if len(name.Ends) > 1 {
 		return ", in some order"
 	}
 	return ""
 }
 
 // named calls for the first names of a fate, and says how many more there are.
-func (p *Person) named(o *Outlook, of outlook.Fate, count int64, tell func(*Fate)) {
+func (p *Person) named(o *outlook.Outlook, of outlook.Fate, count int64, tell func(*outlook.Name)) {
 	told := int64(0)
-	for place := range o.Fates {
-		if fate := &o.Fates[place]; fate.Fate == string(of) && told < mostNamed {
-			tell(fate)
+	for place := range o.Listed {
+		if name := &o.Listed[place]; name.Fate == of && told < outlook.MostNamed {
+			tell(name)
 			told++
 		}
 	}
-	if count > told {
-		p.line("    and %s (--json has them)", Counted(count-told, "more name", "more names"))
+	p.more("    ", count-told)
+}
+
+// more says how many names aren't told.
+func (p *Person) more(before string, count int64) {
+	if count > 0 {
+		p.line("%sand %s (--json has them)", before, Counted(count, "more name", "more names"))
 	}
 }
 
-func (p *Person) modified(thing *Thing) string {
-	if thing.Modified == nil {
+func (p *Person) modified(thing *outlook.Thing) string {
+	at := thing.Modified()
+	if at == nil {
 		return ""
 	}
-	return " (modified " + thing.Modified.In(p.Zone).Format("2006-01-02 15:04:05 MST") + ")"
+	return " (modified " + at.In(p.Zone).Format("2006-01-02 15:04:05 MST") + ")"
 }
 
 // what names a thing that stands on a disk.
-func what(thing *Thing) string {
+func what(thing *outlook.Thing) string {
 	switch thing.Type {
-	case "file":
-		return Size(*thing.Size)
-	case "symlink":
-		return "the symlink to " + shell.Path(string(*thing.Target))
+	case forecast.File:
+		return Size(thing.Content.Size)
+	case forecast.Symlink:
+		return "the symlink to " + shell.Path(string(thing.Target))
 	}
 	return "the directory"
 }
 
 // several tells of names with several ends.
-func (p *Person) several(o *Outlook) {
+func (p *Person) several(o *outlook.Outlook) {
 	if o.Depends == 0 {
 		return
 	}
 	p.line("  %s to one of several ends, by the order of what happens; nothing is lost:", Counted(o.Depends, "name comes", "names come"))
-	p.named(o, outlook.Depends, o.Depends, func(fate *Fate) {
-		p.line("    %s: %s", shell.Path(string(fate.Name)), Counted(int64(len(fate.Ends)), "end", "ends"))
+	p.named(o, outlook.Depends, o.Depends, func(name *outlook.Name) {
+		p.line("    %s: %s", shell.Path(string(name.Name)), Counted(int64(len(name.Ends)), "end", "ends"))
 	})
 }
 
 // stays tells of names that stay wrong, and why.
-func (p *Person) stays(o *Outlook) {
+func (p *Person) stays(o *outlook.Outlook) {
 	if o.Stays == 0 {
 		return
 	}
 	p.line("  %s wrong:", Counted(o.Stays, "name stays", "names stay"))
-	for _, why := range o.WhyStays {
-		p.line("    %s on %s: %s", Counted(why.Names, "name", "names"), p.all(why.Devices), wordsOfKept[why.Why])
+	for _, why := range o.Kept {
+		p.line("    %s on %s: %s", Counted(why.Names, "name", "names"), p.all(why.Devices), wordsOfKept[forecast.Why(why.Why)])
 	}
 }
 
 // wordsOfKept say why a device keeps a name otherwise than others.
-var wordsOfKept = map[string]string{
-	"differs":            "something else stands there than on most devices",
-	"only-sends":         "it only sends, so it doesn't take what the others have",
-	"no-source":          "it finds no device with the recorded bytes",
-	"not-scanned":        "something else stands there than is recorded",
-	"has-unscanned":      "the directory has something that isn't recorded",
-	"has-local-changes":  "the directory has local changes",
-	"not-empty":          "the directory isn't empty",
-	"below-no-directory": "what stands above is no directory",
-	"is-directory":       "a directory stands where a file is to be deleted",
-	"not-there":          "nothing stands there to get the new time or mode",
-	"local-change":       "it only receives, and keeps its own change",
-	"not-seen":           "it has other bytes than recorded, which no scan sees, and may send them to a device that is added",
-	"ignores-deletions":  "it takes no deletions",
+var wordsOfKept = map[forecast.Why]string{
+	outlook.Differs:           "something else stands there than on most devices",
+	forecast.OnlySends:        "it only sends, so it doesn't take what the others have",
+	forecast.NoSource:         "it finds no device with the recorded bytes",
+	forecast.NotScanned:       "something else stands there than is recorded",
+	forecast.HasUnscanned:     "the directory has something that isn't recorded",
+	forecast.HasLocalChanges:  "the directory has local changes",
+	forecast.NotEmpty:         "the directory isn't empty",
+	forecast.BelowNoDirectory: "what stands above is no directory",
+	forecast.IsDirectory:      "a directory stands where a file is to be deleted",
+	forecast.NotThere:         "nothing stands there to get the new time or mode",
+	forecast.KeepsLocalChange: "it only receives, and keeps its own change",
+	forecast.NotSeen:          "it has other bytes than recorded, which no scan sees, and may send them to a device that is added",
+	forecast.IgnoresDeletions: "it takes no deletions",
 }
 
 // notKnown tells of how many names it isn't known what becomes of them, and why.
-func (p *Person) notKnown(o *Outlook) {
+func (p *Person) notKnown(o *outlook.Outlook) {
 	if o.NotKnown == 0 {
 		return
 	}
 	p.line("  of %s it isn't known what becomes of %s:", Counted(o.NotKnown, "name", "names"), itOrThem(o.NotKnown))
-	for _, why := range o.WhyNot {
+	for _, why := range o.Unknown {
 		p.line("    %s: %s%s%s", Counted(why.Names, "name", "names"), wordsOfUnknown[why.Why], p.of(why.Devices), toKnow(why.Why))
 	}
 }

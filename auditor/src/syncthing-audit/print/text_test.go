@@ -13,8 +13,17 @@ import (
 
 var devices = []string{"LAPTOP", "SERVER", "PHONE"}
 
+// at gives the ids of devices.
+func at(members ...int) []string {
+	var ids []string
+	for _, member := range members {
+		ids = append(ids, devices[member])
+	}
+	return ids
+}
+
 func file(size int64, hash string, members ...int) outlook.Thing {
-	return outlook.Thing{Members: members, Type: forecast.File, Content: forecast.Content{Size: size, Hash: hash}, Time: 1600000000e9}
+	return outlook.Thing{Devices: at(members...), Type: forecast.File, Content: forecast.Content{Size: size, Hash: hash}, Time: 1600000000e9}
 }
 
 var texts = []struct {
@@ -23,13 +32,14 @@ var texts = []struct {
 	text string
 }{
 	{"all names are at rest", outlook.Outlook{}, ""},
-	{"one comes right", outlook.Outlook{Names: 1, Count: map[outlook.Fate]int64{outlook.ByItself: 1}}, `
+	{"one comes right", outlook.Outlook{Names: 1, Right: 1}, `
 if nobody does anything in docs, and all devices scan, then run and reach one another until nothing changes any more:
   1 name comes right by itself, and loses nothing but what a recorded change replaced
+    if not, see whether a device or the folder is paused, whether they are connected, whether a disk is full, and whether Syncthing's page lists 'Failed Items'
 `},
 	{"one of each", outlook.Outlook{Names: 7, Walked: 1,
-		Count:   map[outlook.Fate]int64{outlook.Lost: 1, outlook.Unknown: 1, outlook.Depends: 1, outlook.Changed: 1, outlook.Deleted: 1, outlook.Stays: 1, outlook.ByItself: 1},
-		Unknown: []outlook.Group{{Why: string(read.LeftOut), Names: 1}}, Kept: []outlook.Group{{Why: "only-sends", Members: []int{1}, Names: 1}},
+		Lost: 1, NotKnown: 1, Depends: 1, Changed: 1, Deleted: 1, Stays: 1, Right: 1,
+		Unknown: []outlook.Group{{Why: string(read.LeftOut), Names: 1}}, Kept: []outlook.Group{{Why: "only-sends", Devices: at(1), Names: 1}},
 		Listed: []outlook.Name{
 			{Name: "my budget", Fate: outlook.Lost, Loses: []outlook.Thing{file(5, "aa", 0, 2)}, Ends: [][]outlook.Thing{{file(7, "bb", 0, 1, 2)}}},
 			{Name: "b", Fate: outlook.Depends, Ends: [][]outlook.Thing{{file(7, "bb", 0)}, {}}},
@@ -37,6 +47,7 @@ if nobody does anything in docs, and all devices scan, then run and reach one an
 		`
 if nobody does anything in docs, and all devices scan, then run and reach one another until nothing changes any more:
   1 name comes right by itself, and loses nothing but what a recorded change replaced
+    if not, see whether a device or the folder is paused, whether they are connected, whether a disk is full, and whether Syncthing's page lists 'Failed Items'
   1 name is deleted on all devices, as is recorded
   1 name takes a change that no scan has seen yet; what it replaces is on no device then
   1 name loses something that stands on a disk now:
@@ -50,13 +61,14 @@ if nobody does anything in docs, and all devices scan, then run and reach one an
   of 1 name not all orders were tried: what is said of it holds in all orders tried
 `},
 	{"several of each", outlook.Outlook{Names: 2021, Walked: 2,
-		Count:   map[outlook.Fate]int64{outlook.Lost: 7, outlook.Unknown: 2, outlook.Depends: 2, outlook.Changed: 2, outlook.Deleted: 2, outlook.Stays: 2, outlook.ByItself: 2004},
-		Unknown: []outlook.Group{{Why: string(read.Untried), Members: []int{0, 2}, Names: 2}}, Kept: []outlook.Group{{Why: "not-seen", Members: []int{0}, Names: 2}},
-		Listed: []outlook.Name{{Name: "l", Fate: outlook.Lost, Loses: []outlook.Thing{{Members: []int{0}, Type: forecast.Symlink, Target: "a b"}, {Members: []int{1}, Type: forecast.Directory}},
+		Lost: 7, NotKnown: 2, Depends: 2, Changed: 2, Deleted: 2, Stays: 2, Right: 2004,
+		Unknown: []outlook.Group{{Why: string(read.Untried), Devices: at(0, 2), Names: 2}}, Kept: []outlook.Group{{Why: "not-seen", Devices: at(0), Names: 2}},
+		Listed: []outlook.Name{{Name: "l", Fate: outlook.Lost, Loses: []outlook.Thing{{Devices: at(0), Type: forecast.Symlink, Target: "a b"}, {Devices: at(1), Type: forecast.Directory}},
 			Ends: [][]outlook.Thing{{}, {file(7, "bb", 0)}}}}},
 		`
 if nobody does anything in docs, and all devices scan, then run and reach one another until nothing changes any more:
   2,004 names come right by themselves, and lose nothing but what a recorded change replaced
+    if not, see whether a device or the folder is paused, whether they are connected, whether a disk is full, and whether Syncthing's page lists 'Failed Items'
   2 names are deleted on all devices, as is recorded
   2 names take a change that no scan has seen yet; what it replaces is on no device then
   7 names lose something that stands on a disk now:
@@ -76,14 +88,14 @@ if nobody does anything in docs, and all devices scan, then run and reach one an
 // A person reads plans with numbered steps from the top, those of one plan together.
 func TestPlans(t *testing.T) {
 	goal := file(5, "aa", 0, 2)
-	of := outlook.Outlook{Names: 9, Count: map[outlook.Fate]int64{outlook.Unknown: 1}, Plans: []outlook.Plan{
-		{Names: []part.Bytes{"my budget"}, Count: 1, Goal: &goal, IsAll: true, Copies: []int{1}, Steps: []outlook.Step{{Act: outlook.Save, Member: 1}, {Act: outlook.Copy, Member: 1, From: 0, Over: true}}},
-		{Names: []part.Bytes{"a", "b", "c", "d", "e", "f"}, Count: 7, Goal: &goal, Steps: []outlook.Step{{Act: outlook.Touch, Member: 0}}},
-		{Names: []part.Bytes{"d"}, Count: 1, Below: 2, Goal: &outlook.Thing{Members: []int{2}, Type: forecast.Directory}, IsAll: true, Steps: []outlook.Step{{Act: outlook.Copy, Member: 0, From: 2}}},
-		{Names: []part.Bytes{"z"}, Count: 1, Steps: []outlook.Step{{Act: outlook.Save, Member: 1}}},
+	of := outlook.Outlook{Names: 9, NotKnown: 1, Plans: []outlook.Plan{
+		{Names: []part.Bytes{"my budget"}, Count: 1, Goal: &goal, IsAll: true, Copies: at(1), Steps: []outlook.Step{{Act: outlook.Save, Device: devices[1]}, {Act: outlook.Copy, Device: devices[1], From: devices[0], Over: true}}},
+		{Names: []part.Bytes{"a", "b", "c", "d", "e", "f"}, Count: 7, Goal: &goal, Steps: []outlook.Step{{Act: outlook.Touch, Device: devices[0]}}},
+		{Names: []part.Bytes{"d"}, Count: 1, Below: 2, Goal: &outlook.Thing{Devices: at(2), Type: forecast.Directory}, IsAll: true, Steps: []outlook.Step{{Act: outlook.Copy, Device: devices[0], From: devices[2]}}},
+		{Names: []part.Bytes{"z"}, Count: 1, Steps: []outlook.Step{{Act: outlook.Save, Device: devices[1]}}},
 	}}
 	var to strings.Builder
-	(&Person{To: &to, Called: strings.ToLower, Zone: time.UTC}).plans("docs", OutlookOf(&of, devices))
+	(&Person{To: &to, Called: strings.ToLower, Zone: time.UTC}).plans("docs", &of)
 	if told := to.String(); told != `
 to do in docs, from the top, while Syncthing is stopped on all its devices:
   for 'my budget':
@@ -111,13 +123,13 @@ func TestChoices(t *testing.T) {
 		return outlook.Loss{Name: name, Loses: []outlook.Thing{file(5, "aa", 1)}}
 	}
 	of := outlook.Outlook{Names: 9, Choices: []outlook.Choice{
-		{Act: outlook.Revert, Member: 1, Names: 8, Alike: 8, Lost: 7, IsAll: true, Loses: []outlook.Loss{loss("a b"), loss("b"), loss("c"), loss("d"), loss("e"), loss("f")}},
-		{Act: outlook.Both, Member: 1, Names: 3, Alike: 1, Unknown: 1},
-		{Act: outlook.Override, Member: 2, Names: 1, Alike: 1, Lost: 1, IsAll: true, Loses: []outlook.Loss{loss("a")}},
-		{Act: outlook.Both, Member: 2, IsAll: true},
+		{Act: outlook.Revert, Device: devices[1], Names: 8, Alike: 8, Lost: 7, IsAll: true, Loses: []outlook.Loss{loss("a b"), loss("b"), loss("c"), loss("d"), loss("e"), loss("f")}},
+		{Act: outlook.Both, Device: devices[1], Names: 3, Alike: 1, Unknown: 1},
+		{Act: outlook.Override, Device: devices[2], Names: 1, Alike: 1, Lost: 1, IsAll: true, Loses: []outlook.Loss{loss("a")}},
+		{Act: outlook.Both, Device: devices[2], IsAll: true},
 	}}
 	var to strings.Builder
-	(&Person{To: &to, Called: strings.ToLower, Zone: time.UTC}).plans("docs", OutlookOf(&of, devices))
+	(&Person{To: &to, Called: strings.ToLower, Zone: time.UTC}).plans("docs", &of)
 	if told := to.String(); told != `
 to choose in docs on server, for the whole folder, once all that is to stay is saved; or neither:
   'Revert Local Changes', once Syncthing has scanned and taken what the others have:
@@ -148,9 +160,9 @@ to choose in docs on phone, for the whole folder, once all that is to stay is sa
 // What a choice takes away since something recorded replaces it is named, too.
 func TestWhatGoesByAChoice(t *testing.T) {
 	goes := []outlook.Loss{{Name: "a", Loses: []outlook.Thing{file(5, "aa", 1)}}}
-	of := outlook.Outlook{Names: 9, Choices: []outlook.Choice{{Act: outlook.Both, Member: 1, Names: 3, Alike: 3, IsAll: true, Goes: goes, Gone: 1}}}
+	of := outlook.Outlook{Names: 9, Choices: []outlook.Choice{{Act: outlook.Both, Device: devices[1], Names: 3, Alike: 3, IsAll: true, Goes: goes, Gone: 1}}}
 	var to strings.Builder
-	(&Person{To: &to, Called: strings.ToLower, Zone: time.UTC}).plans("docs", OutlookOf(&of, devices))
+	(&Person{To: &to, Called: strings.ToLower, Zone: time.UTC}).plans("docs", &of)
 	if told := to.String(); !strings.Contains(told, `
     1 name loses what a recorded change or deletion then replaces: copy it elsewhere before Syncthing starts, if it is to stay
       a: 5 bytes on server (modified 2020-09-13 12:26:40 UTC)
@@ -161,10 +173,10 @@ func TestWhatGoesByAChoice(t *testing.T) {
 
 // Where steps are to be taken, what may be chosen is told by another audit: they change what it does, and move what it loses.
 func TestNothingIsChosenBesideSteps(t *testing.T) {
-	of := outlook.Outlook{Names: 9, Plans: []outlook.Plan{{Names: []part.Bytes{"a"}, Count: 1, Steps: []outlook.Step{{Act: outlook.Save, Member: 1}}}},
-		Choices: []outlook.Choice{{Act: outlook.Revert, Member: 1, Names: 8, IsAll: true}, {Act: outlook.Both, Member: 1, Names: 3, IsAll: true}}}
+	of := outlook.Outlook{Names: 9, Plans: []outlook.Plan{{Names: []part.Bytes{"a"}, Count: 1, Steps: []outlook.Step{{Act: outlook.Save, Device: devices[1]}}}},
+		Choices: []outlook.Choice{{Act: outlook.Revert, Device: devices[1], Names: 8, IsAll: true}, {Act: outlook.Both, Device: devices[1], Names: 3, IsAll: true}}}
 	var to strings.Builder
-	(&Person{To: &to, Called: strings.ToLower, Zone: time.UTC}).plans("docs", OutlookOf(&of, devices))
+	(&Person{To: &to, Called: strings.ToLower, Zone: time.UTC}).plans("docs", &of)
 	if told := to.String(); told != `
 to do in docs, from the top, while Syncthing is stopped on all its devices:
   for a:
@@ -180,7 +192,7 @@ func TestWhatAPersonReads(t *testing.T) {
 	for _, one := range texts {
 		var to strings.Builder
 		person := &Person{To: &to, Called: strings.ToLower, Zone: time.UTC}
-		if person.Outlook("docs", false, OutlookOf(&one.of, devices)); to.String() != one.text {
+		if person.Outlook("docs", false, &one.of); to.String() != one.text {
 			t.Errorf("%s:\n%s\nis to be\n%s", one.why, to.String(), one.text)
 		}
 	}
@@ -190,8 +202,8 @@ func TestWhatAPersonReads(t *testing.T) {
 func TestAFolderInStep(t *testing.T) {
 	for count, isQuiet := range map[int64]bool{2: true, 1: false} {
 		var to strings.Builder
-		of := outlook.Outlook{Names: 2, Count: map[outlook.Fate]int64{outlook.ByItself: count, outlook.Lost: 2 - count}}
-		if (&Person{To: &to}).Outlook("docs", true, OutlookOf(&of, devices)); (to.String() == "") != isQuiet {
+		of := outlook.Outlook{Names: 2, Right: count, Lost: 2 - count}
+		if (&Person{To: &to}).Outlook("docs", true, &of); (to.String() == "") != isQuiet {
 			t.Error(to.String())
 		}
 	}
@@ -199,9 +211,9 @@ func TestAFolderInStep(t *testing.T) {
 
 // Each reason that there is has words.
 func TestAllReasonsHaveWords(t *testing.T) {
-	for why := forecast.NoReason; why <= forecast.IgnoresDeletions; why++ {
-		if wordsOfKept[outlook.WhyKept[why]] == "" {
-			t.Errorf("%d has no words", why)
+	for _, why := range append([]forecast.Why{outlook.Differs}, forecast.AllWhys[1:]...) {
+		if wordsOfKept[why] == "" {
+			t.Errorf("%s has no words", why)
 		}
 	}
 	for _, why := range read.AllWhys {
@@ -209,17 +221,17 @@ func TestAllReasonsHaveWords(t *testing.T) {
 			t.Errorf("%s has no words", why)
 		}
 	}
-	if len(read.AllWhys) != len(wordsOfUnknown) || len(outlook.WhyKept) != len(wordsOfKept) {
+	if len(read.AllWhys) != len(wordsOfUnknown) || len(forecast.AllWhys) != len(wordsOfKept) {
 		t.Error("there are words for what is no reason")
 	}
 }
 
 // A directory is copied with all below it, in place of what stands there. What no step puts right comes before the start.
 func TestPlansOfDirectories(t *testing.T) {
-	goal := outlook.Thing{Members: []int{0, 2}, Type: forecast.Directory}
-	of := OutlookOf(&outlook.Outlook{Plans: []outlook.Plan{{Names: []part.Bytes{"d"}, Count: 1, Below: 3, Goal: &goal, IsAll: true,
-		Steps: []outlook.Step{{Act: outlook.Delete, Member: 1}, {Act: outlook.Copy, Member: 1, From: 0}}}}}, devices)
-	of.WithoutSteps, of.FirstWithout = 7, []Text{"a", "b c", "d", "e", "f"}
+	goal := outlook.Thing{Devices: at(0, 2), Type: forecast.Directory}
+	of := &outlook.Outlook{Plans: []outlook.Plan{{Names: []part.Bytes{"d"}, Count: 1, Below: 3, Goal: &goal, IsAll: true,
+		Steps: []outlook.Step{{Act: outlook.Delete, Device: devices[1]}, {Act: outlook.Copy, Device: devices[1], From: devices[0]}}}}}
+	of.WithoutSteps, of.FirstWithout = 7, []part.Bytes{"a", "b c", "d", "e", "f"}
 	var to strings.Builder
 	(&Person{To: &to, Called: strings.ToLower, Zone: time.UTC}).plans("docs", of)
 	if told := to.String(); told != `

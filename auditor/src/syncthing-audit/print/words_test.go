@@ -3,8 +3,6 @@ package print
 import (
 	"strings"
 	"testing"
-
-	"syncthing-audit/outlook"
 )
 
 // Sizes and numbers at each boundary of their units and groups.
@@ -25,23 +23,11 @@ func TestSizesAndNumbers(t *testing.T) {
 	}
 }
 
-// As JSON, what is listed of an outlook is there with the devices' ids, and what isn't is counted.
-func TestAnOutlookAsJSON(t *testing.T) {
-	from := &outlook.Outlook{Names: 7, Listed: []outlook.Name{{Name: "a", Kept: []outlook.Kept{{Member: 1}}}, {Name: "b"}}}
-	made := OutlookOf(from, []string{"one", "two"})
-	if made.MoreNames != 5 || len(made.Fates) != 2 || len(made.Fates[0].Kept) != 1 || made.Fates[0].Kept[0].Device != "two" || len(made.Fates[1].Kept) != 0 {
-		t.Errorf("%+v", made)
-	}
-	if OutlookOf(nil, nil) != nil {
-		t.Error("an outlook that isn't known is told")
-	}
-}
-
 // Of an older program's export it is told that nobody knows what happens.
 func TestWhatIsNotKnownOfAnOlderExport(t *testing.T) {
 	var written strings.Builder
 	(&Person{To: &written}).NoOutlook("docs")
-	if told := written.String(); !strings.Contains(told, "it isn't known what happens in docs if nobody does anything: a program of 0.14.0 or before made the export") {
+	if told := written.String(); !strings.Contains(told, "it isn't known what happens in docs if nobody does anything: a program of 0.16.0 or before made the export") {
 		t.Errorf("%q", told)
 	}
 }

@@ -11,6 +11,7 @@ import (
 	"time"
 
 	"golang.org/x/sys/unix"
+	"syncthing-audit/fixture"
 )
 
 // A file of which a program has a lease, as Samba may, is opened once that is given back.
@@ -77,13 +78,7 @@ func TestNothingIsLeftOpen(t *testing.T) {
 	if err := syscall.Mkfifo(filepath.Join(room, "pipe"), 0o600); err != nil {
 		t.Fatal(err)
 	}
-	count := func() int {
-		open, err := os.ReadDir("/proc/self/fd")
-		if err != nil {
-			t.Skip(err)
-		}
-		return len(open)
-	}
+	count := func() int { return fixture.CountOpened(t, fixture.Any) }
 	before := count()
 	for _, name := range []string{"pipe", "", "file", "none"} {
 		for most := int64(3); most < 5; most++ {

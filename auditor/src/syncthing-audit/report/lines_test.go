@@ -127,8 +127,8 @@ func TestLines(t *testing.T) {
 	folder.Unwon.Add(finding.Unwon{Name: "new file", At: []finding.Cause{{Member: 1, Kind: finding.Unscanned}}})
 	folder.Permissions.Add(finding.Permissions{Name: "a", At: []finding.Bits{{Has: true, Index: 0o644, OnDisk: true, Disk: 0o600}, {}}})
 	folder.LeftOut = []*finding.LeftOut{{Name: "odd\xff", Names: 1, Bytes: 3, Why: []finding.Reason{{Member: 0, Kind: part.OddName, Why: "not UTF-8"}}}}
-	folder.Unlisted.LeftOut = finding.Count{Names: 7, Bytes: 9}
-	folder.Outside = finding.Count{Names: 4, Bytes: 7}
+	folder.Unlisted.LeftOut = finding.Count{Names: 1, Bytes: 9}
+	folder.Outside = finding.Count{Names: 1, Bytes: 7}
 	var written strings.Builder
 	Lines(&written, &finding.Answer{Folders: []*finding.Folder{folder}}, nil)
 	const expected = `not settled: NotWinner docs new\x20file
@@ -137,8 +137,8 @@ NotWinner docs new\x20file
 no winner: docs new\x20file on 2: unscanned
 permissions: docs a 1 index 0644 disk 0600
 left out: docs odd\xff on 1: not UTF-8 (names, 1 names, 3 bytes)
-left out: docs 7 names more, 9 bytes, which aren't listed
-ignored: docs 4 names, 7 bytes, on no device's index
+left out: docs 1 names more, 9 bytes, which aren't listed
+ignored: docs 1 names, 7 bytes, on no device's index
 `
 	if written.String() != expected {
 		t.Errorf("%s\nnot\n%s", written.String(), expected)
@@ -211,7 +211,7 @@ func TestLinesOfOtherNames(t *testing.T) {
 // What was in motion while running devices were looked at isn't called settled.
 func TestLinesOfRunningDevices(t *testing.T) {
 	folder := folderOf("docs", 2)
-	folder.Live = &finding.Live{Seconds: 312.5, Timed: true, Moving: 3, Names: []finding.Moving{{Name: "a b", At: []finding.Moved{
+	folder.Live = &finding.Live{Seconds: 312.5, Timed: true, Moving: 2, Names: []finding.Moving{{Name: "a b", At: []finding.Moved{
 		{Member: 0, Why: []string{part.MovedRecord, part.MovedDisk}}, {Member: 1, Why: []string{part.MovedViews}}}}},
 		Unheard: []finding.Unheard{{Member: 1, Of: 0, Names: 4}}}
 	var written strings.Builder
@@ -219,10 +219,10 @@ func TestLinesOfRunningDevices(t *testing.T) {
 	const expected = `settled as far as audited
 folder docs: 2 names, 0 deleted, 2 devices
 firm: docs
-still: docs 312.500 s, in motion: 3 names
+still: docs 312.500 s, in motion: 2 names
 in motion: docs a\x20b on 1: record, disk
 in motion: docs a\x20b on 2: views
-in motion: docs and 2 names more
+in motion: docs and 1 names more
 not heard of: docs on 2 of 1: 4 names
 `
 	if written.String() != expected {
@@ -270,9 +270,9 @@ func TestLineOfANewerIndex(t *testing.T) {
 func TestLineOfNearTimes(t *testing.T) {
 	var written strings.Builder
 	folder := folderOf("docs", 2)
-	folder.Members[1].About, folder.Members[1].Near = &part.Folder{TimeWindow: 2}, 3
+	folder.Members[1].About, folder.Members[1].Near = &part.Folder{TimeWindow: 3}, 1
 	Lines(&written, &finding.Answer{Folders: []*finding.Folder{folder}}, nil)
-	if !strings.HasSuffix(written.String(), "\ntimes taken for the same: docs 3 files on 2, by less than 2 s\n") || strings.Count(written.String(), "times") != 1 {
+	if !strings.HasSuffix(written.String(), "\ntimes taken for the same: docs 1 files on 2, by less than 3 s\n") || strings.Count(written.String(), "times") != 1 {
 		t.Error(written.String())
 	}
 }
@@ -281,9 +281,9 @@ func TestLineOfNearTimes(t *testing.T) {
 func TestLineOfTemporaryNames(t *testing.T) {
 	var written strings.Builder
 	folder := folderOf("docs", 2)
-	folder.Members[0].Temporary, folder.Members[1].Temporary = &part.Count{}, &part.Count{Names: 2, Bytes: 9}
+	folder.Members[0].Temporary, folder.Members[1].Temporary = &part.Count{}, &part.Count{Names: 1, Bytes: 9}
 	Lines(&written, &finding.Answer{Folders: []*finding.Folder{folder}}, nil)
-	if !strings.HasSuffix(written.String(), "\ntemporary: docs 2 names, 9 bytes on 2\n") || strings.Count(written.String(), "temporary") != 1 {
+	if !strings.HasSuffix(written.String(), "\ntemporary: docs 1 names, 9 bytes on 2\n") || strings.Count(written.String(), "temporary") != 1 {
 		t.Error(written.String())
 	}
 }

@@ -12,12 +12,12 @@ import (
 
 // saying gives a Syncthing that answers each question so, on a home that is in use.
 func saying(t *testing.T, status int, text string) Syncthing {
-	made := httptest.NewServer(http.HandlerFunc(func(to http.ResponseWriter, _ *http.Request) {
+	server := httptest.NewServer(http.HandlerFunc(func(to http.ResponseWriter, _ *http.Request) {
 		to.WriteHeader(status)
 		fmt.Fprint(to, text)
 	}))
-	t.Cleanup(made.Close)
-	return Syncthing{Home: homeInUse(t), GUI: config.GUIConfiguration{APIKey: "key", RawAddress: made.Listener.Addr().String()}}
+	t.Cleanup(server.Close)
+	return Syncthing{Home: homeInUse(t), GUI: config.GUIConfiguration{APIKey: "key", RawAddress: server.Listener.Addr().String()}}
 }
 
 // What Syncthing says of itself is read, and what it doesn't say, or says otherwise, is an error to each question.

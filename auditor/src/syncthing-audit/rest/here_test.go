@@ -11,15 +11,15 @@ import (
 // The key goes to an address of this machine alone.
 func TestTheKeyStaysHere(t *testing.T) {
 	address := func(text string) net.Addr { return &net.TCPAddr{IP: net.ParseIP(text)} }
-	for _, one := range []struct {
+	for _, row := range []struct {
 		near, far string
 		isHere    bool
 	}{
 		{"127.0.0.1", "127.0.0.1", true}, {"127.0.0.1", "127.0.0.5", true}, {"::1", "::1", true}, {"192.0.2.7", "192.0.2.7", true},
 		{"192.0.2.7", "192.0.2.8", false}, {"2001:db8::1", "2001:db8::2", false},
 	} {
-		if err := checkHere(address(one.near), address(one.far)); (err == nil) != one.isHere {
-			t.Errorf("%+v: %v", one, err)
+		if err := checkHere(address(row.near), address(row.far)); (err == nil) != row.isHere {
+			t.Errorf("%+v: %v", row, err)
 		}
 	}
 	if err := checkHere(&net.UnixAddr{Name: "a"}, &net.UnixAddr{Name: "b"}); err != nil {

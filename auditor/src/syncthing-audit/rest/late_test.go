@@ -18,13 +18,13 @@ func silent(t *testing.T, words string) config.GUIConfiguration {
 	t.Cleanup(func() { listening.Close() })
 	go func() {
 		for {
-			made, err := listening.Accept()
+			connection, err := listening.Accept()
 			if err != nil {
 				return
 			}
-			t.Cleanup(func() { made.Close() })
-			made.Read(make([]byte, 1000)) // what it is asked
-			made.Write([]byte(words))
+			t.Cleanup(func() { connection.Close() })
+			connection.Read(make([]byte, 1000)) // what it is asked
+			connection.Write([]byte(words))
 		}
 	}()
 	return config.GUIConfiguration{RawAddress: listening.Addr().String(), APIKey: "key"}
@@ -58,13 +58,13 @@ func TestAnAnswerThatNeverComes(t *testing.T) {
 	}
 	for ; count > 0; count-- {
 		select {
-		case one := <-all:
-			isScanned := one.what == "scan" && strings.Contains(one.words, " 200 ") // its status says all
-			if (one.err == nil) != isScanned {
-				t.Errorf("%s, %q: %v", one.what, one.words, one.err)
+		case end := <-all:
+			isScanned := end.what == "scan" && strings.Contains(end.words, " 200 ") // its status says all
+			if (end.err == nil) != isScanned {
+				t.Errorf("%s, %q: %v", end.what, end.words, end.err)
 			}
-			if one.what == "scan" && len(one.words) < len(begun) && !strings.Contains(one.err.Error(), "folder docs isn't scanned: Syncthing wasn't done in 2s") {
-				t.Errorf("%q: %v", one.words, one.err)
+			if end.what == "scan" && len(end.words) < len(begun) && !strings.Contains(end.err.Error(), "folder docs isn't scanned: Syncthing wasn't done in 2s") {
+				t.Errorf("%q: %v", end.words, end.err)
 			}
 		case <-time.After(30 * time.Second):
 			t.Fatalf("%d wait for ever", count)

@@ -17,6 +17,9 @@ import (
 // ErrStranger says that whoever listens isn't seen to be the Syncthing of a home.
 var ErrStranger = errors.New("the API key isn't sent")
 
+// errNoneListed says that nobody is seen to listen.
+var errNoneListed = errors.New("this system has none listed")
+
 // listener is a program that listens at an address of this machine.
 type listener struct {
 	user      int
@@ -26,22 +29,22 @@ type listener struct {
 // checkFar says why the far end of a connection isn't seen to be this home's own Syncthing, which alone is to have the API key. With TLS its
 // certificate shows it. Without that, the listener is to be of the home's user, and an index is to be in use: this home's, as its lock shows, or one
 // that the listener has open, as where the database is elsewhere.
-func (s Syncthing) checkFar(made net.Conn) error {
+func (s Syncthing) checkFar(connection net.Conn) error {
 	owner, err := ownerOf(filepath.Join(s.Home, "config.xml"))
 	if err != nil {
 		return err
 	}
-	at := made.RemoteAddr()
-	all, err := listenersOf(made)
+	at := connection.RemoteAddr()
+	all, err := listenersOf(connection)
 	if err == nil && len(all) == 0 {
-		err = errors.New("this system has none listed")
+		err = errNoneListed
 	}
 	if err != nil {
 		return fmt.Errorf("%w to %s: it isn't seen whose program listens there: %v. Where Syncthing uses HTTPS, its certificate shows it", ErrStranger, at, err)
 	}
 	isHeld := device.IsHeld(s.data())
-	for _, one := range all {
-		if err := one.check(owner, isHeld); err != nil {
+	for _, listener := range all {
+		if err := listener.check(owner, isHeld); err != nil {
 			return fmt.Errorf("%w to %s: %v", ErrStranger, at, err)
 		}
 	}
@@ -71,8 +74,8 @@ func ownerOf(path string) (int, error) {
 
 // holdsIndex says whether one of the listener's processes is seen to have an index open.
 func (l listener) holdsIndex() bool {
-	for _, one := range l.processes() {
-		if device.HoldsIndex(one) {
+	for _, process := range l.processes() {
+		if device.HoldsIndex(process) {
 			return true
 		}
 	}
@@ -80,19 +83,19 @@ func (l listener) holdsIndex() bool {
 }
 
 // listenersOf gives who listens at the far end of a connection on this machine.
-func listenersOf(made net.Conn) ([]listener, error) {
-	switch one := made.(type) {
+func listenersOf(connection net.Conn) ([]listener, error) {
+	switch one := connection.(type) {
 	case *net.UnixConn:
 		return peerOf(one)
 	case *net.TCPConn:
 		return listenersAt(one.RemoteAddr().(*net.TCPAddr))
 	}
-	return nil, fmt.Errorf("a connection of another kind: %T", made)
+	return nil, fmt.Errorf("a connection of another kind: %T", connection)
 }
 
 // peerOf gives who listens at a socket of the file system.
-func peerOf(made *net.UnixConn) ([]listener, error) {
-	raw, err := made.SyscallConn()
+func peerOf(connection *net.UnixConn) ([]listener, error) {
+	raw, err := connection.SyscallConn()
 	if err != nil {
 		return nil, err
 	}
@@ -112,24 +115,24 @@ func peerOf(made *net.UnixConn) ([]listener, error) {
 
 // listenersAt gives who listens at an address of this machine.
 func listenersAt(at *net.TCPAddr) ([]listener, error) {
-	made := []listener{}
+	listeners := []listener{}
 	found, err := listening.At(at)
-	for _, one := range found {
-		inode := one.Inode
-		made = append(made, listener{one.User, func() []int { return processesWith("socket:[" + inode + "]") }})
+	for _, socket := range found {
+		inode := socket.Inode
+		listeners = append(listeners, listener{socket.User, func() []int { return processesWith("socket:[" + inode + "]") }})
 	}
-	return made, err
+	return listeners, err
 }
 
 // processesWith gives the processes that have something open, as far as they may be seen.
 func processesWith(what string) []int {
-	made := []int{}
+	processes := []int{}
 	found, _ := filepath.Glob("/proc/[0-9]*/fd")
 	for _, path := range found {
 		process, err := strconv.Atoi(filepath.Base(filepath.Dir(path)))
 		if err == nil && device.HasOpen(process, func(target string) bool { return target == what }) {
-			made = append(made, process)
+			processes = append(processes, process)
 		}
 	}
-	return made
+	return processes
 }

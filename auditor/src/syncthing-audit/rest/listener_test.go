@@ -50,7 +50,7 @@ func homeInUse(t *testing.T) string {
 // keysAt gives a server at an address, and how many keys it was sent.
 func keysAt(t *testing.T, network string) (config.GUIConfiguration, *int) {
 	count := 0
-	made := httptest.NewUnstartedServer(http.HandlerFunc(func(_ http.ResponseWriter, asked *http.Request) { count += len(asked.Header["X-Api-Key"]) }))
+	server := httptest.NewUnstartedServer(http.HandlerFunc(func(_ http.ResponseWriter, asked *http.Request) { count += len(asked.Header["X-Api-Key"]) }))
 	about := config.GUIConfiguration{APIKey: "key"}
 	if network == "unix" {
 		room, err := os.MkdirTemp("", "gui") // a socket's path has at most 107 bytes
@@ -63,19 +63,19 @@ func keysAt(t *testing.T, network string) (config.GUIConfiguration, *int) {
 		if err != nil {
 			t.Fatal(err)
 		}
-		made.Listener.Close()
-		made.Listener = listening
+		server.Listener.Close()
+		server.Listener = listening
 	} else {
-		about.RawAddress = made.Listener.Addr().String()
+		about.RawAddress = server.Listener.Addr().String()
 	}
-	made.Start()
-	t.Cleanup(made.Close)
+	server.Start()
+	t.Cleanup(server.Close)
 	return about, &count
 }
 
 // Without TLS the key goes to whoever listens where a lock is held, the home's or one that the listener has open, and to nobody else.
 func TestWhoIsSentTheKey(t *testing.T) {
-	for _, one := range []struct {
+	for _, row := range []struct {
 		why     string
 		prepare func(t *testing.T, home string)
 		keys    int
@@ -85,12 +85,12 @@ func TestWhoIsSentTheKey(t *testing.T) {
 		{"the listener has an index elsewhere open", func(t *testing.T, _ string) { lockIn(t, t.TempDir()) }, 1},
 	} {
 		for _, network := range []string{"tcp", "unix"} {
-			t.Run(network+": "+one.why, func(t *testing.T) {
+			t.Run(network+": "+row.why, func(t *testing.T) {
 				home := homeOf(t)
 				about, keys := keysAt(t, network)
-				one.prepare(t, home)
+				row.prepare(t, home)
 				err := Syncthing{Home: home, GUI: about}.Scan("docs", "")
-				if *keys != one.keys || (err == nil) != (one.keys == 1) || err != nil && !errors.Is(err, ErrStranger) {
+				if *keys != row.keys || (err == nil) != (row.keys == 1) || err != nil && !errors.Is(err, ErrStranger) {
 					t.Errorf("%d keys, %v", *keys, err)
 				}
 			})
@@ -100,44 +100,45 @@ func TestWhoIsSentTheKey(t *testing.T) {
 
 // A listener is to be of the home's user, or root's, also where the home's index is in use.
 func TestWhoseListener(t *testing.T) {
-	for _, one := range []struct {
+	for _, row := range []struct {
 		user   int
 		isHeld bool
 		told   string
 	}{
 		{1000, true, ""},
 		{0, true, ""},
+		{1, true, "a program of user 1 listens there, and the home is of user 1000"},
 		{1001, true, "a program of user 1001 listens there, and the home is of user 1000"},
 		{1000, false, "no Syncthing runs on the home's index"},
 		{0, false, "no Syncthing runs on the home's index"},
 	} {
-		err := listener{one.user, func() []int { return nil }}.check(1000, one.isHeld)
-		if (err == nil) != (one.told == "") || err != nil && !strings.Contains(err.Error(), one.told) {
-			t.Errorf("%v: %v", one, err)
+		err := listener{row.user, func() []int { return nil }}.check(1000, row.isHeld)
+		if (err == nil) != (row.told == "") || err != nil && !strings.Contains(err.Error(), row.told) {
+			t.Errorf("%v: %v", row, err)
 		}
 	}
 }
 
 // Who listens is seen by the kernel's tables: the user and the process, at each kind of address.
 func TestWhoListens(t *testing.T) {
-	for _, one := range [][2]string{{"tcp", "127.0.0.1:0"}, {"tcp", "[::1]:0"}, {"unix", filepath.Join(t.TempDir(), "s")}} {
-		listening, err := net.Listen(one[0], one[1])
+	for _, row := range [][2]string{{"tcp", "127.0.0.1:0"}, {"tcp", "[::1]:0"}, {"unix", filepath.Join(t.TempDir(), "s")}} {
+		listening, err := net.Listen(row[0], row[1])
 		if err != nil {
-			t.Logf("%v isn't tried: %v", one, err)
+			t.Logf("%v isn't tried: %v", row, err)
 			continue
 		}
 		defer listening.Close()
-		made, err := net.Dial(one[0], listening.Addr().String())
+		connection, err := net.Dial(row[0], listening.Addr().String())
 		if err != nil {
 			t.Fatal(err)
 		}
-		defer made.Close()
-		all, err := listenersOf(made)
+		defer connection.Close()
+		all, err := listenersOf(connection)
 		if err != nil || len(all) != 1 || all[0].user != os.Getuid() {
-			t.Fatalf("%v: %+v, %v", one, all, err)
+			t.Fatalf("%v: %+v, %v", row, all, err)
 		}
 		if processes := all[0].processes(); len(processes) != 1 || processes[0] != os.Getpid() {
-			t.Errorf("%v: processes %v, not %d", one, processes, os.Getpid())
+			t.Errorf("%v: processes %v, not %d", row, processes, os.Getpid())
 		}
 	}
 	if all, err := listenersAt(&net.TCPAddr{IP: net.ParseIP("127.0.0.1"), Port: 1}); err != nil || len(all) > 0 {
@@ -169,7 +170,7 @@ func TestTheUserOfAHome(t *testing.T) {
 func TestCertificates(t *testing.T) {
 	path := filepath.Join(t.TempDir(), "https-cert.pem")
 	right := string(pem.EncodeToMemory(&pem.Block{Type: "CERTIFICATE", Bytes: []byte("right")}))
-	for _, one := range []struct {
+	for _, row := range []struct {
 		text string
 		raw  [][]byte
 		told string
@@ -178,15 +179,15 @@ func TestCertificates(t *testing.T) {
 		{right, nil, "isn't this home's Syncthing"}, {"none", [][]byte{[]byte("right")}, "isn't this home's Syncthing"}, {"none", nil, "isn't this home's Syncthing"},
 		{"", nil, "no such file"},
 	} {
-		if err := os.WriteFile(path, []byte(one.text), 0o600); err != nil {
+		if err := os.WriteFile(path, []byte(row.text), 0o600); err != nil {
 			t.Fatal(err)
 		}
 		at := path
-		if one.text == "" {
+		if row.text == "" {
 			at += "x"
 		}
-		if err := checkCertificate(at, one.raw); (err == nil) != (one.told == "") || err != nil && !strings.Contains(err.Error(), one.told) {
-			t.Errorf("%+v: %v", one, err)
+		if err := checkCertificate(at, row.raw); (err == nil) != (row.told == "") || err != nil && !strings.Contains(err.Error(), row.told) {
+			t.Errorf("%+v: %v", row, err)
 		}
 	}
 }

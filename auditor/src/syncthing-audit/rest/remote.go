@@ -59,19 +59,19 @@ func (r *Remote) Folders() ([]configured.Folder, error) {
 
 // Ask asks what is configured of a folder, and what Syncthing does with it.
 func (r *Remote) Ask(folder string) (*AskedOf, error) {
-	made := &AskedOf{}
-	if err := r.get("config/folders/"+url.PathEscape(folder), &made.Configured); err != nil {
+	asked := &AskedOf{}
+	if err := r.get("config/folders/"+url.PathEscape(folder), &asked.Configured); err != nil {
 		return nil, err
 	}
-	if made.Configured.ID != folder {
+	if asked.Configured.ID != folder {
 		return nil, errors.New("it answers for another folder")
 	}
-	if err := r.get("config/devices", &made.Devices); err != nil {
+	if err := r.get("config/devices", &asked.Devices); err != nil {
 		return nil, err
 	}
 	rest, err := r.rest(folder)
-	made.Rest = rest
-	return made, err
+	asked.Rest = rest
+	return asked, err
 }
 
 // rest says how Syncthing is seen with a folder now, and what it still needs.
@@ -80,17 +80,17 @@ func (r *Remote) rest(folder string) (part.Rest, error) {
 	if err != nil {
 		return part.Rest{}, err
 	}
-	made := part.Rest{State: limits.Cut(said.state()), Why: limits.Cut(said.Error), Wanted: &part.Wanted{Count: part.Count{Names: said.Names, Bytes: said.Bytes}, Errors: said.Errors}}
-	if made.State == "" {
-		made.State = part.RestPaused
+	rest := part.Rest{State: limits.Cut(said.state()), Why: limits.Cut(said.Error), Wanted: &part.Wanted{Count: part.Count{Names: said.Names, Bytes: said.Bytes}, Errors: said.Errors}}
+	if rest.State == "" {
+		rest.State = part.RestPaused
 	}
 	if said.Names < 0 || said.Bytes < 0 || said.Errors < 0 {
 		return part.Rest{}, errors.New("it says that it needs fewer than no names")
 	}
 	if said.Errors > 0 {
-		made.Wanted.First, err = r.errors(folder, said.Errors)
+		rest.Wanted.First, err = r.errors(folder, said.Errors)
 	}
-	return made, err
+	return rest, err
 }
 
 // errors gives the first errors of a folder, of so many.
@@ -104,13 +104,13 @@ func (r *Remote) errors(folder string, count int64) ([]part.NameError, error) {
 	if err := r.get("folder/errors?"+url.Values{"folder": {folder}, "page": {"1"}, "perpage": {fmt.Sprint(part.MostErrors)}}.Encode(), &said); err != nil {
 		return nil, err
 	}
-	made := []part.NameError{}
-	for _, one := range said.Errors {
-		if len(made) < part.MostErrors && int64(len(made)) < count {
-			made = append(made, part.NameError{Name: part.Bytes(limits.Cut(one.Path)), Why: limits.Cut(one.Error)})
+	failures := []part.NameError{}
+	for _, failure := range said.Errors {
+		if len(failures) < part.MostErrors && int64(len(failures)) < count {
+			failures = append(failures, part.NameError{Name: part.Bytes(limits.Cut(failure.Path)), Why: limits.Cut(failure.Error)})
 		}
 	}
-	return made, nil
+	return failures, nil
 }
 
 // Local says under which sequence Syncthing's own index has a name, and with which version: of each device that changed it the first seven letters of its
@@ -196,15 +196,15 @@ func (r *Remote) checkCertificate(raw [][]byte, _ [][]*x509.Certificate) error {
 
 // dial connects with Syncthing.
 func (r *Remote) dial(ctx context.Context) (net.Conn, error) {
-	made, err := (&net.Dialer{}).DialContext(ctx, "tcp", r.Address)
+	connection, err := (&net.Dialer{}).DialContext(ctx, "tcp", r.Address)
 	if err != nil || r.Certificate != nil {
-		return made, err
+		return connection, err
 	}
-	if err := checkOwn(made.RemoteAddr()); err != nil {
-		made.Close()
+	if err := checkOwn(connection.RemoteAddr()); err != nil {
+		connection.Close()
 		return nil, fmt.Errorf("%w: %v", ErrStranger, err)
 	}
-	return made, nil
+	return connection, nil
 }
 
 // checkOwn says why an address isn't one of this machine at which nobody but this user and root listens.
@@ -214,12 +214,15 @@ func checkOwn(at net.Addr) error {
 		return fmt.Errorf("%s isn't this machine, and http has the key seen on the way", at)
 	}
 	found, err := listening.At(there)
-	if err != nil || len(found) == 0 {
+	if err == nil && len(found) == 0 {
+		err = errNoneListed
+	}
+	if err != nil {
 		return fmt.Errorf("it isn't seen whose program listens at %s: %v", at, err)
 	}
-	for _, one := range found {
-		if one.User != os.Getuid() && one.User != 0 {
-			return fmt.Errorf("a program of user %d listens at %s: with https its certificate shows whose that is", one.User, at)
+	for _, socket := range found {
+		if socket.User != os.Getuid() && socket.User != 0 {
+			return fmt.Errorf("a program of user %d listens at %s: with https its certificate shows whose that is", socket.User, at)
 		}
 	}
 	return nil

@@ -56,16 +56,16 @@ func usual() *spoken {
 // served gives the REST API of a device: by https with the device's certificate, or by http.
 func served(t *testing.T, of *spoken, isSecure bool) *Remote {
 	server := httptest.NewUnstartedServer(of)
-	made := &Remote{Address: server.Listener.Addr().String(), Key: "key"}
+	remote := &Remote{Address: server.Listener.Addr().String(), Key: "key"}
 	if isSecure {
 		server.StartTLS()
 		sum := sha256.Sum256(server.Certificate().Raw)
-		made.Certificate = &sum
+		remote.Certificate = &sum
 	} else {
 		server.Start()
 	}
 	t.Cleanup(server.Close)
-	return made
+	return remote
 }
 
 // A Syncthing says who it is, what is configured of a folder, what it does there and what it needs, by http on this machine and by https.
@@ -84,10 +84,10 @@ func TestWhatARemoteSays(t *testing.T) {
 		if !reflect.DeepEqual(said.Rest, due) {
 			t.Errorf("%+v", said.Rest)
 		}
-		made := &part.Folder{}
-		if err := said.Configured.Tell(made, said.Devices); err != nil || made.Kind != "receive-only" || made.TimeWindow != 2 ||
-			*made.Options != (part.Options{MaxConflicts: -1, IgnoresDeletions: true}) || !reflect.DeepEqual(made.PausedDevices, []string{"one"}) {
-			t.Errorf("%+v, %v", made, err)
+		folder := &part.Folder{}
+		if err := said.Configured.Tell(folder, said.Devices); err != nil || folder.Kind != "receive-only" || folder.TimeWindow != 2 ||
+			*folder.Options != (part.Options{MaxConflicts: -1, IgnoresDeletions: true}) || !reflect.DeepEqual(folder.PausedDevices, []string{"one"}) {
+			t.Errorf("%+v, %v", folder, err)
 		}
 		if err := remote.Scan("a/b"); err != nil {
 			t.Error(err)
@@ -185,6 +185,9 @@ func TestWhereHTTPGoes(t *testing.T) {
 		if err := checkOwn(address); err == nil {
 			t.Errorf("%s gets a key", at)
 		}
+	}
+	if address, err := netAddr("127.0.0.1:1"); err != nil || checkOwn(address).Error() != "it isn't seen whose program listens at 127.0.0.1:1: this system has none listed" {
+		t.Errorf("%v, %v", err, checkOwn(address))
 	}
 	none := configured.Folder{Type: "receiveencrypted"}
 	if err := none.Tell(&part.Folder{}, nil); err == nil {

@@ -23,6 +23,9 @@ import (
 	"syncthing-audit/shell"
 )
 
+// TimeBetweenQuestions is how long to wait before a Syncthing is asked anew that wasn't idle.
+const TimeBetweenQuestions = 500 * time.Millisecond
+
 // Syncthing is that of a home.
 type Syncthing struct {
 	Home string
@@ -160,19 +163,23 @@ func (s Syncthing) transport() *http.Transport {
 
 // dial connects with Syncthing.
 func (s Syncthing) dial(ctx context.Context) (net.Conn, error) {
-	made, err := (&net.Dialer{}).DialContext(ctx, s.GUI.Network(), localAddress(s.GUI))
+	connection, err := (&net.Dialer{}).DialContext(ctx, s.GUI.Network(), localAddress(s.GUI))
 	if err != nil {
 		return nil, err
 	}
-	err = checkHere(made.LocalAddr(), made.RemoteAddr())
-	if err == nil && !s.GUI.UseTLS() {
-		err = s.checkFar(made)
-	}
-	if err != nil {
-		made.Close()
+	if err := s.check(connection); err != nil {
+		connection.Close()
 		return nil, err
 	}
-	return made, nil
+	return connection, nil
+}
+
+// check refuses a connection by which the API key may go to somebody else. With TLS it is the certificate that shows who answers.
+func (s Syncthing) check(connection net.Conn) error {
+	if err := checkHere(connection.LocalAddr(), connection.RemoteAddr()); err != nil || s.GUI.UseTLS() {
+		return err
+	}
+	return s.checkFar(connection)
 }
 
 // checkHere refuses a connection to another machine: its two ends have one address, or the far one is a loopback address.

@@ -16,7 +16,7 @@ import (
 
 // answering gives a server that scans the folder 'a b' alone, and says where its files are, for whoever has the key.
 func answering(t *testing.T, isSecure bool) (*httptest.Server, config.GUIConfiguration) {
-	made := httptest.NewUnstartedServer(http.HandlerFunc(func(to http.ResponseWriter, asked *http.Request) {
+	server := httptest.NewUnstartedServer(http.HandlerFunc(func(to http.ResponseWriter, asked *http.Request) {
 		switch {
 		case asked.Method == http.MethodGet && asked.URL.Path == "/rest/system/paths" && asked.Header.Get("X-API-Key") == "key":
 			io.WriteString(to, `{"baseDir-config":"/srv/config","baseDir-data":"/srv/data"}`)
@@ -31,12 +31,12 @@ func answering(t *testing.T, isSecure bool) (*httptest.Server, config.GUIConfigu
 		}
 	}))
 	if isSecure {
-		made.StartTLS()
+		server.StartTLS()
 	} else {
-		made.Start()
+		server.Start()
 	}
-	t.Cleanup(made.Close)
-	return made, config.GUIConfiguration{RawAddress: made.Listener.Addr().String(), RawUseTLS: isSecure, APIKey: "key"}
+	t.Cleanup(server.Close)
+	return server, config.GUIConfiguration{RawAddress: server.Listener.Addr().String(), RawUseTLS: isSecure, APIKey: "key"}
 }
 
 // A scan is asked of the home's own Syncthing alone, by its key and its certificate.
@@ -61,19 +61,19 @@ func TestScan(t *testing.T) {
 		}, "isn't this home's Syncthing"},
 		{"no certificate", true, "a b", func(home string, _ *config.GUIConfiguration) { os.Remove(filepath.Join(home, "https-cert.pem")) }, "https-cert.pem"},
 	}
-	for _, one := range cases {
+	for _, row := range cases {
 		home := homeInUse(t)
-		server, about := answering(t, one.isSecure)
-		if one.isSecure {
+		server, about := answering(t, row.isSecure)
+		if row.isSecure {
 			text := pem.EncodeToMemory(&pem.Block{Type: "CERTIFICATE", Bytes: server.Certificate().Raw})
 			if err := os.WriteFile(filepath.Join(home, "https-cert.pem"), text, 0o600); err != nil {
 				t.Fatal(err)
 			}
 		}
-		one.change(home, &about)
-		err := Syncthing{Home: home, GUI: about}.Scan(one.folder, "")
-		if (err == nil) != (one.told == "") || err != nil && !strings.Contains(err.Error(), one.told) {
-			t.Errorf("%s: %v", one.why, err)
+		row.change(home, &about)
+		err := Syncthing{Home: home, GUI: about}.Scan(row.folder, "")
+		if (err == nil) != (row.told == "") || err != nil && !strings.Contains(err.Error(), row.told) {
+			t.Errorf("%s: %v", row.why, err)
 		}
 	}
 }

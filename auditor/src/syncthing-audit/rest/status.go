@@ -17,14 +17,14 @@ type status struct {
 
 // statusOf asks what Syncthing does with a folder.
 func statusOf(folder string, get func(what string, into any) error) (status, error) {
-	var made status
-	if err := get("db/status?"+url.Values{"folder": {folder}}.Encode(), &made); err != nil {
+	var said status
+	if err := get("db/status?"+url.Values{"folder": {folder}}.Encode(), &said); err != nil {
 		return status{}, err
 	}
-	if made.State == nil {
+	if said.State == nil {
 		return status{}, errors.New("Syncthing doesn't say what it does there")
 	}
-	return made, nil
+	return said, nil
 }
 
 // state gives what it does; nothing where that isn't known.

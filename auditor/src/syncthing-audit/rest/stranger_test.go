@@ -23,10 +23,10 @@ func TestMain(m *testing.M) {
 	if os.Getenv(asListener) == "" {
 		os.Exit(m.Run())
 	}
-	made := httptest.NewServer(http.HandlerFunc(func(to http.ResponseWriter, asked *http.Request) {
+	server := httptest.NewServer(http.HandlerFunc(func(to http.ResponseWriter, asked *http.Request) {
 		fmt.Fprintf(to, `{"state":%q}`, asked.Header.Get("X-API-Key"))
 	}))
-	fmt.Println(made.Listener.Addr())
+	fmt.Println(server.Listener.Addr())
 	io.Copy(io.Discard, os.Stdin)
 }
 
@@ -56,7 +56,7 @@ func listenerElsewhere(t *testing.T) string {
 // A listener that has no index open is sent the key where the index is in use that the home has, or that is said to be its own, and where no other is.
 func TestWhoseIndexIsInUse(t *testing.T) {
 	address := listenerElsewhere(t)
-	for _, one := range []struct {
+	for _, row := range []struct {
 		held     string // where an index is in use, by this process
 		said     string // where the home's index is said to be
 		isAsked  bool
@@ -67,15 +67,15 @@ func TestWhoseIndexIsInUse(t *testing.T) {
 		{"home", "", false, func(s *Syncthing) { os.Remove(s.Home + "/config.xml") }},
 	} {
 		at := map[string]string{"home": homeOf(t), "data": t.TempDir(), "elsewhere": t.TempDir()}
-		if one.held != "" {
-			lockIn(t, at[one.held])
+		if row.held != "" {
+			lockIn(t, at[row.held])
 		}
-		asked := Syncthing{Home: at["home"], Data: at[one.said], GUI: config.GUIConfiguration{APIKey: "key", RawAddress: address}}
-		if one.whatElse != nil {
-			one.whatElse(&asked)
+		asked := Syncthing{Home: at["home"], Data: at[row.said], GUI: config.GUIConfiguration{APIKey: "key", RawAddress: address}}
+		if row.whatElse != nil {
+			row.whatElse(&asked)
 		}
-		if state, err := asked.State("docs"); (err == nil) != one.isAsked || (state == "key") != one.isAsked {
-			t.Errorf("%s is held, and %q is said to be the home's: %q, %v", one.held, one.said, state, err)
+		if state, err := asked.State("docs"); (err == nil) != row.isAsked || (state == "key") != row.isAsked {
+			t.Errorf("%s is held, and %q is said to be the home's: %q, %v", row.held, row.said, state, err)
 		}
 	}
 }
@@ -86,17 +86,17 @@ func TestNobodyIsSeenToListen(t *testing.T) {
 	if err != nil {
 		t.Fatal(err)
 	}
-	made, err := net.Dial("tcp", listening.Addr().String())
+	connection, err := net.Dial("tcp", listening.Addr().String())
 	if err != nil {
 		t.Fatal(err)
 	}
-	defer made.Close()
+	defer connection.Close()
 	listening.Close() // its connections stay
 	piped, far := net.Pipe()
 	defer far.Close()
-	for told, one := range map[string]net.Conn{"this system has none listed": made, "a connection of another kind": piped} {
-		begin := fmt.Sprintf("the API key isn't sent to %s: it isn't seen whose program listens there: %s", one.RemoteAddr(), told)
-		if err := (Syncthing{Home: homeInUse(t)}).checkFar(one); !errors.Is(err, ErrStranger) || !strings.HasPrefix(err.Error(), begin) {
+	for told, connection := range map[string]net.Conn{"this system has none listed": connection, "a connection of another kind": piped} {
+		begin := fmt.Sprintf("the API key isn't sent to %s: it isn't seen whose program listens there: %s", connection.RemoteAddr(), told)
+		if err := (Syncthing{Home: homeInUse(t)}).checkFar(connection); !errors.Is(err, ErrStranger) || !strings.HasPrefix(err.Error(), begin) {
 			t.Errorf("%s: %v", begin, err)
 		}
 	}

@@ -4,7 +4,6 @@ import (
 	"path"
 
 	"syncthing-audit/outlook"
-	"syncthing-audit/print"
 )
 
 // step is one step for one name.
@@ -14,7 +13,7 @@ type step struct {
 	from   string // of a copy
 	over   bool
 	name   string
-	plan   *print.Plan
+	plan   *outlook.Plan
 	round  int // from 1
 }
 
@@ -34,14 +33,14 @@ type order struct {
 func newOrder() *order { return &order{latest{}, latest{}, latest{}} }
 
 // stepsOf gives the steps of plans, from the top, each in its round.
-func stepsOf(plans []print.Plan) []step {
+func stepsOf(plans []outlook.Plan) []step {
 	var steps []step
 	order := newOrder()
 	for at := range plans {
 		plan := &plans[at]
 		for _, told := range plan.Steps {
 			for _, name := range plan.Names {
-				next := step{act: outlook.Act(told.Act), device: told.Device, from: told.From, over: told.Over, name: string(name), plan: plan}
+				next := step{act: told.Act, device: told.Device, from: told.From, over: told.Over, name: string(name), plan: plan}
 				next.round = order.roundOf(&next)
 				order.note(&next)
 				steps = append(steps, next)

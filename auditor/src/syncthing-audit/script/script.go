@@ -70,7 +70,7 @@ type script struct {
 	folders []*summary.Folder
 	sources []source
 	steps   strings.Builder
-	plan    *print.Plan // of the last step
+	plan    *outlook.Plan // of the last step
 }
 
 // source is a folder on another device.
@@ -80,7 +80,7 @@ type source struct {
 }
 
 // note notes what no script of a folder does.
-func (w *writing) note(told *print.Outlook) {
+func (w *writing) note(told *outlook.Outlook) {
 	w.without += told.WithoutSteps
 	w.unknown += told.NotKnown
 	for place := range told.Plans {
@@ -143,8 +143,8 @@ func (s *script) wordOf(name string, number int) string {
 }
 
 // aim says to what a plan leads.
-func (w *writing) aim(plan *print.Plan) string {
-	if leads := plan.Leads(func(devices []string) string { return w.all(devices) }); leads != "" {
+func (w *writing) aim(plan *outlook.Plan) string {
+	if leads := print.Leads(plan, w.all); leads != "" {
 		return "So " + leads + "."
 	}
 	return "What stands there may go once Syncthing starts: it is kept."

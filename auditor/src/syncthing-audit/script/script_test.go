@@ -12,7 +12,6 @@ import (
 
 	"syncthing-audit/outlook"
 	"syncthing-audit/part"
-	"syncthing-audit/print"
 	"syncthing-audit/summary"
 )
 
@@ -79,9 +78,9 @@ func isThere(path string) bool {
 }
 
 // make makes a step as the answer says it, and says whether it can be made.
-func (d *disks) make(step print.Step, name string) bool {
+func (d *disks) make(step outlook.Step, name string) bool {
 	path := d.at(step.Device, name)
-	switch outlook.Act(step.Act) {
+	switch step.Act {
 	case outlook.Save:
 		return isThere(path)
 	case outlook.Touch:
@@ -104,17 +103,17 @@ func (d *disks) make(step print.Step, name string) bool {
 var present = time.Unix(1e9, 0)
 
 // drawPlans draws plans that can be followed from the top, and follows them.
-func drawPlans(random *rand.Rand, disks *disks) []print.Plan {
-	var made []print.Plan
+func drawPlans(random *rand.Rand, disks *disks) []outlook.Plan {
+	var made []outlook.Plan
 	some := names[:len(names)-random.Intn(2)*(len(names)-3)] // all, or those that stand below one another
 	for try := 0; try < 30; try++ {
 		name := some[random.Intn(len(some))]
-		plan := print.Plan{Names: []part.Bytes{part.Bytes(name)}, Count: 1}
+		plan := outlook.Plan{Names: []part.Bytes{part.Bytes(name)}, Count: 1}
 		for count := 1 + random.Intn(3); count > 0; count-- {
 			device, from := random.Intn(len(ids)), random.Intn(len(ids)-1)
 			acts := []outlook.Act{outlook.Save, outlook.Touch, outlook.Copy, outlook.Copy, outlook.Delete}
-			step := print.Step{Act: string(acts[random.Intn(len(acts))]), Device: ids[device]}
-			if step.Act == string(outlook.Copy) {
+			step := outlook.Step{Act: acts[random.Intn(len(acts))], Device: ids[device]}
+			if step.Act == outlook.Copy {
 				step.From, step.Over = ids[(device+1+from)%len(ids)], isThere(disks.at(step.Device, name))
 			}
 			if disks.make(step, name) {
@@ -128,8 +127,8 @@ func drawPlans(random *rand.Rand, disks *disks) []print.Plan {
 	return made
 }
 
-func summaryOf(plans []print.Plan) *summary.Summary {
-	made := &summary.Summary{Folders: []*summary.Folder{{ID: "docs", Label: "it's\x1b[2J", Outlook: &print.Outlook{Plans: plans}}}}
+func summaryOf(plans []outlook.Plan) *summary.Summary {
+	made := &summary.Summary{Folders: []*summary.Folder{{ID: "docs", Label: "it's\x1b[2J", Outlook: &outlook.Outlook{Plans: plans}}}}
 	for _, id := range ids {
 		made.Devices = append(made.Devices, summary.Device{ID: id, Name: "it's " + id + "\n\x1b[2J"})
 	}

@@ -92,7 +92,7 @@ func keep(data []byte) (*os.File, error) {
 }
 
 // isOthers says whether a file belongs to another user than this one and root.
-func isOthers(about os.FileInfo) bool {
-	said, is := about.Sys().(*syscall.Stat_t)
-	return is && said.Uid != 0 && int(said.Uid) != os.Geteuid()
+func isOthers(about os.FileInfo, user int) bool {
+	owner := int(about.Sys().(*syscall.Stat_t).Uid)
+	return owner != 0 && owner != user
 }

@@ -18,7 +18,7 @@ type Signers struct{ list *os.File }
 // OpenSigners reads such a file. Who else may write it could have any key speak for any device.
 func OpenSigners(path string) (*Signers, error) {
 	data, about, err := regular.Read(path, mostOfSigners)
-	if err == nil && (about.Mode().Perm()&0o022 != 0 || isOthers(about)) {
+	if err == nil && (about.Mode().Perm()&0o022 != 0 || isOthers(about, os.Geteuid())) {
 		err = fmt.Errorf("others may write it (mode %04o), and so may have any key speak for any device: 'chmod go-w', and look what it says", about.Mode().Perm())
 	}
 	var list *os.File

@@ -87,6 +87,17 @@ func TestWhoseFilesCount(t *testing.T) {
 		t.Errorf("another user's list: %v", err)
 	}
 	key, _ := aKey(t, idOf(1))
+	for owner := 0; owner < 3; owner++ {
+		if err := os.Chown(key, owner, 0); err != nil {
+			t.Fatal(err)
+		}
+		about, err := os.Stat(key)
+		for user := 0; user < 3; user++ {
+			if err != nil || isOthers(about, user) != (owner != 0 && owner != user) {
+				t.Errorf("a file of user %d is another's for user %d: %v, %v", owner, user, isOthers(about, user), err)
+			}
+		}
+	}
 	if err := os.Chown(key, 1234, 0); err != nil {
 		t.Fatal(err)
 	}

@@ -3,8 +3,11 @@ package signature
 import (
 	"os"
 	"path/filepath"
+	"runtime/debug"
 	"strings"
 	"testing"
+
+	"syncthing-audit/fixture"
 )
 
 // filesIn lists all that stands below a directory.
@@ -47,9 +50,33 @@ func TestAKeyThatCannotBeMade(t *testing.T) {
 			t.Errorf("%s: %q are left", called, left)
 		}
 	}
-	file := written(t, "file", "", 0o600)
-	if _, _, err := Open(filepath.Join(file, "below", "key"), idOf(1)); err == nil {
-		t.Error("a key is made below a file")
+	file, link := written(t, "file", "", 0o600), filepath.Join(t.TempDir(), "link")
+	if err := os.Symlink("nothing", link); err != nil {
+		t.Fatal(err)
+	}
+	for _, place := range []string{file, link} {
+		if _, _, err := Open(filepath.Join(place, "below", "key"), idOf(1)); err == nil || strings.Contains(err.Error(), "ssh-keygen") {
+			t.Errorf("a key is made below a file or a link to nothing: %v", err)
+		}
+	}
+}
+
+// Nothing stays open behind a key, a list or a check of a signature, whether all is well or not.
+func TestNothingStaysOpen(t *testing.T) {
+	defer debug.SetGCPercent(debug.SetGCPercent(-1)) // the collector closes files of which nobody knows any more
+	key, line := aKey(t, idOf(1))
+	path := signedBy(t, key, Namespace, "a part")
+	for called, call := range map[string]func() error{
+		"a new key":      func() error { _, _, err := Open(filepath.Join(t.TempDir(), "key"), idOf(1)); return err },
+		"a key":          func() error { _, _, err := Open(key, idOf(1)); return err },
+		"a good part":    func() error { return checked(t, line, idOf(1), path) },
+		"another's part": func() error { return checked(t, line, idOf(2), path) },
+	} {
+		before := fixture.CountOpened(t, fixture.Any)
+		err := call()
+		if after := fixture.CountOpened(t, fixture.Any); after != before || (err == nil) == (called == "another's part") {
+			t.Errorf("%s: %d files are open, and %d before: %v", called, after, before, err)
+		}
 	}
 }
 

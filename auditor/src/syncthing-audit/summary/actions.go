@@ -2,130 +2,111 @@ package summary
 
 import (
 	"golang.org/x/exp/slices"
+	"syncthing-audit/damage"
 	"syncthing-audit/outlook"
 )
 
 // actions are what all entries of an answer tell to do on devices. A start of Syncthing scans all folders, and each entry speaks of its own names
 // alone: so what one of them tells to do first counts for all others.
 type actions struct {
-	entries int                 // so far
-	safe    map[string][]int    // the entries that tell to make something on a device safe before Syncthing starts or scans there
-	damaged map[string]int64    // how many files look damaged there, and a scan sends that
-	grown   map[string]int64    // how many have more bytes there than recorded under the recorded time, and a scan sends these
-	added   map[string]int64    // how many names stand on a device that only receives, and aren't the others'
-	changed map[string]int64    // how many names have bytes there that the others' names don't have
-	taken   map[string][]int    // the entries of both
-	reverts map[string][]int    // those that tell to revert local changes there
-	waits   map[string]*waiting // what no scan has seen there
-	started map[string][]int    // those after which Syncthing starts, scans or sends there: they tell that, or to stop it there for what they tell
+	entries int
+	safe    map[string]bool                   // the devices on which some entry tells to do something before Syncthing starts or scans there
+	wrong   map[string]map[string]*wrongNames // of which names that is told above all entries, by why and by device
+	waits   map[string]*waiting               // what no scan has seen there
 }
 
-// note notes what the entry of a name tells to do.
-func (a *actions) note(file *File) {
+// wrongNames counts names on a device.
+type wrongNames struct {
+	names   int64
+	folders []string
+}
+
+func newActions() *actions {
+	return &actions{safe: map[string]bool{}, wrong: map[string]map[string]*wrongNames{isLonger: {}, isDamaged: {}, isMissing: {}}, waits: map[string]*waiting{}}
+}
+
+// note notes what the entry of a folder's name tells to do.
+func (a *actions) note(file *File, folder string) {
 	a.entries++
 	for _, device := range file.toMakeSafe() {
-		a.safe[device] = append(a.safe[device], a.entries)
+		a.safe[device] = true
 	}
 	for place := range file.Faults {
-		switch fault := &file.Faults[place]; {
-		case !fault.isDamagedChange():
-		case fault.Damage.MayBeOfRecord():
-			a.grown[fault.Device]++
-		default:
-			a.damaged[fault.Device]++
+		fault := &file.Faults[place]
+		if on := a.wrong[file.whyFirst(fault)]; on != nil {
+			if on[fault.Device] == nil {
+				on[fault.Device] = &wrongNames{}
+			}
+			on[fault.Device].names++
+			on[fault.Device].folders = addOnce(on[fault.Device].folders, folder)
 		}
 	}
-	a.noteReverts(file)
-	for _, device := range file.actsOn() {
-		a.started[device] = append(a.started[device], a.entries)
+}
+
+// whyFirst says why a fault is told above all entries; nothing where it isn't. What is missing may come back by itself.
+func (f *File) whyFirst(fault *Fault) string {
+	switch {
+	case fault.Cause == Missing && !f.isDeletionDue() && !f.comesBack(fault):
+		return isMissing
+	case fault.Cause != Changed || fault.Damage == damage.None || fault.Kind == receiveOnly:
+		return ""
+	case fault.Damage.MayBeOfRecord():
+		return isLonger
 	}
+	return isDamaged
 }
 
-// isFirst says whether something on a device is to be made safe before that is done there which another entry tells.
-func (a *actions) isFirst(device string) bool {
-	for _, entry := range a.safe[device] {
-		if slices.IndexFunc(a.started[device], func(other int) bool { return other != entry }) >= 0 {
-			return true
-		}
+// comesBack says whether by itself something comes to stand again where the name is missing on a device.
+func (f *File) comesBack(fault *Fault) bool {
+	if !f.foretold.isKnown() || len(f.foretold.fate.Ends) == 0 {
+		return false
 	}
-	return false
+	isThere := func(thing outlook.Thing) bool { return !thing.IsCopy && slices.Contains(thing.Devices, fault.Device) }
+	return slices.IndexFunc(f.foretold.fate.Ends, func(end []outlook.Thing) bool { return slices.IndexFunc(end, isThere) < 0 }) < 0
 }
 
-// isToMakeSafe says whether some entry tells to make something safe on a device first. Where nobody noted what entries tell, none does.
-func (a *actions) isToMakeSafe(device string) bool {
-	return a != nil && len(a.safe[device]) > 0 || a.isWaiting(device)
-}
-
-// toMakeSafe gives the devices on which something of the name is to be made safe before Syncthing starts or scans there.
+// toMakeSafe gives the devices on which something is to be done for the name before Syncthing starts or scans there.
 func (f *File) toMakeSafe() []string {
-	devices := []string{}
-	if f.foretold.is(outlook.Lost) && f.foretold.plan != nil {
-		for _, step := range f.foretold.plan.Steps {
+	devices := f.withoutSteps()
+	if plan := f.foretold.plan; plan != nil {
+		for _, step := range plan.Steps {
 			devices = addOnce(devices, step.Device)
 		}
 	}
-	for place := range f.Faults {
-		if f.losesAt(&f.Faults[place]) {
-			devices = addOnce(devices, f.Faults[place].Device)
-		}
-	}
-	for _, device := range f.goesFrom() {
-		devices = addOnce(devices, device)
-	}
-	if f.isModeFirst() {
-		for place := range f.Permissions {
-			if f.Permissions[place].isStray() {
-				devices = addOnce(devices, f.Permissions[place].Device)
-			}
-		}
-	}
 	return devices
 }
 
-// mayLose says whether bytes of the name may be lost by a scan, or by what others fetch.
-func (f *File) mayLose() bool {
-	return f.foretold.is(outlook.Lost) || slices.IndexFunc(f.Faults, func(fault Fault) bool { return f.losesAt(&fault) }) >= 0
-}
-
-// losesAt says whether Syncthing may send to all what is wrong on a device, or lose it, once it scans there. Where it is known what becomes of the name,
-// its fate says that, but of what looks like damage.
-func (f *File) losesAt(fault *Fault) bool {
-	switch {
-	case fault.Kind == receiveOnly:
-		return false
-	case fault.Cause == Damaged || fault.isDamagedChange() || fault.isReplacedDirectory():
-		return true
-	case f.foretold.isKnown():
-		return false
-	}
-	return fault.mayBeMissing() || fault.Cause == Missing && !f.isGoneElsewhere(fault) || fault.Cause == OtherBytes || fault.Cause == Back
-}
-
-// mayBeMissing says whether the disk isn't as recorded in a way of which no details were kept: the name may be missing there, or have other bytes.
-func (f *Fault) mayBeMissing() bool {
-	return f.Cause == Differs && slices.Contains(f.Reasons, "StoreDiffers")
-}
-
-// toStart gives the devices on which Syncthing is to run or to scan for this name, and those from which others take it.
-func (f *File) toStart() []string {
-	devices := []string{}
+// withoutSteps gives those of these devices for which the entry itself tells that, and not the steps.
+func (f *File) withoutSteps() []string {
+	devices, hasSteps := []string{}, f.foretold.plan != nil
 	for place := range f.Faults {
 		fault := &f.Faults[place]
-		devices = addOnce(devices, fault.Device)
-		if fault.isToStart() {
-			for _, device := range f.Have {
-				devices = addOnce(devices, device)
-			}
+		if fault.Cause == Damaged || !hasSteps && (!f.foretold.isKnown() || f.foretold.is(outlook.Lost) || f.looksDamaged()) {
+			devices = addOnce(devices, fault.Device)
+		}
+	}
+	for _, mode := range f.Permissions {
+		if len(f.Faults) == 0 && mode.Disk != "" && mode.Disk != mode.Index {
+			devices = addOnce(devices, mode.Device)
 		}
 	}
 	return devices
 }
 
-// isToStart says whether for a fault devices are told to connect: the one at fault, and those that have what is due.
-func (f *Fault) isToStart() bool {
-	switch f.Cause {
-	case Behind, Conflicting, OnlySeen, NewerKnown, OtherBlocks:
-		return true
+// The dangers of names, the greatest one first.
+const (
+	losesBytes = iota
+	isNotKnown
+	isSafe
+)
+
+// danger says what may come of the name's bytes, as far as that is known.
+func (f *File) danger() int {
+	switch {
+	case f.foretold.is(outlook.Lost) || f.looksDamaged() || f.hasCause(Damaged):
+		return losesBytes
+	case len(f.Faults) > 0 && !f.foretold.isKnown():
+		return isNotKnown
 	}
-	return false
+	return isSafe
 }

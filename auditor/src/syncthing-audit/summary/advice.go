@@ -5,6 +5,7 @@ import (
 	"strings"
 
 	"golang.org/x/exp/slices"
+	"syncthing-audit/damage"
 	"syncthing-audit/outlook"
 )
 
@@ -26,15 +27,17 @@ func (l labels) rising(ids []string) []string {
 	return sorted
 }
 
-// all gives several names, rising.
-func (l labels) all(ids []string) string {
+// each gives the name of each.
+func (l labels) each(ids []string) []string {
 	names := []string{}
 	for _, id := range ids {
 		names = append(names, l.of(id))
 	}
-	sort.Strings(names)
-	return strings.Join(names, ", ")
+	return names
 }
+
+// all gives several names, rising.
+func (l labels) all(ids []string) string { return strings.Join(l.each(l.rising(ids)), ", ") }
 
 // addOnce adds a text that isn't there yet.
 func addOnce(all []string, text string) []string {
@@ -44,189 +47,83 @@ func addOnce(all []string, text string) []string {
 	return append(all, text)
 }
 
-const (
-	receiveOnly = "receive-only"
-	sendOnly    = "send-only"
-)
+const receiveOnly = "receive-only"
 
-// adviceOf says what to do about a name, each thing once: first what saves bytes, then the steps for it or, where it isn't known what becomes of it, what
-// is to be saved; then what each fault asks for beside that, and at last what starts Syncthing. It foretells nothing: package outlook does.
+// adviceOf says what to do about a name, each thing once: what to look for elsewhere; the steps that were found for it or, without any, what is to be saved;
+// and what its faults ask for beside that. It foretells nothing: package outlook does.
 func adviceOf(file *File, named labels) []string {
-	advice := append(file.waitsAdvice(named), file.bestAdvice(named)...)
-	advice = append(advice, file.mounted(named)...)
-	if from := file.goesFrom(); len(from) > 0 {
-		advice = append(advice, "copy elsewhere before Syncthing starts on any of these devices what is to stay of what stands on "+named.all(from)+": "+file.say("it goes", "they go")+" there")
-	}
-	if !file.foretold.isKnown() {
-		advice = append(advice, file.toSave(named)...)
-	} else if told := file.stepsFor(named); told != "" {
-		advice = append(advice, told)
-	}
-	if file.isModeFirst() {
-		advice = append(advice, permissionsAdvice(file, named))
-	}
-	for _, isOfDisk := range []bool{true, false} {
-		for place := range file.Faults {
-			if fault := &file.Faults[place]; fault.isOfDisk() == isOfDisk {
-				if told := adviceOfFault(fault, file, named); told != "" {
-					advice = addOnce(advice, told)
-				}
-			}
+	advice := append(file.withoutCopy(named), file.beforeStart(named)...)
+	for place := range file.Faults {
+		if told := file.adviceOfFault(&file.Faults[place], named); told != "" {
+			advice = addOnce(advice, told)
 		}
 	}
-	if len(file.Permissions) > 0 && !file.isModeFirst() && !file.foretold.hasGoal() {
-		advice = append(advice, permissionsAdvice(file, named))
+	if len(file.Faults) == 0 && len(file.Permissions) > 0 {
+		advice = append(advice, file.oneMode(named))
 	}
-	if told := file.toRun(len(advice) == 0); told != "" {
-		advice = append(advice, told)
+	if len(advice) == 0 && file.foretold.isKnown() {
+		advice = append(advice, file.nothing())
 	}
 	return advice
 }
 
-// stepsFor says what is to be done so that the name comes to the end that is wanted. It says nothing where Syncthing alone puts it right.
-func (f *File) stepsFor(named labels) string {
+// beforeStart says what comes before Syncthing starts: the steps for the name or, without any, what is to be saved or decided.
+func (f *File) beforeStart(named labels) []string {
 	it := f.say("it", "them")
 	switch plan := f.foretold.plan; {
-	case f.foretold.hasGoal():
-		return "the steps for " + it + " above, behind 'to do in': " + plan.Leads(named.all)
+	case plan != nil && plan.Goal != nil:
+		return []string{"the steps for " + it + " above, behind 'to do in'"}
 	case plan != nil:
-		return "the steps for " + it + " above, behind 'to do in', which save what is to stay"
-	case f.isRightByItself():
-		return ""
-	case f.isBadWithoutCopy():
-		return ""
-	case f.foretold.is(outlook.Deleted) || f.foretold.is(outlook.ByItself):
-		return f.ifItMayGo()
-	case f.foretold.is(outlook.Changed) && f.looksDamaged():
-		return ""
+		return []string{"the steps for " + it + " above, behind 'to do in', which save what is to stay"}
+	case !f.foretold.isKnown():
+		return f.toSave(named)
+	case f.foretold.is(outlook.Lost) || f.looksDamaged():
+		return []string{"before Syncthing starts or scans on any of these devices, copy elsewhere what is to stay"}
+	case f.foretold.is(outlook.Deleted):
+		return []string{"nothing, if " + f.say("it", "they") + " may go. If not, copy " + it + " elsewhere before Syncthing starts on any of these devices"}
 	case f.foretold.is(outlook.Changed):
-		return "nothing, if the " + f.say("change is", "changes are") + " wanted"
+		return []string{"nothing, if the " + f.say("change is", "changes are") + " wanted"}
+	case f.foretold.is(outlook.Stays) && !f.isWithoutCopy():
+		return []string{f.toLeave()}
+	}
+	return nil
+}
+
+// toLeave says what to do about a name that stays otherwise on some device.
+func (f *File) toLeave() string {
+	it := f.say("it", "them")
+	switch {
 	case f.hasChoice() && f.foretold.hasSteps:
 		return "leave " + it + " so, or choose something for the whole folder, as another audit says once the steps above are taken"
 	case f.hasChoice():
 		return "choose for the whole folder what stands above, behind 'to choose in', or leave " + it + " so"
-	case f.foretold.is(outlook.Stays):
-		return "copy elsewhere what is to stay. Then, while Syncthing is stopped on all of these devices, put what is wanted on each of them"
 	}
-	return "before Syncthing starts or scans on any of these devices, copy elsewhere what is to stay"
-}
-
-// ifItMayGo says what to do about a name that goes. Where it stands nowhere there is nothing to copy.
-func (f *File) ifItMayGo() string {
-	it := f.say("it", "them")
-	told := "nothing, if " + f.say("it", "they") + " may go"
-	if len(f.foretold.fate.Now) == 0 {
-		return told
-	}
-	return told + ". If not, copy " + it + " elsewhere before Syncthing starts on any of these devices"
-}
-
-// goesFrom gives the devices from which the name goes though it stays on others, or may stay: nothing above the entries says that.
-func (f *File) goesFrom() []string {
-	if !f.foretold.isKnown() || f.foretold.plan != nil || !f.foretold.is(outlook.Stays) && !f.foretold.is(outlook.Depends) {
-		return nil
-	}
-	return f.foretold.fate.GoesFrom()
-}
-
-// isRightByItself says whether nothing has to be done for the name but to let Syncthing run: nothing of it is lost, and all devices come to have one thing.
-func (f *File) isRightByItself() bool {
-	return f.foretold.isKnown() && f.foretold.plan == nil && !f.isBadWithoutCopy() && (f.foretold.is(outlook.Depends) || f.foretold.is(outlook.ByItself) && !f.isToGo())
-}
-
-// isBadWithoutCopy says whether no scan sees that other bytes stand on a disk than those that are due, and no audited device has these: nothing that Syncthing
-// does puts that right, and an old version or a backup may.
-func (f *File) isBadWithoutCopy() bool {
-	return len(f.Have) == 0 && slices.IndexFunc(f.Faults, func(fault Fault) bool { return fault.Cause == OtherBytes && f.isOfDue(&fault) }) >= 0
-}
-
-// toRun says to let Syncthing run where that puts the name right, behind all that comes before a start. Where the entry tells nothing else it says that, too.
-func (f *File) toRun(isAlone bool) string {
-	if !f.isRightByItself() || f.looksDamaged() || f.areAllBehind() {
-		return ""
-	}
-	told := "let Syncthing run on all of these devices until it is idle"
-	switch {
-	case f.foretold.is(outlook.Depends):
-		return "nothing is lost, whichever of these comes: " + told
-	case isAlone:
-		return "nothing: " + told
-	}
-	return told
-}
-
-// areAllBehind says whether each fault tells by itself between which devices Syncthing is to run.
-func (f *File) areAllBehind() bool {
-	return slices.IndexFunc(f.Faults, func(fault Fault) bool { return !f.isToTake(&fault) }) < 0
-}
-
-// isToTake says whether a device takes what is due once it runs together with one that has it.
-func (f *File) isToTake(fault *Fault) bool {
-	return fault.Cause == Behind && fault.Kind != sendOnly && !fault.isTied && !fault.isUntold &&
-		(!f.foretold.isKnown() || f.foretold.is(outlook.ByItself) || f.foretold.is(outlook.Deleted))
-}
-
-// comesBack says whether by itself something comes to stand again where the name is missing on a device.
-func (f *File) comesBack(fault *Fault) bool {
-	if !f.foretold.isKnown() || len(f.foretold.fate.Ends) == 0 {
-		return false
-	}
-	for _, end := range f.foretold.fate.Ends {
-		is := false
-		for _, thing := range end {
-			is = is || !thing.Copy && slices.Contains(thing.Devices, fault.Device)
-		}
-		if !is {
-			return false
-		}
-	}
-	return true
-}
-
-// isToGo says whether the name is missing somewhere, and doesn't come back there.
-func (f *File) isToGo() bool {
-	return slices.IndexFunc(f.Faults, func(fault Fault) bool {
-		return fault.Cause == Missing && !f.comesBack(&fault) && !f.isGoneElsewhere(&fault)
-	}) >= 0
-}
-
-// looksDamaged says whether on some device a scan would take what looks like damage for a change.
-func (f *File) looksDamaged() bool {
-	return slices.IndexFunc(f.Faults, func(fault Fault) bool { return fault.isDamagedChange() || fault.isReplacedDirectory() }) >= 0
-}
-
-// mounted says to see that disks are mounted on which the name is missing, where that takes the name from others.
-func (f *File) mounted(named labels) []string {
-	on := []string{}
-	for place := range f.Faults {
-		if fault := &f.Faults[place]; fault.Cause == Missing && !f.comesBack(fault) && !f.isGoneElsewhere(fault) {
-			on = addOnce(on, fault.Device)
-		}
-	}
-	if len(on) == 0 {
-		return nil
-	}
-	return []string{"first see that the folder's disk is mounted on " + named.all(on) + ": a scan there takes " + f.say("it", "them") + " for deleted"}
+	return "copy elsewhere what is to stay. Then, while Syncthing is stopped on all of these devices, put what is wanted on each of them"
 }
 
 // hasChoice says whether on a device that keeps the name otherwise than others something may be chosen for the whole folder.
 func (f *File) hasChoice() bool {
-	for _, kept := range f.foretold.fate.Kept {
-		if f.foretold.choices[kept.Device] {
-			return true
-		}
-	}
-	return false
+	return slices.IndexFunc(f.foretold.fate.Kept, func(kept outlook.Kept) bool { return f.foretold.choices[kept.Device] }) >= 0
 }
 
-// toSave says what is to be saved of a name of which it isn't known what becomes of it: a start of Syncthing may take away whatever stands there.
+// nothing says that a name comes right by itself.
+func (f *File) nothing() string {
+	if f.foretold.hasSteps {
+		return "nothing but the start with which the steps above end"
+	}
+	return "nothing: let Syncthing run on all of these devices until it is idle"
+}
+
+// toSave says what is to be saved of a name of which it isn't known what becomes of it.
 func (f *File) toSave(named labels) []string {
 	on := []string{}
 	if len(f.Have) > 0 && !f.isDeletionDue() {
 		on = append(on, named.rising(f.Have)[0])
 	}
 	for place := range f.Faults {
-		if fault := &f.Faults[place]; fault.Found != nil || fault.Cause == Differs || fault.Cause == Damaged || fault.isHolding() && !f.hasAt(fault.Device, Missing) {
+		fault := &f.Faults[place]
+		isHolding := !fault.isOfDisk() && fault.Recorded != nil && !fault.Recorded.Deleted && !f.hasAt(fault.Device, Missing)
+		if fault.Found != nil || fault.Cause == Differs || fault.Cause == Damaged || isHolding {
 			on = addOnce(on, fault.Device)
 		}
 	}
@@ -236,14 +133,50 @@ func (f *File) toSave(named labels) []string {
 	return []string{"before Syncthing starts or scans on any of these devices, copy elsewhere what is to stay of what stands on " + named.all(on)}
 }
 
-// isGoneElsewhere says whether what is missing on a device was deleted on others, too: nothing is lost there.
-func (f *File) isGoneElsewhere(fault *Fault) bool {
-	lack := f.lackOn(fault.Device)
-	return lack != nil && lack.Cause == Behind && lack.Deletion
+// isWithoutCopy says whether a disk was harmed that had what is due, and no audited device has that.
+func (f *File) isWithoutCopy() bool {
+	return len(f.Have) == 0 && slices.IndexFunc(f.Faults, func(fault Fault) bool { return fault.isHarm() && f.isOfDue(&fault) }) >= 0
 }
 
-// isHolding says whether a device has what it recorded, as far as that is known: its fault is one of its record.
-func (f *Fault) isHolding() bool { return !f.isOfDisk() && f.Recorded != nil && !f.Recorded.Deleted }
+// isHarm says whether what stands on a disk, or what doesn't stand there, isn't somebody's change as far as it shows.
+func (f *Fault) isHarm() bool {
+	return f.Cause == Missing || f.Cause == OtherBytes || f.Cause == Changed && f.Damage != damage.None
+}
+
+// isOfDue says whether what a device recorded is what is due.
+func (f *File) isOfDue(fault *Fault) bool {
+	return fault.Due != nil && !fault.Due.Deleted && !f.hasAt(fault.Device, Behind, Conflicting, LocalChange)
+}
+
+// withoutCopy says to look elsewhere for what no audited device has, and on which disks some of its blocks are.
+func (f *File) withoutCopy(named labels) []string {
+	if !f.isWithoutCopy() {
+		return nil
+	}
+	on, most := []string{}, (*Fault)(nil)
+	for place := range f.Faults {
+		fault := &f.Faults[place]
+		if fault.isHarm() && f.isOfDue(fault) && fault.Blocks != nil && fault.Blocks.Count < fault.Blocks.Of {
+			on = addOnce(on, fault.Device)
+			if most == nil || fault.Blocks.Count < most.Blocks.Count {
+				most = fault
+			}
+		}
+	}
+	told := "look among old versions and backups: no audited device has what is recorded"
+	if len(on) > 0 {
+		told += ". Some of its blocks are on " + named.all(on)
+	}
+	if len(on) > 1 {
+		told += ", the most on " + named.of(most.Device)
+	}
+	return []string{told}
+}
+
+// looksDamaged says whether on some device what stands in place of what is recorded looks like damage.
+func (f *File) looksDamaged() bool {
+	return slices.IndexFunc(f.Faults, func(fault Fault) bool { return fault.Cause == Changed && fault.Damage != damage.None }) >= 0
+}
 
 // isOfDisk says whether what stands on the disk isn't as recorded.
 func (f *Fault) isOfDisk() bool {
@@ -254,97 +187,49 @@ func (f *Fault) isOfDisk() bool {
 	return false
 }
 
-// adviceOfFault says what a fault asks for beside the steps.
-func adviceOfFault(fault *Fault, file *File, named labels) string {
+// adviceOfFault says what a fault asks for by itself.
+func (f *File) adviceOfFault(fault *Fault, named labels) string {
 	at := named.of(fault.Device)
 	switch {
 	case fault.Cause == Damaged:
-		return damageAdvice(fault, file, at, named)
+		return "see the system's log on " + at + " (journalctl -k, smartctl -a): its disk fails there, and may soon fail elsewhere. Save what that disk has and no other " +
+			"device has, replace it, and bring back what is lost. Don't delete what is damaged, and don't start Syncthing there, before that is done"
 	case fault.Cause == Differs:
-		return differsAdvice(fault, file, at)
-	case (fault.isDamagedChange() || fault.isReplacedDirectory()) && !file.foretold.hasGoal():
-		return seeDamage(fault, file, named)
-	case fault.Cause == NotScanned && file.isOdd:
-		return "rename " + file.say("it", "them") + " on " + at + ": " + file.say("its name isn't", "their names aren't") + " in Unicode's form NFC, in which " +
-			"Syncthing has names. A scan does that by itself only where the folder's 'Auto Normalize' is on and nothing stands at the other name; else it passes over " + file.say("it", "them")
-	case fault.isTied:
-		return tiedAdvice(fault, file, at, named)
+		return f.detailsBy(f.say("audit it by itself: --names with this name tells more", "audit some of them by themselves: --names with how they begin tells more"))
+	case fault.Cause == NotScanned && f.isOdd:
+		return "rename " + f.say("it", "them") + " on " + at + ": " + f.say("its name isn't", "their names aren't") + " in Unicode's form NFC, in which Syncthing has names"
 	case fault.isUntold:
-		return untoldAdvice(file, at, named)
-	case fault.isOfDisk():
-		return diskAdvice(fault, file, named)
+		return at + " has heard of later changes of those who have " + f.say("it, and not of this one", "them, and not of these") + ": stop Syncthing on " + at + ", and " + resetDeltas
+	case len(fault.sources) > 0 && (fault.isHarm() || fault.Cause == Changed) && !fault.Damage.MayBeOfRecord() && !f.foretold.hasGoal() && (!f.foretold.isKnown() || f.foretold.is(outlook.Changed) || fault.Damage != damage.None):
+		return f.putBack(fault, named)
 	}
-	return recordAdvice(fault, file, at, named)
+	return ""
 }
 
-// diskAdvice says what a scan takes a disk for, where that isn't foretold, and how it gets back what was recorded there. Where there are steps for the
-// name, these do it.
-func diskAdvice(fault *Fault, file *File, named labels) string {
-	at, it := named.of(fault.Device), file.say("it", "them")
-	takes := map[Cause]string{Changed: "changed", Back: "new", NotScanned: "new", OtherTime: "changed"}[fault.Cause]
-	told := ""
+// resetDeltas has a device and the others tell each other all changes anew.
+const resetDeltas = "start it there once by 'syncthing serve --reset-deltas', as the same user and with the same --home, --config and --data as ever"
+
+// asItIs is how something is copied whole, with its attributes.
+const asItIs = " (cp -a, or rsync -aIX, as the user who runs Syncthing there)"
+
+// putBack says how a device's disk gets what the device recorded from another disk. Into a file that stands there the bytes and the time alone are written: so
+// it keeps its owner, mode and attributes, also where root copies it.
+func (f *File) putBack(fault *Fault, named labels) string {
+	told := fault.whetherEdit(f, named) + "to have again what " + named.of(fault.Device) + " recorded, "
+	isSaved := !f.foretold.isKnown() || f.foretold.plan == nil && f.looksDamaged() // as the entry says before
+	if fault.Found != nil && !isSaved {
+		told += "copy elsewhere what stands there, if it may be right, and "
+	}
+	told += "copy " + f.say("it", "them") + " from " + named.of(named.rising(fault.sources)[0]) + " to " + named.of(fault.Device)
 	switch {
-	case file.foretold.hasGoal() || file.isRightByItself() || fault.Cause == Missing && (file.comesBack(fault) || file.isGoneElsewhere(fault)):
-		return ""
-	case file.isBadWithoutCopy() && fault.Cause == OtherBytes:
-	case fault.Cause != Missing && (file.foretold.is(outlook.Deleted) || file.foretold.is(outlook.ByItself)) || file.isToGoOn(fault.Device): // a recorded change takes its place
-		return ""
-	case file.foretold.isKnown() && takes != "" && fault.Cause != Changed:
-		return ""
-	case !file.foretold.isKnown() && takes != "":
-		told = "a scan on " + at + " takes " + it + " for " + takes + ". "
+	case fault.isFileForFile():
+		told += f.say(" with its time alone, into the file that stands there", " with their times alone, into the files that stand there") + " (cp --preserve=timestamps, or rsync --inplace --times --ignore-times)"
+	case fault.Found != nil:
+		told += f.say(" as it is", " as they are") + asItIs + ", once what stands there is moved away,"
+	default:
+		told += f.say(" as it is", " as they are") + asItIs + ", with the directories above that aren't there,"
 	}
-	if fault.Cause == NotScanned || fault.Cause == OtherTime {
-		return strings.TrimSuffix(told, ". ")
-	}
-	told += fault.whetherEdit(file, at)
-	have := "to have again what "
-	if strings.HasSuffix(told, ". ") {
-		have = "To have again what "
-	}
-	return told + have + at + " recorded, " + file.putsBack(fault, named)
-}
-
-// isToGoOn says whether it is known that a device takes a recorded deletion of the name.
-func (f *File) isToGoOn(device string) bool {
-	lack := f.lackOn(device)
-	return f.foretold.isKnown() && lack != nil && lack.Deletion
-}
-
-// recordAdvice says what a record asks for that isn't as others', where that isn't foretold.
-func recordAdvice(fault *Fault, file *File, at string, named labels) string {
-	switch {
-	case fault.Cause == OtherBlocks:
-		return "nothing is lost: the bytes are the same"
-	case file.isToTake(fault):
-		return behindAdvice(fault, file, at, named)
-	case file.foretold.isKnown():
-		return ""
-	case fault.Cause == LocalChange || fault.Cause == LocalAddition:
-		return "'Revert Local Changes' on " + at + " deletes what was added there, and writes over what was changed, mostly without a copy: copy elsewhere first what is to stay"
-	case fault.Kind == sendOnly:
-		return at + " only sends, and takes nothing by itself. 'Override Changes' there undoes what others changed; made 'Send & Receive' there, it takes that in place of what stands there"
-	}
-	return "once what is to stay is saved, let Syncthing run on all of these devices, connected, until it is idle. Then audit again"
-}
-
-// behindAdvice says what a device needs to take what others have, and what to see if it doesn't.
-func behindAdvice(fault *Fault, file *File, at string, named labels) string {
-	told := "let Syncthing run on " + at + " and on " + file.holders(named) + ", and let them finish. If it stays so, see whether a device " +
-		"or the folder is paused, whether they are connected, whether a disk is full, and whether Syncthing's page lists 'Failed Items'"
-	if fault.Deletion {
-		told += "; or 'Ignore Delete' is set for the folder on " + at
-	}
-	return told
-}
-
-// differsAdvice says how details are told that weren't kept.
-func differsAdvice(fault *Fault, file *File, at string) string {
-	before := ""
-	if fault.mayBeMissing() {
-		before = "before Syncthing starts or scans on " + at + " (" + file.say("it", "they") + " may be missing there, which a scan takes for deleted), "
-	}
-	return before + file.detailsBy(file.say("audit it by itself: --names with this name tells more", "audit some of them by themselves: --names with how they begin tells more"))
+	return told + " while Syncthing is stopped there"
 }
 
 // detailsBy says how details are told that weren't kept: by an audit of some names alone, for which parts of all names don't do. 'sum' has no
@@ -356,33 +241,11 @@ func (f *File) detailsBy(alone string) string {
 	return alone + "; parts are made anew with it"
 }
 
-// holders says on which devices that can be had which is due. It names no device on which something is to be made safe first, if there is another one.
-func (f *File) holders(named labels) string {
-	safe := f.safeHolders()
-	switch {
-	case len(f.Have) == 0:
-		return f.say("a device that has it", "a device that has them")
-	case len(safe) == 0:
-		return oneOf(f.Have, named) + " (once that is done there which comes first)"
+// oneMode says on which devices to change permissions, of a name of which these alone differ.
+func (f *File) oneMode(named labels) string {
+	devices := []string{}
+	for _, mode := range f.Permissions {
+		devices = append(devices, mode.Device)
 	}
-	return oneOf(safe, named)
-}
-
-// safeHolders gives the devices that have what is due, and on which nothing is to be made safe first.
-func (f *File) safeHolders() []string {
-	holders := []string{}
-	for _, device := range f.Have {
-		if !f.others.isToMakeSafe(device) {
-			holders = append(holders, device)
-		}
-	}
-	return holders
-}
-
-// oneOf names devices of which one does.
-func oneOf(devices []string, named labels) string {
-	if len(devices) == 1 {
-		return named.of(devices[0])
-	}
-	return "one of " + named.all(devices)
+	return "'chmod' " + f.say("it", "them") + " to the mode that is right on " + named.all(devices) + ", before Syncthing scans there; or choose 'Ignore Permissions' for the folder"
 }

@@ -30,10 +30,26 @@ func sameOtherBytes(faults []Fault) [][]string {
 
 // haveSame says whether one file's bytes are another's: of one size, and in blocks of one size of one hash.
 func haveSame(contents, others []part.Content) bool {
-	for _, content := range contents {
-		if slices.Contains(others, content) {
-			return true
+	return slices.IndexFunc(contents, func(content part.Content) bool { return slices.Contains(others, content) }) >= 0
+}
+
+// sourcesOf gives the other devices on whose disks the very bytes stand that a member recorded, at their time: whatever these devices recorded.
+func (r *reader) sourcesOf(member int) []string {
+	sources := []string{}
+	own := r.at(member).Own
+	if own == nil || own.Content == nil {
+		return sources
+	}
+	for other, at := range r.row.At {
+		if other != member && at != nil && isAsRecorded(at.Disk, own) {
+			sources = append(sources, r.folder.Members[other].Head.Device)
 		}
 	}
-	return false
+	return sources
+}
+
+// isAsRecorded says whether the file that a record says stands on a disk, with its time.
+func isAsRecorded(disk *part.Node, record *part.Record) bool {
+	return disk != nil && disk.Type == record.Type && disk.ModifiedS == record.ModifiedS && disk.ModifiedNs == record.ModifiedNs &&
+		slices.Contains(disk.Contents, *record.Content)
 }

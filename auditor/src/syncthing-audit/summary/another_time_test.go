@@ -21,7 +21,7 @@ func TestWhoHasAFileOfAnotherTime(t *testing.T) {
 		told, from string
 	}{
 		{3, []*part.Name{touched(), with(file(1, 1), rotten), file(1, 1)}, []string{"StoreUnclean 1", "StoreDiffers 2"}, " as recorded on: phone if nothing is done", "phone"},
-		{2, []*part.Name{touched(), with(file(1, 1), rotten)}, []string{"StoreUnclean 1", "StoreDiffers 2"}, " the recorded bytes on: laptop if nothing is done", "laptop"},
+		{2, []*part.Name{touched(), with(file(1, 1), rotten)}, []string{"StoreUnclean 1", "StoreDiffers 2"}, " the recorded bytes on: laptop if nothing is done", ""},
 		{2, []*part.Name{touched(), file(1, 1)}, []string{"StoreUnclean 1"}, " as recorded on: server if nothing is done", ""},
 	} {
 		text := printed(answerOf(one.devices, func(folder *finding.Folder) { fails(folder, "a", one.row, one.reasons...) }))

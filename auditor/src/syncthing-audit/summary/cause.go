@@ -4,6 +4,7 @@ import (
 	"time"
 
 	"github.com/syncthing/syncthing/lib/protocol"
+	"golang.org/x/exp/slices"
 	"syncthing-audit/damage"
 	"syncthing-audit/part"
 )
@@ -46,15 +47,11 @@ type Fault struct {
 	Why      string      `json:"why,omitempty"` // of Damaged: the system's words
 	contents []part.Content
 	// Other devices on whose disks the very bytes stand that the device recorded, at their time.
-	sources     []string
-	ends        ends
-	isSeen      bool   // by the next scan, since the mode isn't as recorded
-	isWide      bool   // the device's scans look at owners or extended attributes, too
-	isOverWire  bool   // the device was asked over the wire, where times of files aren't seen
-	isTied      bool   // of Behind: it has something else under the version of what is due, so Syncthing takes nothing
-	isUntold    bool   // of Behind: its view goes beyond what it lacks, so nobody tells it of that again
-	isSameBytes bool   // whether a local change of a file is of its time or mode alone
-	lacks       parent // a directory above the name that isn't on the disk
+	sources    []string
+	ends       ends
+	isOverWire bool // the device was asked over the wire, where times of files aren't seen
+	isTied     bool // of Behind: it has something else under the version of what is due
+	isUntold   bool // of Behind: its view goes beyond what it lacks, and doesn't have that
 }
 
 // State is what a record or a disk says of a name.
@@ -173,13 +170,38 @@ func blocksOf(at *part.Name) *Blocks {
 
 // isCutOtherwise says whether a device has the winner's bytes on its disk and in its record, cut into blocks otherwise.
 func isCutOtherwise(at *part.Name, winner *part.Record) bool {
-	if at == nil || at.Own == nil || at.Own.Content == nil || at.Disk == nil || at.HasOtherBytes() || winner.Content == nil {
-		return false
+	return at != nil && at.Own != nil && at.Own.Content != nil && at.Disk != nil && !at.HasOtherBytes() && winner.Content != nil && slices.Contains(at.Disk.Contents, *winner.Content)
+}
+
+// hasAt says whether a device has a fault of one of these causes; of any cause without them.
+func (f *File) hasAt(device string, causes ...Cause) bool {
+	return slices.IndexFunc(f.Faults, func(fault Fault) bool {
+		return fault.Device == device && (len(causes) == 0 || slices.Contains(causes, fault.Cause))
+	}) >= 0
+}
+
+// hasCause says whether some device has a fault of this cause.
+func (f *File) hasCause(cause Cause) bool {
+	return slices.IndexFunc(f.Faults, func(fault Fault) bool { return fault.Cause == cause }) >= 0
+}
+
+// isDeletionDue says whether what all are to have of the name is its deletion.
+func (f *File) isDeletionDue() bool {
+	return slices.IndexFunc(f.Faults, func(fault Fault) bool { return fault.Due != nil && fault.Due.Deleted }) >= 0
+}
+
+// isWithout says whether a device that is behind has no record of the name.
+func (f *Fault) isWithout() bool {
+	return f.Cause == Behind && f.Recorded == nil && slices.Contains(f.Reasons, "RecordMissing")
+}
+
+// isFileForFile says whether a file stands where a file is recorded.
+func (f *Fault) isFileForFile() bool { return f.types() == "file file" }
+
+// types gives what is recorded and what stands on the disk, where both are known.
+func (f *Fault) types() string {
+	if f.Recorded == nil || f.Found == nil {
+		return ""
 	}
-	for _, content := range at.Disk.Contents {
-		if content == *winner.Content {
-			return true
-		}
-	}
-	return false
+	return f.Recorded.Type + " " + f.Found.Type
 }

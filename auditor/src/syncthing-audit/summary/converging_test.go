@@ -13,8 +13,8 @@ import (
 // What is proved of a folder stands below what is foretold of it, and JSON has it. Nothing is said to be proved where something hinders it,
 // or where the model foretells a loss.
 func TestConverging(t *testing.T) {
-	lost := &outlook.Outlook{Names: 1, Count: map[outlook.Fate]int64{outlook.Lost: 1}}
-	right := &outlook.Outlook{Names: 1, Count: map[outlook.Fate]int64{outlook.ByItself: 1}}
+	lost := &outlook.Outlook{Names: 1, Lost: 1}
+	right := &outlook.Outlook{Names: 1, Right: 1}
 	pairs := int64(2147)
 	hindrance := &finding.Failure{Reason: "Concurrent", Name: "a", Device: 2}
 	for _, one := range []struct {

@@ -8,16 +8,14 @@ func (f *File) addDamage(folder *finding.Folder, damaged *finding.Damaged) {
 	for _, at := range damaged.At {
 		member := folder.Members[at.Member]
 		if at.IsRot {
-			f.Faults = append(f.Faults, Fault{Device: member.Head.Device, Cause: Differs, Kind: kindOf(member), Why: at.Why, Reasons: []string{"StoreDiffers"},
-				isWide: isWide(member)})
+			f.Faults = append(f.Faults, Fault{Device: member.Head.Device, Cause: Differs, Kind: kindOf(member), Why: at.Why, Reasons: []string{"StoreDiffers"}})
 			continue
 		}
 		if fault := f.damageOf(member.Head.Device); fault != nil {
 			fault.Cause, fault.Why = Damaged, at.Why
 			continue
 		}
-		f.Faults = append(f.Faults, Fault{Device: member.Head.Device, Cause: Damaged, Kind: kindOf(member), Why: at.Why, Reasons: []string{"StoreDiffers"},
-			isWide: isWide(member)})
+		f.Faults = append(f.Faults, Fault{Device: member.Head.Device, Cause: Damaged, Kind: kindOf(member), Why: at.Why, Reasons: []string{"StoreDiffers"}})
 	}
 }
 
@@ -31,16 +29,4 @@ func (f *File) damageOf(device string) *Fault {
 		}
 	}
 	return nil
-}
-
-// damageAdvice says what to do where a disk fails.
-func damageAdvice(fault *Fault, file *File, at string, named labels) string {
-	told := "see the system's log on " + at + " (journalctl -k, smartctl -a): its disk fails there, and may soon fail elsewhere. Save what " +
-		"that disk has and no other device has, and replace it. "
-	if len(file.Have) > 0 {
-		told += "Then " + copying(fault, file, named, afterLoss)
-	} else {
-		told += "Then bring back what is lost, from another device, old versions or backups"
-	}
-	return told + ". Don't delete what is damaged, and don't start Syncthing there, before that is done: a scan takes what is missing for deleted"
 }

@@ -16,20 +16,14 @@ func lost(one *part.Name) {
 }
 
 const (
-	unknownOfServer = `  if nothing is done: it isn't known what happens: a program of 0.14.0 or before made the export.
+	unknownOfServer = `  if nothing is done: it isn't known what happens: a program of 0.16.0 or before made the export.
   to do: before Syncthing starts or scans on any of these devices, copy elsewhere what is to stay of
          what stands on `
 	damageOfServer = `  to do: see the system's log on server (journalctl -k, smartctl -a): its disk fails there, and may
-         soon fail elsewhere. Save what that disk has and no other device has, and replace it.`
-	copyOfServer = ` Then
-         copy what is lost from laptop to server as it is (cp -a, or rsync -aI, as the user who runs
-         Syncthing there) while Syncthing is stopped there. Don't delete what is damaged, and don't
-         start Syncthing there, before that is done: a scan takes what is missing for deleted.
+         soon fail elsewhere. Save what that disk has and no other device has, replace it, and bring
+         back what is lost. Don't delete what is damaged, and don't start Syncthing there, before
+         that is done.
 `
-	bringBack = ` Then
-         bring back what is lost, from another device, old versions or backups. Don't delete what is
-         damaged, and don't start Syncthing there, before that is done: a scan takes what is missing
-         for deleted`
 )
 
 // damaged has the second device's disk fail to give a name.
@@ -50,13 +44,13 @@ var textsOfDamage = []struct {
 lost  (in docs, 300.0 kB)
   server: the disk fails to give what it has; it may be lost there (read lost: input/output error)
   as recorded on: laptop
-` + unknownOfServer + "laptop, server.\n" + damageOfServer + copyOfServer},
+` + unknownOfServer + "laptop, server.\n" + damageOfServer},
 	{"a file of other bytes on the other device", func(folder *finding.Folder) {
 		fails(folder, "lost", []*part.Name{with(file(1, 1), rotten), with(file(1, 1), lost)}, "StoreDiffers 1", "StoreDiffers 2")
 		damaged(folder, "lost", true)
 	}, `
 lost  (in docs, 300.0 kB)
-  laptop: other bytes on the disk; size and time are as recorded, so no scan sees it (modified 2020-09-13 12:26:40 UTC)
+  laptop: other bytes on the disk; size and time are as recorded (modified 2020-09-13 12:26:40 UTC)
     block 2 differs (1 of 3 blocks of 128 KiB; the first is block 0)
     the first of them: SHA-256 abcd0000.. recorded, 12000000.. on the disk
   server: the disk fails to give what it has; it may be lost there (read lost: input/output error)
@@ -69,18 +63,18 @@ lost  (in docs, 300.0 kB)
 lost  (in docs)
   server: the disk fails to give what it has; it may be lost there (read lost: input/output error)
   as recorded on: laptop
-` + unknownOfServer + "laptop, server.\n" + damageOfServer + copyOfServer},
+` + unknownOfServer + "laptop, server.\n" + damageOfServer},
 	{"a directory", func(folder *finding.Folder) { damaged(folder, "d/", false) }, `
 d/  (in docs)
   server: the disk fails to give what it has; it may be lost there (read d/: input/output error)
-` + unknownOfServer + "server.\n" + damageOfServer + bringBack + ".\n"},
+` + unknownOfServer + "server.\n" + damageOfServer},
 	{"a directory on a device that only receives", func(folder *finding.Folder) {
 		folder.Members[1].About.Kind = receiveOnly
 		damaged(folder, "d/", false)
 	}, `
 d/  (in docs)
   server: the disk fails to give what it has; it may be lost there (read d/: input/output error)
-` + unknownOfServer + "server.\n" + damageOfServer + bringBack + ".\n"},
+` + unknownOfServer + "server.\n" + damageOfServer},
 }
 
 // What a disk itself fails to give is wrong on that device. Who has the file's bytes is told, and what else is wrong with it.

@@ -1,6 +1,7 @@
 package summary
 
 import (
+	"golang.org/x/exp/slices"
 	"golang.org/x/text/unicode/norm"
 	"syncthing-audit/damage"
 	"syncthing-audit/finding"
@@ -25,16 +26,12 @@ type File struct {
 	RenamedFrom     Text       `json:"renamed_from,omitempty"` // the name that goes where this one comes with the same bytes
 	RenamedTo       Text       `json:"renamed_to,omitempty"`   // and the other way round
 	hasDetails      bool
-	foretold        *foretold         // nothing where it isn't known what becomes of it
-	isOfSum         bool              // whether 'sum' tells it
-	isOfAnotherTime bool              // whether those that have what is due have it with another time
-	isOdd           bool              // whether the name isn't in Unicode's form NFC
-	isMany          bool              // whether it stands for many names, which are told as one
-	areWide         map[string]bool   // the devices whose scans look at owners or extended attributes, too
-	takers          []string          // those of them that take the file from others, with the owner and attributes that are recorded
-	runs            map[string]string // the version of Syncthing on each device, as far as that is known
-	others          *actions          // what the entries of all names tell to do
-	below           map[string]int64  // how many files below it a device lacks, by its id
+	foretold        foretold
+	isOfSum         bool   // whether 'sum' tells it
+	isOfAnotherTime bool   // whether those that have what is due have it with another time
+	isOdd           bool   // whether the name isn't in Unicode's form NFC
+	isMany          bool   // whether it stands for many names, which are told as one
+	key             string // of all of which the very same is told
 }
 
 // say gives what is said of one name, or of many where the file stands for these.
@@ -60,9 +57,7 @@ type Mode struct {
 
 // fileOf gives what is to be told of a name.
 func fileOf(folder *finding.Folder, told *finding.Told) *File {
-	file := &File{Name: Text(told.Name), Faults: []Fault{}, Have: []string{}, Follows: []Follow{}, Permissions: []Mode{}, areWide: areWide(folder),
-		takers: membersWhere(folder, isTaker), runs: runsOf(folder),
-		isOdd: !norm.NFC.IsNormalString(told.Name)}
+	file := &File{Name: Text(told.Name), Faults: []Fault{}, Have: []string{}, Follows: []Follow{}, Permissions: []Mode{}, isOdd: !norm.NFC.IsNormalString(told.Name)}
 	row, read := folder.Rows[told.Name], &reader{folder: folder, row: folder.Rows[told.Name], file: file, reasons: map[int][]string{}}
 	switch {
 	case told.Unwon != nil:
@@ -119,46 +114,6 @@ func kindOf(member join.Member) string {
 	return member.About.Kind
 }
 
-// isWide says whether scans look at owners or extended attributes, too.
-func isWide(member join.Member) bool { return member.About != nil && member.About.ScansAttributes }
-
-// areWide gives the devices of which that is so; nothing where there is none.
-func areWide(folder *finding.Folder) map[string]bool {
-	var wide map[string]bool
-	for _, member := range folder.Members {
-		if isWide(member) {
-			if wide == nil {
-				wide = map[string]bool{}
-			}
-			wide[member.Head.Device] = true
-		}
-	}
-	return wide
-}
-
-// isTaker says whether scans look at owners or attributes, and the device takes what others record.
-func isTaker(member join.Member) bool { return isWide(member) && kindOf(member) != sendOnly }
-
-// membersWhere gives the devices of which something is so; nothing where there is none.
-func membersWhere(folder *finding.Folder, is func(join.Member) bool) []string {
-	var devices []string
-	for _, member := range folder.Members {
-		if is(member) {
-			devices = append(devices, member.Head.Device)
-		}
-	}
-	return devices
-}
-
-// runsOf gives the version of Syncthing on each device.
-func runsOf(folder *finding.Folder) map[string]string {
-	versions := map[string]string{}
-	for _, member := range folder.Members {
-		versions[member.Head.Device] = member.Head.Runs
-	}
-	return versions
-}
-
 // reader reads what is wrong with a name that has a winner.
 type reader struct {
 	folder  *finding.Folder
@@ -180,7 +135,7 @@ func (r *reader) read(failures []finding.Failure) {
 	}
 	for member, by := range r.folder.Members {
 		for _, reason := range []string{"ViewAhead", "FlightAhead", "PullAhead"} {
-			if r.has(member, reason) && !r.isFaulty(by.Head.Device) {
+			if r.has(member, reason) && !r.file.hasAt(by.Head.Device) {
 				r.addAhead(member, reason)
 			}
 		}
@@ -199,41 +154,19 @@ func (r *reader) addAhead(member int, reason string) {
 	r.file.Follows = append(r.file.Follows, Follow{r.folder.Members[member].Head.Device, reason})
 }
 
-// isFaulty says whether a fault of the device is told.
-func (r *reader) isFaulty(device string) bool {
-	for _, fault := range r.file.Faults {
-		if fault.Device == device {
-			return true
-		}
-	}
-	return false
-}
-
 // member gives the place of the device with this number, or -1.
 func (r *reader) member(number uint64) int {
-	for place, member := range r.folder.Members {
-		if member.Number == number {
-			return place
-		}
-	}
-	return -1
+	return slices.IndexFunc(r.folder.Members, func(member join.Member) bool { return member.Number == number })
 }
 
 // has says whether a member has one of these reasons.
 func (r *reader) has(member int, reasons ...string) bool {
-	for _, reason := range r.reasons[member] {
-		for _, other := range reasons {
-			if reason == other {
-				return true
-			}
-		}
-	}
-	return false
+	return slices.IndexFunc(r.reasons[member], func(reason string) bool { return slices.Contains(reasons, reason) }) >= 0
 }
 
 // at gives what a member has of the name.
 func (r *reader) at(member int) *part.Name {
-	if r.row == nil || r.row.At[member] == nil {
+	if r.row == nil {
 		return nil
 	}
 	return r.row.At[member]
@@ -295,8 +228,7 @@ func (r *reader) addFaults(member int) {
 // add adds a fault with what is known of it.
 func (r *reader) add(member int, cause Cause) {
 	one := r.folder.Members[member]
-	fault := Fault{Device: one.Head.Device, Cause: cause, Kind: kindOf(one), Due: recorded(r.winner), Reasons: r.reasons[member],
-		isWide: isWide(one), isOverWire: one.Head.IsOverWireAlone()}
+	fault := Fault{Device: one.Head.Device, Cause: cause, Kind: kindOf(one), Due: recorded(r.winner), Reasons: r.reasons[member], isOverWire: one.Head.IsOverWireAlone()}
 	if at := r.at(member); at != nil {
 		fault.Recorded, fault.Found = recorded(at.Own), found(at.Disk)
 		if cause == OtherBytes || cause == Changed {
@@ -307,7 +239,6 @@ func (r *reader) add(member int, cause Cause) {
 		}
 		fault.sources = r.sourcesOf(member)
 		fault.isTied = cause == Behind && r.isTied(at)
-		fault.isSameBytes = cause == LocalChange && hasBytesOf(at.Own, r.winner)
 	}
 	fault.isUntold = cause == Behind && !fault.isTied && r.isUntold(member)
 	fault.Deletion = cause == Behind && fault.Due != nil && fault.Due.Deleted ||

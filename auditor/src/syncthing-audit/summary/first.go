@@ -21,42 +21,37 @@ const (
 	isScanned   = "scan-under-way" // what a scan found may wait in Syncthing's memory
 	isLonger    = "kept-first"     // files of which either the disk or the record is damaged
 	isDamaged   = "looks-damaged"
-	isReverted  = "reverted"  // 'Revert Local Changes' takes away more than its entry tells
+	isMissing   = "missing"   // what a device recorded isn't on its disk, and doesn't come back there by itself
 	isMadeSafe  = "made-safe" // entries tell what comes before a start
 	isNotAsked  = "not-asked" // of the other names nobody knows what a start does
 )
 
 // firstOf gives what comes before all entries.
 func (s *Summary) firstOf(named labels) []First {
-	lines := []First{}
-	lines = append(lines, s.firstScans(named)...)
+	lines := append([]First{}, s.firstScans(named)...)
 	for _, device := range s.Devices {
 		lines = append(lines, s.firstWaiting(device.ID, named)...)
 	}
-	for _, device := range s.Devices {
-		lines = append(lines, s.firstDamaged(device.ID, named)...)
-	}
-	for _, device := range s.Devices {
-		if s.actions.isReverted(device.ID) {
-			lines = append(lines, s.firstReverted(device.ID, named))
+	for _, why := range []string{isLonger, isDamaged, isMissing} {
+		for _, device := range s.Devices {
+			if wrong := s.actions.wrong[why][device.ID]; wrong != nil {
+				lines = append(lines, First{why, []string{device.ID}, wrong.names, "first, on " + named.of(device.ID) + ": " + wrong.words(why)})
+			}
 		}
 	}
 	return append(lines, s.firstStarts(named)...)
 }
 
-// firstReverted tells what 'Revert Local Changes' takes away on a device. It is of the whole folder, and keeps no copy of what was changed.
-func (s *Summary) firstReverted(device string, named labels) First {
-	told, does := []string{}, "deletes all of these"
-	added, changed := s.actions.added[device], s.actions.changed[device]
-	if added > 0 {
-		told = append(told, counted(added, "name was", "names were")+" added")
+// words say what is to be done about them.
+func (w *wrongNames) words(why string) string {
+	switch why {
+	case isLonger:
+		return counted(w.names, "file has", "files have") + " more bytes than recorded, or other ones than recorded zeros, under the recorded time. " +
+			"Keep a copy outside the folder before Syncthing starts or scans there"
+	case isDamaged:
+		return counted(w.names, "file looks", "files look") + " damaged, not edited. Do what is said of that below before Syncthing starts or scans there"
 	}
-	if changed > 0 {
-		told = append(told, counted(changed, "name was", "names were")+" changed")
-		does = "deletes what was added, and writes over what was changed, mostly without a copy"
-	}
-	return First{isReverted, []string{device}, added + changed, "first, on " + named.of(device) + ": " + strings.Join(told, ", and ") +
-		" there. 'Revert Local Changes' " + does + ", whichever entry below tells it: copy elsewhere before what is to stay"}
+	return "see that the disk of " + strings.Join(w.folders, ", ") + " is mounted before Syncthing starts or scans there: " + counted(w.names, "name is", "names are") + " missing"
 }
 
 // firstScans tells on which devices a scan or a pull was under way: no later step keeps back what a scan found already.
@@ -73,8 +68,7 @@ func (s *Summary) firstScans(named labels) []First {
 		return nil
 	}
 	return []First{{Why: isScanned, Devices: on, Text: "first, on all devices but " + named.all(on) + ": copy to a place outside the folder what is to stay. On " +
-		named.all(on) + " Syncthing wasn't seen idle, and what a scan there has found goes to all devices once it is over, whatever is done next. " +
-		"Then let it finish, and audit again before you do what stands below"}}
+		named.all(on) + " Syncthing wasn't seen idle, and nobody knows what a scan there has found. Then let it finish, and audit again before you do what stands below"}}
 }
 
 // isScanning says whether Syncthing was at work in the folder between two looks.
@@ -88,10 +82,9 @@ func (m *Member) isScanning() bool {
 func (s *Summary) firstStarts(named labels) []First {
 	unseen, first, lines := []string{}, []string{}, []First{}
 	for _, device := range s.Devices {
-		switch {
-		case s.actions.isFirst(device.ID):
+		if s.actions.safe[device.ID] && s.actions.entries > 1 {
 			first = append(first, device.ID)
-		case len(s.actions.started[device.ID]) > 0 && !device.asked.IsAll() && !s.isLive():
+		} else if s.actions.entries > 0 && !device.asked.IsAll() && !s.isLive() {
 			unseen = append(unseen, device.ID)
 		}
 	}
@@ -101,7 +94,7 @@ func (s *Summary) firstStarts(named labels) []First {
 	}
 	if len(unseen) > 0 {
 		lines = append(lines, First{Why: isNotAsked, Devices: unseen, Text: "before a start, on " + named.all(unseen) +
-			": names that weren't asked for may be missing there. As Syncthing starts, it scans all folders, and takes them for deleted"})
+			": as Syncthing starts, it scans all folders. What that does to names that weren't asked for isn't known: they may be missing there"})
 	}
 	return lines
 }
@@ -124,21 +117,4 @@ func (p *printer) first(s *Summary) {
 // isLive says whether the devices were looked at while they ran, and so scan as they did.
 func (s *Summary) isLive() bool {
 	return len(s.Folders) > 0 && s.Folders[0].Live != nil && !s.Folders[0].Live.isOfParts
-}
-
-// entries prints the entries of names: those that may lose bytes come first, whatever their names, and of these directories that aren't there, since
-// nothing can be copied below them before.
-func (p *printer) entries(s *Summary) {
-	for _, mayLose := range []bool{true, false} {
-		for _, folder := range s.Folders {
-			for _, isAbove := range []bool{true, false} {
-				for _, group := range folder.Groups {
-					if group.of.mayLose() == mayLose && group.isAbove == isAbove {
-						p.group(folder, group)
-					}
-				}
-				p.files(folder, func(file *File) bool { return file.mayLose() == mayLose && file.isAbove() == isAbove })
-			}
-		}
-	}
 }

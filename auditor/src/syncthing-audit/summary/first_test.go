@@ -8,7 +8,6 @@ import (
 
 	"syncthing-audit/choice"
 	"syncthing-audit/finding"
-	"syncthing-audit/join"
 	"syncthing-audit/part"
 )
 
@@ -26,62 +25,70 @@ func fresh(folder *finding.Folder, member int) {
 	unwon(folder, "new", member, finding.Unscanned, has)
 }
 
-// Who is told to start Syncthing for one name is told what comes first, where a scan of that device would delete another one on all.
+// Where an entry or the steps say what comes before a start, and there are other entries, that stands above all.
 func TestWhatComesFirst(t *testing.T) {
 	const told = "\nfirst, on server: do what the steps and the entries below say to do before Syncthing starts or scans there. As it starts, it scans all folders\n"
+	gone := func(folder *finding.Folder, name string) {
+		fails(folder, name, []*part.Name{with(with(file(2, 2), again), absent), file(1, 3)}, "RecordDiffers 2", "StoreDiffers 2")
+	}
+	rots := func(folder *finding.Folder, name string) {
+		fails(folder, name, []*part.Name{file(1, 1), with(file(1, 1), rotten)}, "StoreDiffers 2")
+	}
 	for why, one := range map[string]struct {
-		fill func(*finding.Folder)
-		told bool
+		fill    func(*finding.Folder)
+		isKnown bool
+		told    bool
 	}{
-		"both on one device": {func(folder *finding.Folder) { missing(folder, "a", 1); fresh(folder, 1) }, true},
-		"many are missing": {func(folder *finding.Folder) {
-			for place := 0; place <= mostAlone; place++ {
-				missing(folder, fmt.Sprint("a", place), 1)
-			}
-			fresh(folder, 1)
-		}, true},
-		"other bytes that a device which is behind may fetch": {func(folder *finding.Folder) {
-			fails(folder, "a", []*part.Name{nil, with(file(1, 1), rotten)}, "RecordMissing 1", "StoreDiffers 2")
-			fresh(folder, 1)
-		}, true},
-		"other bytes": {func(folder *finding.Folder) {
-			fails(folder, "a", []*part.Name{file(1, 1), with(file(1, 1), rotten)}, "StoreDiffers 2")
-			fresh(folder, 1)
-		}, true},
-		"other bytes, and one from which another device takes a file": {func(folder *finding.Folder) {
-			fails(folder, "a", []*part.Name{nil, with(file(1, 1), rotten)}, "RecordMissing 1", "StoreDiffers 2")
-			fails(folder, "b", []*part.Name{nil, file(1, 1)}, "RecordMissing 1")
-		}, true},
-		"other bytes that may be touched": {func(folder *finding.Folder) {
-			fails(folder, "a", []*part.Name{file(1, 1), with(file(1, 1), rotten)}, "StoreDiffers 2")
-			missing(folder, "b", 1)
-		}, true},
-		"a mode": {func(folder *finding.Folder) {
-			folder.Permissions.Add(finding.Permissions{Name: "a", At: []finding.Bits{{Has: true, Index: 0o644, OnDisk: true, Disk: 0o644}, {Has: true, Index: 0o644, OnDisk: true, Disk: 0o600}}})
-			folder.Rows["a"] = &join.Row{Name: "a", At: []*part.Name{file(1, 1), file(1, 1)}}
-			fresh(folder, 1)
-		}, true},
-		"on two devices": {func(folder *finding.Folder) { missing(folder, "a", 1); fresh(folder, 0) }, false},
-		"two are missing, and each entry stops Syncthing there": {func(folder *finding.Folder) { missing(folder, "a", 1); missing(folder, "b", 1) }, true},
-		"one is missing":     {func(folder *finding.Folder) { missing(folder, "a", 1) }, false},
-		"nothing is missing": {func(folder *finding.Folder) { fresh(folder, 1) }, false},
-		"a device that receives": {func(folder *finding.Folder) {
-			folder.Members[1].About.Kind = receiveOnly
-			missing(folder, "a", 1)
-			fresh(folder, 1)
-		}, false},
+		"nothing is known":                   {func(folder *finding.Folder) { missing(folder, "a", 1); fresh(folder, 1) }, false, true},
+		"nothing is known of one name":       {func(folder *finding.Folder) { missing(folder, "a", 1) }, false, false},
+		"one is missing, and one is deleted": {func(folder *finding.Folder) { missing(folder, "a", 1); gone(folder, "b") }, true, true},
+		"one is missing":                     {func(folder *finding.Folder) { missing(folder, "a", 1) }, true, false},
+		"one is rotten, and one is deleted":  {func(folder *finding.Folder) { rots(folder, "a"); gone(folder, "b") }, true, true},
+		"two are deleted":                    {func(folder *finding.Folder) { gone(folder, "a"); gone(folder, "b") }, true, false},
+		"a mode":                             {func(folder *finding.Folder) { modesOn(folder, "a"); modesOn(folder, "b") }, false, true},
 	} {
+		answer := answerOf(2, one.fill)
+		if one.isKnown {
+			foretellAll(answer)
+		}
 		var written strings.Builder
-		Of(answerOf(2, one.fill)).Print(&written, time.UTC, time.Time{})
-		if strings.Contains(written.String(), told) != one.told || strings.Contains(written.String(), "first, on") != one.told {
+		Of(answer).Print(&written, time.UTC, time.Time{})
+		if strings.Contains(written.String(), told) != one.told {
 			t.Errorf("%s:\n%s", why, written.String())
 		}
 	}
 }
 
-// Who asked for some names alone doesn't know what is missing of the others, which a start would have deleted.
+// Where names are missing that don't come back by themselves, whoever reads is to see first that the disk is mounted, once for each device.
+func TestADiskThatMayNotBeMounted(t *testing.T) {
+	gone := func(one *part.Name) { again(one); absent(one) }
+	for _, one := range []struct {
+		row     []*part.Name
+		reasons []string
+		isKnown bool
+		told    string
+	}{
+		{[]*part.Name{file(1, 1), with(file(1, 1), absent)}, []string{"StoreDiffers 2"}, true, "first, on server: see that the disk of docs (Documents) is mounted before Syncthing starts or scans there: 2 names are missing"},
+		{[]*part.Name{file(1, 1), with(file(1, 1), absent)}, []string{"StoreDiffers 2"}, false, "first, on server: see that the disk of docs (Documents) is mounted before Syncthing starts or scans there: 2 names are missing"},
+		{[]*part.Name{with(file(1, 1), absent), with(file(1, 1), absent)}, []string{"StoreDiffers 1", "StoreDiffers 2"}, true, "first, on laptop: see that the disk of docs (Documents) is mounted"},
+		{[]*part.Name{with(file(2, 2), gone), with(file(1, 1), absent)}, []string{"RecordDiffers 2", "StoreDiffers 2"}, true, ""},
+	} {
+		answer := answerOf(2, func(folder *finding.Folder) {
+			fails(folder, "a", one.row, one.reasons...)
+			fails(folder, "b", one.row, one.reasons...)
+		})
+		if one.isKnown {
+			foretellAll(answer)
+		}
+		if text := printed(answer); !strings.Contains(text, one.told) || strings.Contains(text, "mounted") != (one.told != "") {
+			t.Errorf("%v: %s", one.reasons, text)
+		}
+	}
+}
+
+// Who asked for some names alone doesn't know what a start does to the others.
 func TestWhatIsNotKnownBeforeAStart(t *testing.T) {
-	const told = "before a start, on server: names that weren't asked for may be missing there. "
+	const told = "before a start, on laptop, server: as Syncthing starts, it scans all folders. What that does to names that weren't asked for isn't known: they may be missing there"
 	for _, one := range []struct {
 		asked     choice.Names
 		isToStart bool
@@ -110,103 +117,31 @@ func TestWhatIsNotKnownBeforeAStart(t *testing.T) {
 
 // What may lose bytes comes first, whatever its name, and below what is to be done before all else.
 func TestWhatMayLoseBytesComesFirst(t *testing.T) {
-	text := printed(answerOf(2, func(folder *finding.Folder) {
+	answer := answerOf(2, func(folder *finding.Folder) {
 		missing(folder, "z", 1)
-		fresh(folder, 1)
-	}))
-	first, lost, other := strings.Index(text, "first, on server"), strings.Index(text, "z (in docs"), strings.Index(text, "new (in docs")
+		fails(folder, "new", []*part.Name{file(1, 7), nil}, "RecordMissing 2", "StoreDiffers 2")
+	})
+	foretellAll(answer)
+	text := printed(answer)
+	first, lost, other := strings.Index(text, "first, on server"), strings.Index(text, " z (in docs"), strings.Index(text, " new (in docs")
 	if first < 0 || first > lost || lost > other {
-		t.Error(text)
-	}
-}
-
-// Nobody is told to let a device be the one from which another takes what it lacks, where something on it is to be made safe first.
-func TestFromWhomADeviceTakesWhatItLacks(t *testing.T) {
-	lacks := func(folder *finding.Folder) {
-		fails(folder, "b", []*part.Name{file(1, 1), file(1, 1), nil}, "RecordMissing 3")
-	}
-	for why, one := range map[string]struct {
-		more func(*finding.Folder)
-		told string
-	}{
-		"both are safe": {func(*finding.Folder) {}, "let Syncthing run on phone and on one of laptop, server, and let"},
-		"one has other bytes of a file that the device lacks, too": {func(folder *finding.Folder) {
-			fails(folder, "a", []*part.Name{file(1, 1), with(file(1, 1), rotten), nil}, "StoreDiffers 2", "RecordMissing 3")
-		}, "let Syncthing run on phone and on laptop, and let"},
-		"on one a file is missing": {func(folder *finding.Folder) {
-			fails(folder, "a", []*part.Name{with(file(1, 1), absent), file(1, 1), file(1, 1)}, "StoreDiffers 1")
-		}, "let Syncthing run on phone and on server, and let"},
-		"none is safe": {func(folder *finding.Folder) {
-			fails(folder, "a", []*part.Name{with(file(1, 1), absent), file(1, 1), file(1, 1)}, "StoreDiffers 1")
-			fails(folder, "c", []*part.Name{file(1, 1), with(file(1, 1), absent), file(1, 1)}, "StoreDiffers 2")
-		}, "on one of laptop, server (once that is done there which comes first), and let"},
-	} {
-		text := printed(answerOf(3, func(folder *finding.Folder) { lacks(folder); one.more(folder) }))
-		if !strings.Contains(text, one.told) {
-			t.Errorf("%s: %s", why, text)
-		}
-	}
-}
-
-// A mode that is to be changed before a scan is told before what makes one.
-func TestAModeComesBeforeAStart(t *testing.T) {
-	text := toldOf([]*part.Name{file(2, 2), file(1, 1)}, "RecordDiffers 2", 2, 1, func(*finding.Folder) {})
-	mode, start := strings.Index(text, "'chmod 0644'"), strings.Index(text, "let Syncthing run")
-	if mode < 0 || start < mode {
 		t.Error(text)
 	}
 }
 
 // Where no details of names were kept, they may be missing on the disk: that comes before a start, too.
 func TestNamesWithoutDetailsComeFirst(t *testing.T) {
-	for names, it := range map[int]string{1: "it", mostAlone + 1: "they"} {
+	for names, it := range map[int]string{1: "it by itself", mostAlone + 1: "some of them by themselves"} {
 		text := printed(answerOf(2, func(folder *finding.Folder) {
 			for place := 0; place < names; place++ {
 				fails(folder, fmt.Sprint("a", place), nil, "StoreDiffers 2")
 			}
 			fresh(folder, 1)
 		}))
-		for _, has := range []string{"first, on server: do what the steps and the entries below", "to do: before Syncthing starts or scans on server (" + it + " may be missing there, which a scan takes for deleted), audit"} {
+		for _, has := range []string{"first, on server: do what the steps and the entries below", "to do: audit " + it} {
 			if !strings.Contains(text, has) {
 				t.Errorf("%d: %q isn't in %s", names, has, text)
 			}
-		}
-	}
-}
-
-// 'Revert Local Changes' is of the whole folder: where one entry tells it, what another one tells of and it would delete is told above both.
-func TestWhatARevertWouldDeleteComesFirst(t *testing.T) {
-	const first = "first, on server: 1 name was added, and 1 name was changed there. 'Revert Local Changes' deletes what was added, and writes over what was changed, " +
-		"mostly without a copy, whichever entry below tells it: copy elsewhere before what is to stay"
-	for _, one := range []struct {
-		why              string
-		changed, isFirst bool
-	}{{"beside a local change", true, true}, {"alone", false, false}} {
-		text := printed(answerOf(2, func(folder *finding.Folder) {
-			folder.Members[1].About.Kind = receiveOnly
-			if one.changed {
-				fails(folder, "a", []*part.Name{file(1, 1), local(file(2, 2), onFirst...)}, "LocalOnly 2")
-			}
-			unwon(folder, "new", 1, finding.LocalChange, local(file(1, 1)))
-		}))
-		if strings.Contains(text, first) != one.isFirst || one.isFirst && strings.Index(text, first) > strings.Index(text, "to do: 'Revert Local Changes' on server deletes what was added there") {
-			t.Errorf("%s: whether %q is told above is wrong: %s", one.why, first, text)
-		}
-	}
-}
-
-// A change of one name is taken away by what the entry of another change tells, and no copy is kept of it. Alone, its entry says so.
-func TestWhatARevertWritesOverComesFirst(t *testing.T) {
-	const first = "first, on server: 2 names were changed there. 'Revert Local Changes' deletes what was added, and writes over what was changed"
-	for changed, isFirst := range map[int]bool{1: false, 2: true} {
-		text := printed(answerOf(2, func(folder *finding.Folder) {
-			folder.Members[1].About.Kind = receiveOnly
-			for place := 0; place < changed; place++ {
-				fails(folder, fmt.Sprint("a", place), []*part.Name{file(1, 1), local(file(2, 2), onFirst...)}, "LocalOnly 2")
-			}
-		}))
-		if strings.Contains(text, first) != isFirst {
-			t.Errorf("%d: whether %q is told is wrong: %s", changed, first, text)
 		}
 	}
 }
@@ -223,8 +158,8 @@ func TestWhatComesFirstInJSON(t *testing.T) {
 	for _, one := range made.First {
 		told = append(told, fmt.Sprint(one.Why, one.Devices, one.Names))
 	}
-	want := []string{fmt.Sprint(isUnscanned, []string{laptop}, 1), fmt.Sprint(isDamaged, []string{server}, 1), fmt.Sprint(isLonger, []string{phone}, 1),
-		fmt.Sprint(isMadeSafe, []string{server}, 0)}
+	want := []string{fmt.Sprint(isUnscanned, []string{laptop}, 1), fmt.Sprint(isLonger, []string{phone}, 1), fmt.Sprint(isDamaged, []string{server}, 1),
+		fmt.Sprint(isMissing, []string{server}, 1), fmt.Sprint(isMadeSafe, []string{server, phone}, 0)}
 	if fmt.Sprint(told) != fmt.Sprint(want) {
 		t.Errorf("%v, not %v", told, want)
 	}

@@ -2,6 +2,7 @@ package summary
 
 import (
 	"math/rand"
+	"reflect"
 	"regexp"
 	"sort"
 	"strings"
@@ -9,13 +10,13 @@ import (
 
 	"github.com/syncthing/syncthing/lib/protocol"
 	"golang.org/x/exp/slices"
+	"syncthing-audit/damage"
 	"syncthing-audit/finding"
 	"syncthing-audit/forecast"
 	"syncthing-audit/forecast/read"
 	"syncthing-audit/join"
 	"syncthing-audit/outlook"
 	"syncthing-audit/part"
-	"syncthing-audit/print"
 )
 
 // foretellAll has an answer of rows say what happens if nobody does anything: all of its devices run 1.29.5 and share the folder.
@@ -72,21 +73,21 @@ var foretoldSo = []struct {
 	hasnt   string
 }{
 	{"missing", []*part.Name{file(1, 1), with(file(1, 1), absent)}, []string{"StoreDiffers 2"}, "send-receive",
-		[]string{"if nothing is done: no device has it then; what laptop has now goes.", "to do: first see that the folder's disk is mounted on server",
-			"to do: the steps for it above, behind 'to do in': all devices then have what laptop has now."}, "isn't known"},
+		[]string{"if nothing is done: no device has it then; what laptop has now goes.", "then all devices have what laptop has now", "to do: the steps for it above, behind 'to do in'. not"}, "isn't known"},
 	{"missing everywhere", []*part.Name{with(file(1, 1), absent), with(file(1, 1), absent)}, []string{"StoreDiffers 1", "StoreDiffers 2"}, "send-receive",
-		[]string{"if nothing is done: no device has it then.", "first see that the folder's disk is mounted on laptop, server", "to do: nothing, if it may go.",
-			"to have again what server recorded, look among old versions and backups for a file with the recorded bytes"}, "let Syncthing run"},
+		[]string{"if nothing is done: no device has it then.", "to do: look among old versions and backups: no audited device has what is recorded. not"}, "let Syncthing run"},
 	{"rot", []*part.Name{file(1, 1), with(file(1, 1), rotten)}, []string{"StoreDiffers 2"}, "send-receive",
 		[]string{"if nothing is done: laptop keeps what it has; server keeps what it has (server: it has other bytes than recorded", "to do: the steps for it above"}, "to have again"},
 	{"changed", []*part.Name{file(1, 1), changedTo(7)}, []string{"StoreDiffers 2"}, "send-receive",
 		[]string{"if nothing is done: all devices then have what server has now; what laptop has now goes.", "to do: nothing, if the change is wanted.",
-			"to have again what server recorded, copy elsewhere first what stands there, if it may be right, and copy it from laptop to server with its time alone"}, "isn't known"},
+			"to have again what server recorded, copy elsewhere what stands there, if it may be right, and copy it from laptop to server with its time alone"}, "isn't known"},
 	{"emptied", []*part.Name{file(1, 1), with(file(1, 1), afterwards(emptied))}, []string{"StoreDiffers 2"}, "send-receive",
-		[]string{"looks damaged", "if nothing is done: all devices then have what server has now", "to do: the steps for it above, behind 'to do in': all devices then have what laptop has now."},
-		"if the change is wanted"},
+		[]string{"looks damaged", "if nothing is done: all devices then have what server has now", "to do: the steps for it above, behind 'to do in'. not"}, "if the change is wanted"},
 	{"behind", []*part.Name{file(2, 2), file(1, 1)}, []string{"RecordDiffers 2", "StoreDiffers 2"}, "send-receive",
-		[]string{"if nothing is done: all devices then have what laptop has now; what server has now goes.", "to do: let Syncthing run on server and on laptop, and let them finish"}, "nothing:"},
+		[]string{"if nothing is done: all devices then have what laptop has now; what server has now goes.", "to do: nothing: let Syncthing run on all of these devices until it is idle",
+			"if not, see whether a device or the folder is paused"}, "isn't known"},
+	{"deleted", []*part.Name{with(with(file(2, 2), again), absent), file(1, 1)}, []string{"RecordDiffers 2", "StoreDiffers 2"}, "send-receive",
+		[]string{"to do: nothing, if it may go. If not, copy it elsewhere before Syncthing starts on any of these devices"}, "isn't known"},
 	{"behind on a device that only sends", []*part.Name{file(2, 2), file(1, 1)}, []string{"RecordDiffers 2", "StoreDiffers 2"}, sendOnly,
 		[]string{"to choose in docs (Documents) on server", "server keeps what it has (server: it only sends", "to do: choose for the whole folder what stands above"}, "to do: nothing"},
 	{"a local change", []*part.Name{file(1, 1), local(file(2, 2), onFirst...)}, []string{"LocalOnly 2"}, receiveOnly,
@@ -113,59 +114,38 @@ func TestAnEntrySaysWhatIsForetold(t *testing.T) {
 	}
 }
 
-// A name that loses something, and whose steps aren't listed, is to be saved: nobody is told to let Syncthing run.
+// What looks damaged is to be saved and put back where no steps do it, whatever comes of it: one of other devices may have taken a deletion of it.
+func TestWhatLooksDamagedIsNeverLeft(t *testing.T) {
+	state := &State{Type: "file", Size: 5}
+	for _, fate := range outlook.Fates {
+		file := &File{Faults: []Fault{{Device: server, Cause: Changed, Damage: damage.Cut, Recorded: state, Found: state, sources: []string{laptop}}}, foretold: foretold{fate: &outlook.Name{Fate: fate}}}
+		is := adviceOf(file, labels{})
+		if len(is) != 2 || !strings.HasPrefix(is[0], "before Syncthing starts or scans on any of these devices, copy elsewhere") || !strings.HasPrefix(is[1], "to have again what") {
+			t.Errorf("%s: %q", fate, is)
+		}
+	}
+}
+
+// A name that loses something, and whose steps aren't listed, is to be saved: nobody is told to let Syncthing run. Of others nothing is put back.
 func TestWhatIsLostWithoutSteps(t *testing.T) {
+	state := &State{Type: "file", Size: 5}
 	for fate, told := range map[outlook.Fate]string{outlook.Lost: "before Syncthing starts or scans on any of these devices, copy elsewhere what is to stay",
-		outlook.Depends: "nothing is lost, whichever of these comes", outlook.ByItself: "nothing: let Syncthing run"} {
-		file := &File{Faults: []Fault{{Device: server, Cause: Conflicting}}, foretold: &foretold{fate: &print.Fate{Fate: string(fate)}}}
+		outlook.Depends: "nothing: let Syncthing run", outlook.ByItself: "nothing: let Syncthing run"} {
+		file := &File{Faults: []Fault{{Device: server, Cause: Changed, Recorded: state, Found: state, sources: []string{laptop}}}, foretold: foretold{fate: &outlook.Name{Fate: fate}}}
 		if is := adviceOf(file, labels{}); len(is) != 1 || !strings.HasPrefix(is[0], told) {
 			t.Errorf("%s: %q", fate, is)
 		}
-	}
-}
-
-// Where all ends are without loss nothing is put back, whatever stands on a disk.
-func TestNothingIsPutBackThatComesRight(t *testing.T) {
-	state := &State{Type: "file", Size: 5}
-	for _, fate := range []outlook.Fate{outlook.Depends, outlook.ByItself} {
-		file := &File{Faults: []Fault{{Device: server, Cause: Changed, Recorded: state, Found: state}}, foretold: &foretold{fate: &print.Fate{Fate: string(fate)}}}
-		if is := adviceOf(file, labels{}); len(is) != 1 || !runs.MatchString(is[0]) {
+		file.foretold.hasSteps = true
+		if is := adviceOf(file, labels{}); fate != outlook.Lost && !reflect.DeepEqual(is, []string{"nothing but the start with which the steps above end"}) {
 			t.Errorf("%s: %q", fate, is)
 		}
 	}
 }
 
-// What goes from some devices though others keep it is to be saved before a start, and the line above all entries says so.
-func TestWhatGoesFromSomeDevicesIsSaved(t *testing.T) {
-	size := int64(5)
-	thing := func(content string, devices ...string) print.Thing {
-		return print.Thing{Devices: devices, Type: "file", Size: &size, Content: content}
-	}
-	now := []print.Thing{thing("rot", server), thing("good", laptop, phone)}
-	for _, one := range []struct {
-		ends [][]print.Thing
-		from string
-	}{
-		{[][]print.Thing{{thing("rot", server)}}, "laptop, phone"},
-		{[][]print.Thing{{thing("rot", server), thing("newer", laptop)}}, "phone"},
-		{[][]print.Thing{{thing("rot", server), {Devices: []string{laptop}, Type: "file", Size: &size, Content: "good", Copy: true}}}, ""},
-		{[][]print.Thing{{thing("rot", server), thing("newer", laptop, phone)}}, ""},
-		{[][]print.Thing{{thing("rot", server), thing("good", laptop, phone)}, {thing("rot", server)}}, "laptop, phone"},
-	} {
-		for _, fate := range []outlook.Fate{outlook.Stays, outlook.Depends, outlook.Deleted} {
-			file := &File{Faults: []Fault{{Device: server, Cause: OtherBytes}}, foretold: &foretold{fate: &print.Fate{Fate: string(fate), Now: now, Ends: one.ends}}}
-			named := labels{laptop: "laptop", server: "server", phone: "phone"}
-			is := adviceOf(file, named)[0]
-			if told := strings.HasPrefix(is, "copy elsewhere before Syncthing starts on any of these devices what is to stay of what stands on "+one.from+": it goes there"); told !=
-				(one.from != "" && fate != outlook.Deleted) || told && len(file.toMakeSafe()) == 0 {
-				t.Errorf("%s, %v: %q", fate, one.ends, is)
-			}
-		}
-	}
-}
+const sendOnly = "send-only"
 
 // putBack is what gives a device back what it recorded.
-var putBack = regexp.MustCompile(`(?:[Tt]o have again what|put the bytes back that) (\w+) recorded.*?copy it from (\w+) to (\w+) `)
+var putBack = regexp.MustCompile(`to have again what (\w+) recorded, (?:copy elsewhere what stands there, if it may be right, and )?copy it from (\w+) to (\w+) `)
 
 // Each entry of random names says what happens or why that isn't known; what may be lost has steps, or is to be saved; and from where a device gets back what
 // it recorded, that stands.

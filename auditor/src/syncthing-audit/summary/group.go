@@ -8,11 +8,8 @@ import (
 	"syncthing-audit/finding"
 )
 
-// mostAlone is how many names with the same fault at the same devices are told one by one; more are told as one.
+// mostAlone is how many names with the same fault at the same devices are told one by one; more are told as one, by so many of them and a count.
 const mostAlone = 5
-
-// firstNames is of how many names a group tells.
-const firstNames = 3
 
 // Group are names that have the same fault at the same devices, as those of a device that is behind as a whole.
 type Group struct {
@@ -30,9 +27,6 @@ type Group struct {
 	Foretold string `json:"if_nothing_is_done,omitempty"` // in words, of each
 
 	of *File // what is so of each name
-
-	isOfAnotherTime bool // as of a file
-	isAbove         bool // whether one of the names is a directory that isn't on the disk of a device
 }
 
 // canFold are the causes that ask for the same everywhere. What else is wrong is to be looked at file by file.
@@ -49,19 +43,17 @@ func (f *File) canBeTold() bool {
 	return true
 }
 
-// keyOf says with which other names a name may be told: those of which a group tells the very same, its advice too. So whatever advice comes to depend on,
-// a group says of each of its names what is said of that by itself. It is empty for a name that is told by itself.
+// keyOf is the same for all names of which the very same is told, their advice too. So whatever advice comes to depend on, an entry of many says of each of
+// them what is said of that by itself.
 func (f *folding) keyOf(file *File) string {
-	if !file.canBeTold() {
-		return ""
-	}
-	key := fmt.Sprint(file.Permissions, file.Have, file.isOfAnotherTime)
+	key, many := fmt.Sprint(file.Permissions, file.Have, file.isOfAnotherTime, file.Same, isOfNobody(file)), file.asMany()
 	for place := range file.Faults {
 		fault := &file.Faults[place]
-		key += fmt.Sprint(" ", fault.Device, fault.Cause, fault.Kind, fault.Deletion, file.losesAt(fault))
+		key += fmt.Sprint(" ", fault.Device, fault.Cause, fault.Kind, fault.Deletion, fault.isTied, fault.isWithout(), fault.Damage, fault.Due != nil && fault.Due.Deleted)
+		if fault.Cause == Changed {
+			key += fault.types()
+		}
 	}
-	many := file.asMany()
-	many.others = nil // these aren't all known yet, and are the same for all names
 	return key + many.tell(f.named) + strings.Join(adviceOf(many, f.named), "\n")
 }
 
@@ -94,13 +86,12 @@ type folding struct {
 	alone []*File
 	alike map[string]*alike // by their keys
 	keys  []string          // in the order of their first names
-	// How many files devices lack together with a directory above them.
-	lacking map[lacked]int64
+	name  string            // of the folder, for a person
 }
 
-// alike are names with the same fault: the first ones, and what is counted of all.
+// alike are names of which the very same is told, and what is counted of all.
 type alike struct {
-	first []*File
+	files []*File
 	group Group
 }
 
@@ -113,39 +104,37 @@ func (f *folding) take(file *File) {
 	}
 	file.sortDevices(f.named)
 	file.Same = sameOtherBytes(file.Faults)
-	file.markSeen()
-	file.others = f.to
-	f.to.note(file)
-	f.noteLacked(file)
-	key := f.keyOf(file)
-	if !file.hasDetails && (key == "" || f.alike[key] == nil && len(f.alike) >= mostKinds) {
+	f.to.note(file, f.name)
+	isAlike := file.canBeTold()
+	file.key = f.keyOf(file)
+	if !file.hasDetails && (!isAlike || f.alike[file.key] == nil && len(f.alike) >= mostKinds) {
 		file.shorten()
-		key = f.keyOf(file)
+		file.key, isAlike = f.keyOf(file), true
 	}
-	if key == "" {
+	if !isAlike {
 		f.alone = append(f.alone, file)
 		return
 	}
-	to := f.alike[key]
+	to := f.alike[file.key]
 	if to == nil {
 		to = &alike{}
-		f.alike[key] = to
-		f.keys = append(f.keys, key)
+		f.alike[file.key] = to
+		f.keys = append(f.keys, file.key)
 	}
 	to.take(file)
+	if to.group.Names > mostAlone { // the others are counted
+		to.files = to.files[:mostAlone]
+	}
 }
 
-// take takes one more name of the same fault.
+// take takes one more name.
 func (a *alike) take(file *File) {
 	a.group.Names++
 	a.group.Bytes += file.Size
-	a.group.isAbove = a.group.isAbove || file.isAbove()
 	if !file.hasDetails {
 		a.group.Unsized++
 	}
-	if len(a.first) < mostAlone {
-		a.first = append(a.first, file)
-	}
+	a.files = append(a.files, file)
 }
 
 // end gives what is told name by name, rising, and what is told of many at once.
@@ -155,12 +144,11 @@ func (f *folding) end() ([]*File, []*Group) {
 		if alike := f.alike[key]; alike.group.Names > mostAlone {
 			groups = append(groups, alike.groupOf(f.named))
 		} else {
-			files = append(files, alike.first...)
+			files = append(files, alike.files...)
 		}
 	}
 	sort.Slice(files, func(a, b int) bool { return files[a].Name < files[b].Name })
 	for _, file := range files {
-		f.noteBelow(file)
 		file.Foretold, file.Advice = file.tell(f.named), adviceOf(file, f.named)
 	}
 	link(files)
@@ -169,20 +157,17 @@ func (f *folding) end() ([]*File, []*Group) {
 
 // groupOf tells names as one.
 func (a *alike) groupOf(named labels) *Group {
-	first := a.first[0]
-	many := first.asMany()
-	group := a.group
-	group.Cause, group.Devices, group.First, group.Have, group.Modes = Permissions, []string{}, []Text{}, first.Have, first.Permissions
+	many, group := a.files[0].asMany(), a.group
+	group.of, group.Cause, group.Devices, group.First, group.Have, group.Modes = many, Permissions, []string{}, []Text{}, many.Have, many.Permissions
 	group.Foretold, group.Advice = many.tell(named), adviceOf(many, named)
-	if len(first.Faults) > 0 {
-		group.Cause = first.Faults[0].Cause
-		group.Deleted = group.Cause == Behind && first.Faults[0].Deletion
+	if len(many.Faults) > 0 {
+		group.Cause = many.Faults[0].Cause
+		group.Deleted = group.Cause == Behind && many.Faults[0].Deletion
 	}
-	group.of, group.isOfAnotherTime = many, first.isOfAnotherTime
-	for _, fault := range first.Faults {
+	for _, fault := range many.Faults {
 		group.Devices = append(group.Devices, fault.Device)
 	}
-	for _, file := range a.first[:firstNames] {
+	for _, file := range a.files[:mostAlone] {
 		group.First = append(group.First, file.Name)
 	}
 	return &group
@@ -205,4 +190,11 @@ func modesOf(folder *finding.Folder, permissions *finding.Permissions) []Mode {
 		modes = append(modes, mode)
 	}
 	return modes
+}
+
+// sortDevices puts what is told of devices in the order of their names.
+func (f *File) sortDevices(named labels) {
+	sort.SliceStable(f.Faults, func(a, b int) bool { return named.of(f.Faults[a].Device) < named.of(f.Faults[b].Device) })
+	sort.SliceStable(f.Permissions, func(a, b int) bool { return named.of(f.Permissions[a].Device) < named.of(f.Permissions[b].Device) })
+	sort.SliceStable(f.Have, func(a, b int) bool { return named.of(f.Have[a]) < named.of(f.Have[b]) })
 }

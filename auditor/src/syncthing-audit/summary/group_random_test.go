@@ -38,7 +38,7 @@ func TestAGroupSpeaksOfEachOfItsNames(t *testing.T) {
 			}
 			for _, name := range group.First {
 				many := *all.alone(string(name), answer)
-				many.isMany, many.others = true, group.of.others
+				many.isMany = true
 				told, foretold := adviceOf(&many, made.labels()), many.tell(made.labels())
 				if !reflect.DeepEqual(told, group.Advice) || foretold != group.Foretold {
 					t.Fatalf("seed %d: a group says\n%s\n%q, and %s\n%s\n%q\n%s", seed, group.Foretold, group.Advice, name, foretold, told,

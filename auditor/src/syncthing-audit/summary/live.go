@@ -31,15 +31,13 @@ type Moving struct {
 
 // Moved says what changed at a device.
 type Moved struct {
-	Device   string     `json:"device"`
-	Why      []string   `json:"why"`
-	Waits    string     `json:"waits,omitempty"` // how it waits for a scan
-	Recorded *State     `json:"recorded,omitempty"`
-	Found    *State     `json:"found,omitempty"`
-	Have     []string   `json:"have_recorded,omitempty"` // the other devices that have what is recorded
-	as       *part.Name // its record and its disk then
-
-	isOverWire bool // the device was asked over the wire, where a file's time isn't seen
+	Device   string   `json:"device"`
+	Why      []string `json:"why"`
+	Waits    string   `json:"waits,omitempty"` // how it waits for a scan
+	Recorded *State   `json:"recorded,omitempty"`
+	Found    *State   `json:"found,omitempty"`
+	Have     []string `json:"have_recorded,omitempty"` // the other devices that have what is recorded
+	fault    *Fault   // of what waits: the same as a fault
 }
 
 // Unheard counts the still names whose record a device hadn't heard of from another one.
@@ -70,10 +68,11 @@ func liveOf(from *finding.Folder) *Live {
 	for _, moving := range from.Live.Names {
 		next := Moving{Name: moving.Name, Devices: []Moved{}}
 		for _, at := range moving.At {
-			moved := Moved{Device: id(at.Member), Why: at.Why, Waits: at.Waits, as: at.As, isOverWire: from.Members[at.Member].Head.IsOverWireAlone()}
+			moved := Moved{Device: id(at.Member), Why: at.Why, Waits: at.Waits}
 			if at.As != nil {
 				moved.Recorded, moved.Found = recorded(at.As.Own), found(at.As.Disk)
 			}
+			moved.fault = moved.asFault(from.Members[at.Member].Head.IsOverWireAlone())
 			for _, other := range at.Have {
 				moved.Have = append(moved.Have, id(other))
 			}
@@ -135,22 +134,7 @@ func (l *Live) waiting() int64 {
 }
 
 // beforeScan is what whoever has a scan made is to know first.
-const beforeScan = "it takes what differs on the disk for changed, and what is missing there for deleted, and sends that to all devices, unless the " +
-	"folder is receive-only there. See that its disk is mounted, and copy back first what is to stay."
-
-// beforeScan says that of a folder, and which devices take nothing of it.
-func (p *printer) beforeScan(folder *Folder) string {
-	keepers := []string{}
-	for _, member := range folder.Devices {
-		if member.Kind == sendOnly {
-			keepers = append(keepers, member.Device)
-		}
-	}
-	if len(keepers) == 0 {
-		return beforeScan
-	}
-	return beforeScan + " What others send goes to all but " + p.named.all(keepers) + say(keepers, ", which only sends.", ", which only send.")
-}
+const beforeScan = "it may delete on all devices what is missing, and send to all what stands there. See that the disk is mounted, and copy back first what is to stay."
 
 // advice says what brings names in motion to rest. What waits for a scan waits on where none comes, however often one audits.
 func (l *Live) advice() string {
@@ -192,7 +176,7 @@ func (p *printer) movingNames(folder *Folder, live *Live) {
 		p.line("in motion in %s: %s, not audited%s", folder.ID, counted(live.Moving, "name", "names"), told)
 	}
 	if isWaiting {
-		p.running("  before a scan:", p.beforeScan(folder))
+		p.running("  before a scan:", beforeScan)
 	}
 	for place, moving := range live.worst() {
 		if place == mostMoving {
@@ -214,13 +198,11 @@ func (p *printer) movingNames(folder *Folder, live *Live) {
 func (p *printer) whyMoved(at Moved) string {
 	words := []string{}
 	for _, word := range at.Why {
-		if word == part.MovedUnscanned && at.Waits != "" {
-			words = append(words, p.wordsOfWaiting(at))
-		} else {
+		if word != part.MovedUnscanned || at.Waits == "" {
 			words = append(words, wordsOfMoved[word])
 		}
 	}
-	if at.Waits != "" && !slices.Contains(at.Why, part.MovedUnscanned) {
+	if at.Waits != "" {
 		words = append(words, p.wordsOfWaiting(at))
 	}
 	return strings.Join(words, ", ")

@@ -65,9 +65,8 @@ in motion in docs: 2 names, not audited: audit again
 		`docs (Documents): in step and firm as far as audited; still for 0 s: 1,204 names (4 deleted), 335.2 MB hashed on laptop, server; in motion: 1
 
 in motion in docs: 1 name, not audited
-  before a scan: it takes what differs on the disk for changed, and what is missing there for
-         deleted, and sends that to all devices, unless the folder is receive-only there. See that
-         its disk is mounted, and copy back first what is to stay.
+  before a scan: it may delete on all devices what is missing, and send to all what stands there.
+         See that the disk is mounted, and copy back first what is to stay.
   c: server: the disk isn't as recorded: it waits for a scan by Syncthing
   then: audit again after a scan by Syncthing, as with --rescan
 ` + strings.TrimPrefix(lastLine, "\n")},

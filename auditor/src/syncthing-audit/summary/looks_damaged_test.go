@@ -2,6 +2,7 @@ package summary
 
 import (
 	"crypto/sha256"
+	"fmt"
 	"strings"
 	"testing"
 
@@ -81,27 +82,23 @@ var looking = []struct {
 	{"cut at the recorded time", resized, "server: looks damaged: 300.0 kB recorded, 1.0 kB on the disk: cut short under the recorded time (modified", true},
 	{"cut later", afterwards(resized), "server: changed on the disk since the last scan: 300.0 kB recorded, 1.0 kB on the disk (modified", false},
 	{"zeros later", afterwards(zeroed), "server: looks damaged: a block of it is all zeros now (modified", true},
-	{"zeros at the recorded time", zeroed, "server: other bytes on the disk; size and time are as recorded, so no scan sees it: a block of it is all zeros now (modified", false},
+	{"zeros at the recorded time", zeroed, "server: other bytes on the disk; size and time are as recorded: a block of it is all zeros now (modified", false},
 	{"all zeros later", afterwards(allZeros), "server: looks damaged: all of it is ZEROS (modified", true},
-	{"all zeros at the recorded time", allZeros, "server: other bytes on the disk; size and time are as recorded, so no scan sees it: all of it is ZEROS (modified", false},
+	{"all zeros at the recorded time", allZeros, "server: other bytes on the disk; size and time are as recorded: all of it is ZEROS (modified", false},
 	{"an edit of what was zeros", afterwards(overZeros), "server: changed on the disk since the last scan (modified", false},
 	{"an edit", afterwards(rotten), "server: changed on the disk since the last scan (modified", false},
 }
 
-// What looks like damage is to be copied back before a scan, and comes first.
+// What looks like damage is told as that, and comes first.
 func TestWhatLooksDamaged(t *testing.T) {
-	const first = "first, on server: 1 file looks damaged, not edited. Copy back what is to stay, as said below, before Syncthing starts or scans there: a scan sends the damage on"
-	const advice = "to do: this looks like damage, not like an edit. Before Syncthing starts or scans on server, copy elsewhere first what stands there, if it may be right, and copy it from laptop to server with its time alone"
-	const wanted = "If it is wanted as it is, leave it. not compared"
+	const first = "first, on server: 1 file looks damaged, not edited. Do what is said of that below before Syncthing starts or scans there"
 	for _, one := range looking {
 		text := toldOf([]*part.Name{file(1, 1), with(file(1, 1), one.change)}, "StoreDiffers 2", 0, 1, func(*finding.Folder) {})
 		if !strings.Contains(text, one.has) {
 			t.Errorf("%s: %q isn't in %s", one.why, one.has, text)
 		}
-		for _, has := range []string{first, advice, wanted} {
-			if strings.Contains(text, has) != one.isDamaged {
-				t.Errorf("%s: whether %q is told is wrong: %s", one.why, has, text)
-			}
+		if strings.Contains(text, first) != one.isDamaged {
+			t.Errorf("%s: whether %q is told is wrong: %s", one.why, first, text)
 		}
 	}
 }
@@ -111,32 +108,23 @@ func TestWhatLooksDamaged(t *testing.T) {
 func TestMoreBytesThanRecordedAreKept(t *testing.T) {
 	text := toldOf([]*part.Name{file(1, 1), with(file(1, 1), grown)}, "StoreDiffers 2", 0, 1, func(*finding.Folder) {})
 	for _, has := range []string{"first, on server: 1 file has more bytes than recorded, or other ones than recorded zeros, under the recorded time. Keep a copy outside the folder before Syncthing starts or scans there",
-		"server: changed on the disk since the last scan: 300.0 kB recorded, 400.0 kB on the disk: more bytes than recorded under the recorded time",
-		"to do: before Syncthing starts or scans on server, copy it from there to a place outside the folder: nobody can tell which bytes are the right ones"} {
+		"server: changed on the disk since the last scan: 300.0 kB recorded, 400.0 kB on the disk: more bytes than recorded under the recorded time: nobody can tell which bytes are the right ones",
+		"to do: before Syncthing starts or scans on any of these devices, copy elsewhere what is to stay of what stands on laptop, server"} {
 		if !strings.Contains(text, has) {
 			t.Errorf("%q isn't in %s", has, text)
 		}
 	}
-	for _, hasnt := range []string{"looks damaged", "this looks like damage", "copy it from laptop to server"} {
+	for _, hasnt := range []string{"looks damaged", "copy it from laptop to server"} {
 		if strings.Contains(text, hasnt) {
 			t.Errorf("%q is in %s", hasnt, text)
 		}
 	}
 }
 
-// Other bytes in place of zeros alone may be the right ones: nobody is told to copy the zeros over them before a copy of them is made.
+// Other bytes in place of zeros alone may be the right ones: nobody is told to copy the zeros over them.
 func TestOtherBytesThanZerosAreKept(t *testing.T) {
-	text := toldOf([]*part.Name{with(file(1, 1), overZeros), with(file(1, 1), overZeros)}, "StoreDiffers 1,StoreDiffers 2", 0, 1, func(*finding.Folder) {})
-	keep := strings.Index(text, "first copy it from server to a place outside the folder: the recorded bytes may be the wrong ones. Then ")
-	if mend := strings.LastIndex(text, "and copy it to server"); keep < 0 || mend < keep {
-		t.Error(text)
-	}
-}
-
-// What looks like damage of a file of which others have a newer version gets back what the device itself recorded: anything else would be in conflict.
-func TestWhatLooksDamagedWhereOthersHaveSomethingNewer(t *testing.T) {
-	text := toldOf([]*part.Name{file(2, 2), with(file(1, 1), afterwards(emptied))}, "RecordDiffers 2,StoreDiffers 2", 0, 1, func(*finding.Folder) {})
-	if !strings.Contains(text, "Before Syncthing starts or scans on server, copy elsewhere first what stands there, if it may be right, and put the bytes back that server recorded, from old versions") {
+	text := toldOf([]*part.Name{with(file(1, 1), overZeros), file(1, 1)}, "StoreDiffers 1", 0, 1, func(*finding.Folder) {})
+	if strings.Contains(text, "to have again") || !strings.Contains(text, "copy elsewhere what is to stay of what stands on laptop, server") {
 		t.Error(text)
 	}
 }
@@ -161,11 +149,14 @@ func TestManyThatLookDamaged(t *testing.T) {
 // What is missing on one device and deleted on the others is no loss: there is nothing to copy, and no disk to mount.
 func TestMissingAndDeletedElsewhere(t *testing.T) {
 	for _, names := range []int{1, mostAlone + 1} {
-		text := toldOf([]*part.Name{with(with(file(2, 2), again), absent), with(file(1, 1), absent)}, "RecordDiffers 2,StoreDiffers 2", 0, names, func(folder *finding.Folder) {
-			fresh(folder, 1)
+		answer := answerOf(2, func(folder *finding.Folder) {
+			for next := 0; next < names; next++ {
+				fails(folder, fmt.Sprint("a", next), []*part.Name{with(with(file(2, 2), again), absent), with(file(1, 1), absent)}, "RecordDiffers 2", "StoreDiffers 2")
+			}
 		})
-		it := map[bool]string{true: "it", false: "them"}[names == 1]
-		if !strings.Contains(text, "to do: let Syncthing run on server and on") || strings.Contains(text, "mounted") || strings.Contains(text, "put the bytes back") || strings.Contains(text, "copy "+it) || strings.Contains(text, "first, on") {
+		foretellAll(answer)
+		text := printed(answer)
+		if !strings.Contains(text, "to do: nothing: let Syncthing run") || strings.Contains(text, "mounted") || strings.Contains(text, "copy") || strings.Contains(text, "first, on") {
 			t.Error(text)
 		}
 	}

@@ -57,7 +57,7 @@ var wordsOfLoose = map[string]string{
 const (
 	meaningOfLoose = "all devices have the same content, and have or know of versions that differ. Syncthing may still exchange records. " +
 		"That this changes no file is proved of this project's own peers only, which merge versions when they adopt a record, as Syncthing doesn't."
-	adviceOfLoose = "let all of these devices run, connected, until they are idle: as a rule they take one version then. Audit again after that"
+	adviceOfLoose = "let all of these devices run, connected, until they are idle, and audit again"
 )
 
 // loose prints what keeps a folder in step from being firm.

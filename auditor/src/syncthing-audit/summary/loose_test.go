@@ -22,8 +22,7 @@ func TestWhatAPersonReadsOfFirmness(t *testing.T) {
 	meaning := `  that is: all devices have the same content, and have or know of versions that differ. Syncthing
          may still exchange records. That this changes no file is proved of this project's own peers
          only, which merge versions when they adopt a record, as Syncthing doesn't.
-  to do: let all of these devices run, connected, until they are idle: as a rule they take one
-         version then. Audit again after that.
+  to do: let all of these devices run, connected, until they are idle, and audit again.
 `
 	cases := []struct {
 		why  string

@@ -13,26 +13,20 @@ import (
 )
 
 var (
-	saysNothing = regexp.MustCompile(`^nothing: `)
-	// What starts Syncthing, and what is said where it alone puts a name right.
-	runs      = regexp.MustCompile(`^(nothing: |nothing is lost, whichever of these comes: |once what is to stay is saved, )?let Syncthing run on`)
-	putsRight = regexp.MustCompile(`let Syncthing run on all of these devices until it is idle$`)
+	saysNothing = regexp.MustCompile(`^nothing(:| but)`)
 	// What is to be done before Syncthing starts, and what puts back what was recorded.
-	isBefore = regexp.MustCompile(`[Bb]efore Syncthing (starts|scans)|while Syncthing is stopped|^first |^copy elsewhere`)
-	putsBack = regexp.MustCompile(`[Tt]o have again what|put the bytes back`)
+	isBefore = regexp.MustCompile(`before Syncthing (starts|scans)|while Syncthing is stopped|^first |^copy elsewhere|^the steps`)
+	putsBack = regexp.MustCompile(`to have again what`)
 )
 
-// voicesOf gives what an entry says with two voices: that nothing is to be done beside something that is; that Syncthing is to run above what comes before
-// that; and that by this a name comes right beside how bytes are put back.
+// voicesOf gives what an entry says with two voices: that nothing is to be done beside something that is, or that something is put back beside steps.
 func voicesOf(advice []string) string {
 	first := func(of *regexp.Regexp) int { return slices.IndexFunc(advice, of.MatchString) }
 	switch {
 	case first(saysNothing) >= 0 && len(advice) > 1:
 		return "nothing is to be done, and something is"
-	case first(runs) >= 0 && slices.IndexFunc(advice[first(runs):], isBefore.MatchString) >= 0:
-		return "what comes before a start stands below it"
-	case first(putsRight) >= 0 && first(putsBack) >= 0:
-		return "what comes right by itself is put back"
+	case first(putsBack) >= 0 && slices.IndexFunc(advice, func(told string) bool { return strings.HasSuffix(told, "behind 'to do in'") }) >= 0:
+		return "something is put back beside the steps that do it"
 	}
 	return ""
 }
@@ -58,14 +52,14 @@ func TestAnEntrySpeaksWithOneVoice(t *testing.T) {
 			if said := voicesOf(advice); said != "" {
 				t.Fatalf("seed %d: %s, in\n%s\n%s", seed, said, strings.Join(advice, "\n"), rowText(answer.Folders[0].Rows["a0"]))
 			}
-			for what, of := range map[string]*regexp.Regexp{"nothing": saysNothing, "runs": runs, "right": putsRight, "before": isBefore, "back": putsBack} {
+			for what, of := range map[string]*regexp.Regexp{"nothing": saysNothing, "before": isBefore, "back": putsBack} {
 				if slices.IndexFunc(advice, of.MatchString) >= 0 {
 					found[what]++
 				}
 			}
 		}
 	}
-	for _, what := range []string{"nothing", "runs", "right", "before", "back"} {
+	for _, what := range []string{"nothing", "before", "back"} {
 		if found[what] < 8 {
 			t.Errorf("too few entries of a kind: %v", found)
 		}

@@ -16,7 +16,7 @@ func TestOutlook(t *testing.T) {
 		answer := answerOf(2, func(folder *finding.Folder) {
 			fails(folder, "a", []*part.Name{file(1, 1), with(file(1, 1), rotten)}, "StoreDiffers 2")
 			if has {
-				folder.Outlook = &outlook.Outlook{Names: 1, Count: map[outlook.Fate]int64{outlook.Stays: 1}}
+				folder.Outlook = &outlook.Outlook{Names: 1, Stays: 1}
 			}
 		})
 		answer.IsSum = true

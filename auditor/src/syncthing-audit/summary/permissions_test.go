@@ -5,23 +5,26 @@ import (
 	"testing"
 
 	"syncthing-audit/finding"
+	"syncthing-audit/part"
 )
 
-func TestPermissionsAdvice(t *testing.T) {
-	const ignore = "or choose 'Ignore Permissions' for the folder"
-	cases := []struct {
-		why   string
-		modes []Mode
-		told  string
-	}{
-		{"disks that differ alike", []Mode{{phone, "0644", "0600"}, {server, "0644", "0600"}, {laptop, "0644", "0644"}},
-			"on phone, server, 'chmod 0644' it if that is the right mode, before Syncthing scans there: a scan takes 0600 for a change; " + ignore},
-		{"indexes that differ", []Mode{{laptop, "0644", "0644"}, {server, "0600", ""}},
-			"'chmod' it to the same mode on laptop, server: where that changes a mode, the next scan takes it for a change; " + ignore},
-	}
-	for _, one := range cases {
-		if told := permissionsAdvice(&File{Permissions: one.modes}, labels{laptop: "laptop", server: "server", phone: "phone"}); told != one.told {
-			t.Errorf("%s: %s", one.why, told)
+// modesOn records a mode of a name on two devices, of which the second one's disk has another one.
+func modesOn(folder *finding.Folder, name string) {
+	folder.Permissions.Add(finding.Permissions{Name: name, At: []finding.Bits{{Has: true, Index: 0o644, OnDisk: true, Disk: 0o644}, {Has: true, Index: 0o644, OnDisk: true, Disk: 0o600}}})
+}
+
+// Who is to change a mode is told so of names of which the modes alone differ: of others that may change what comes of them.
+func TestAModeIsToldAlone(t *testing.T) {
+	const told = "to do: 'chmod' it to the mode that is right on laptop, server, before Syncthing scans there; or choose 'Ignore Permissions' for the folder"
+	for _, isAlone := range []bool{true, false} {
+		text := printed(answerOf(2, func(folder *finding.Folder) {
+			modesOn(folder, "a")
+			if !isAlone {
+				fails(folder, "a", []*part.Name{file(2, 2), file(1, 1)}, "RecordDiffers 2")
+			}
+		}))
+		if strings.Contains(text, told) != isAlone || !strings.Contains(text, "permissions differ (they don't count for the verdict): laptop 0644; server 0644 recorded, 0600 on the disk") {
+			t.Error(text)
 		}
 	}
 }

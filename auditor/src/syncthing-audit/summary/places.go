@@ -23,11 +23,3 @@ func (p *places) each(named labels, say func(told, devices string)) {
 		say(word, named.all(p.devices[word]))
 	}
 }
-
-// say gives what is said of one device, or of several.
-func say(devices []string, one, several string) string {
-	if len(devices) == 1 {
-		return one
-	}
-	return several
-}

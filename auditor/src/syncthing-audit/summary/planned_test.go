@@ -14,12 +14,12 @@ import (
 
 // planFor gives an outlook with a plan for some names, and for so many below them.
 func planFor(below int64, names ...string) *outlook.Outlook {
-	plan := outlook.Plan{Count: int64(len(names)), Below: below, Goal: &outlook.Thing{Members: []int{0}, Type: forecast.File}, IsAll: true,
-		Steps: []outlook.Step{{Act: outlook.Copy, Member: 1, From: 0}}}
+	plan := outlook.Plan{Count: int64(len(names)), Below: below, Goal: &outlook.Thing{Devices: []string{laptop}, Type: forecast.File}, IsAll: true,
+		Steps: []outlook.Step{{Act: outlook.Copy, Device: server, From: laptop}}}
 	for _, name := range names {
 		plan.Names = append(plan.Names, part.Bytes(name))
 	}
-	return &outlook.Outlook{Names: 1, Count: map[outlook.Fate]int64{outlook.Lost: 1}, Plans: []outlook.Plan{plan}}
+	return &outlook.Outlook{Names: 1, Lost: 1, Plans: []outlook.Plan{plan}}
 }
 
 // The steps end with a start of all devices. Whatever an entry says to do before that, and no step puts right, comes before it.
@@ -34,7 +34,7 @@ func TestNothingStartsBeforeWhatHasNoSteps(t *testing.T) {
 			planFor(0, "a"), []string{"a", "b"}},
 		{"two have none", "for 2 names that no step here puts right: a/b b 3. start", planFor(0, "a"), []string{"a", "a/b", "b"}},
 		{"one comes back with what is above it", "2. start Syncthing on all its devices", planFor(1, "a"), []string{"a", "a/b"}},
-		{"a plan saves alone", "2. do what the entries below say to do before Syncthing starts or scans, for 1 name", func() *outlook.Outlook {
+		{"a plan saves alone", "2. start Syncthing on all its devices", func() *outlook.Outlook {
 			made := planFor(0, "a")
 			made.Plans[0].Goal, made.Plans[0].Steps[0].Act = nil, outlook.Save
 			return made

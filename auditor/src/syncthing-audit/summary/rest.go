@@ -6,6 +6,7 @@ import (
 
 	"golang.org/x/exp/slices"
 	"syncthing-audit/finding"
+	"syncthing-audit/part"
 	"syncthing-audit/shell"
 )
 
@@ -22,11 +23,7 @@ func (p *printer) rest(s *Summary) {
 			p.line("alone: %s is audited on one device, so there is nothing to compare it with", folder.ID)
 		}
 	}
-	p.own(s)
-	p.paused(s)
-	p.stopped(s)
-	p.asked(s)
-	p.writers(s)
+	p.members(s)
 	p.nearTimes(s)
 	for _, left := range s.LeftOut {
 		p.line("left out: %s: %s", left.called(), left.Why)
@@ -50,24 +47,61 @@ func (p *printer) rest(s *Summary) {
 	p.line("not compared: %s", strings.Join(s.NotCompared, ", "))
 }
 
-// own prints which folders are shared with nobody: no other device was asked about these.
-func (p *printer) own(s *Summary) {
-	own, apart := places{}, places{}
+// ofMembers prints something of members of folders, each text once with all devices of which it is told.
+func (p *printer) ofMembers(s *Summary, format string, tell func(folder *Folder, member *Member) []string) {
+	told := places{}
 	for _, folder := range s.Folders {
-		switch {
-		case folder.isApart:
-			apart.add(folder.ID, folder.Devices[0].Device)
-		case folder.Own:
-			own.add(shell.Folder(folder.ID, folder.Label), folder.Devices[0].Device)
+		for place := range folder.Devices {
+			for _, text := range tell(folder, &folder.Devices[place]) {
+				told.add(text, folder.Devices[place].Device)
+			}
 		}
 	}
-	own.each(p.named, func(folder, devices string) {
-		p.line("shared with no device: %s on %s: what stands on the disk was compared with the device's own index alone", folder, devices)
-	})
-	apart.each(p.named, func(folder, devices string) {
-		p.line("not shared with one another: %s on %s: each has a folder of this id, and shares it with no device. What stands on its disk was "+
-			"compared with its own index alone, and not with what the others have", folder, devices)
-	})
+	told.each(p.named, func(text, devices string) { p.line(format, text, devices) })
+}
+
+// folderIf names a folder of which something is so.
+func folderIf(is bool, folder *Folder, more string) []string {
+	if !is {
+		return nil
+	}
+	return []string{shell.Folder(folder.ID, folder.Label) + more}
+}
+
+// members prints which folders are shared with nobody: no other device was asked about these. It prints which folders and devices are paused where, what
+// Syncthing says there, and where Syncthing itself writes into a folder's directory, so that a scan finds changes that nobody made.
+func (p *printer) members(s *Summary) {
+	p.ofMembers(s, "shared with no device: %s on %s: what stands on the disk was compared with the device's own index alone",
+		func(folder *Folder, _ *Member) []string { return folderIf(folder.Own && !folder.isApart, folder, "") })
+	p.ofMembers(s, "not shared with one another: %s on %s: each has a folder of this id, and shares it with no device. What stands on its disk was "+
+		"compared with its own index alone, and not with what the others have",
+		func(folder *Folder, _ *Member) []string {
+			if folder.isApart {
+				return []string{folder.ID}
+			}
+			return nil
+		})
+	p.ofMembers(s, "paused: folder %s on %s", func(folder *Folder, member *Member) []string { return folderIf(member.Paused, folder, "") })
+	p.ofMembers(s, "paused: device %s on %s", func(_ *Folder, member *Member) []string { return p.named.each(member.PausedDevices) })
+	p.stopped(s)
+	p.asked(s)
+	p.ofMembers(s, "written by others: %s on %s: Syncthing writes and deletes in its directory for these, too. So it may not stay in step, nor firm",
+		func(folder *Folder, member *Member) []string {
+			return folderIf(len(member.Writers) > 0, folder, " by "+strings.Join(member.Writers, ", "))
+		})
+}
+
+// ofDevices prints something of devices, of each what is told behind its name; nothing where it is told of none.
+func (p *printer) ofDevices(s *Summary, format string, tell func(device *Device) (text string, is bool), more ...interface{}) {
+	told := []string{}
+	for place := range s.Devices {
+		if text, is := tell(&s.Devices[place]); is {
+			told = append(told, p.named.of(s.Devices[place].ID)+text)
+		}
+	}
+	if len(told) > 0 {
+		p.line(format, append([]interface{}{strings.Join(told, ", ")}, more...)...)
+	}
 }
 
 // nearTimes prints of how many files the time isn't as recorded, and Syncthing takes it for the same: no scan finds them changed.
@@ -89,15 +123,9 @@ const mostAge = 24 * time.Hour
 // ages tells which devices were read long ago. Parts can be of one moment by all indexes while bytes on a disk have changed
 // since by themselves.
 func (p *printer) ages(s *Summary) {
-	old := []string{}
-	for _, device := range s.Devices {
-		if !device.Read.IsZero() && p.now.Sub(device.Read) > mostAge {
-			old = append(old, p.named.of(device.ID)+" "+p.when(device.Read))
-		}
-	}
-	if len(old) > 0 {
-		p.line("read more than a day ago: %s; what changed on a disk since isn't seen", strings.Join(old, ", "))
-	}
+	p.ofDevices(s, "read more than a day ago: %s; what changed on a disk since isn't seen", func(device *Device) (string, bool) {
+		return " " + p.when(device.Read), !device.Read.IsZero() && p.now.Sub(device.Read) > mostAge
+	})
 }
 
 // doubts tells of which devices another index may have been read than Syncthing's present one, or one with a fault.
@@ -124,15 +152,10 @@ var tried = []string{"1.19", "1.29"}
 
 // untried tells which devices have another version of Syncthing than those.
 func (p *printer) untried(s *Summary) {
-	others := []string{}
-	for _, device := range s.Devices {
-		if device.Runs != "" && slices.IndexFunc(tried, func(version string) bool { return strings.HasPrefix(device.Runs, "v"+version+".") }) < 0 {
-			others = append(others, p.named.of(device.ID)+" "+shell.Printable(device.Runs))
-		}
-	}
-	if len(others) > 0 {
-		p.line("not tried with such a Syncthing: %s; it was with %s", strings.Join(others, ", "), strings.Join(tried, " and "))
-	}
+	p.ofDevices(s, "not tried with such a Syncthing: %s; it was with %s", func(device *Device) (string, bool) {
+		isTried := slices.IndexFunc(tried, func(version string) bool { return strings.HasPrefix(device.Runs, "v"+version+".") }) >= 0
+		return " " + shell.Printable(device.Runs), device.Runs != "" && !isTried
+	}, strings.Join(tried, " and "))
 }
 
 // mostCopies is how many conflict copies are told by their names.
@@ -248,4 +271,33 @@ func (p *printer) left(names Names) {
 		}
 		return why
 	}))
+}
+
+// unsigned tells whose parts anybody may have made who could write them.
+func (p *printer) unsigned(s *Summary) {
+	count := int64(0)
+	for _, device := range s.Devices {
+		if device.IsUnsigned {
+			count++
+		}
+	}
+	p.ofDevices(s, "not signed: "+counted(count, "part", "parts")+" of %s. No signature was checked, so whoever could write a part may have said this for its device (--allowed-signers FILE checks)",
+		func(device *Device) (string, bool) { return "", device.IsUnsigned })
+}
+
+// stopped prints on which devices, of those that were looked at twice, no Syncthing ran.
+func (p *printer) stopped(s *Summary) {
+	told := map[string][]string{}
+	for _, folder := range s.Folders {
+		for _, member := range folder.Devices {
+			if member.Rest == part.RestStopped {
+				told[member.Device] = addOnce(told[member.Device], folder.ID)
+			}
+		}
+	}
+	for _, device := range s.Devices {
+		if len(told[device.ID]) > 0 {
+			p.line("not running: Syncthing on %s (%s)", p.named.of(device.ID), strings.Join(told[device.ID], ", "))
+		}
+	}
 }

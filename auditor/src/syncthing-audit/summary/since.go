@@ -34,8 +34,14 @@ func (p *printer) history(since *history.Since) {
 	if since == nil {
 		return
 	}
-	p.changedEverywhere(since)
-	p.changedAndRecorded(since)
+	p.changed(since.Count, since.Changed, "on all devices that have it, under one time and size. No comparison of devices shows that", func(day, _ string) string {
+		return ". If nobody changed it, 'syncthing-audit find' looks among backups and old versions of before " + day + " for its bytes"
+	})
+	// Whatever takes them from where they are recorded so loses the bytes before.
+	p.changed(since.Takes, since.Taken, "where it is recorded so, under one time and size, and devices that lack it take it. The answer below takes it for an edit", func(_, devices string) string {
+		return ", and are recorded there. If nobody changed it, first copy it elsewhere from a device or a backup that has the bytes before ('syncthing-audit find' looks for them), " +
+			"and take no step below that sends it from " + devices
+	})
 	switch {
 	case since.Before != nil:
 		p.news(since)
@@ -50,41 +56,20 @@ func (p *printer) history(since *history.Since) {
 	}
 }
 
-// changedEverywhere tells of files whose bytes changed under one time on all devices.
-func (p *printer) changedEverywhere(since *history.Since) {
-	if since.Count == 0 {
+// changed tells of files whose bytes changed under one time, and what to do if nobody changed them.
+func (p *printer) changed(count int64, all []history.Changed, on string, toDo func(since, devices string) string) {
+	if count == 0 {
 		return
 	}
-	p.line("%s on all devices that have it, under one time and size. No comparison of devices shows that",
-		counted(since.Count, "file has other bytes than before", "files have other bytes than before, each"))
-	for _, changed := range since.Changed[:shown(len(since.Changed))] {
-		p.line("  %s in %s: its bytes changed between %s and %s on %s. If nobody changed it, 'syncthing-audit find' looks among backups and old versions of before %s for its bytes. "+
-			"A program that puts a file's time back after it wrote looks the same", shell.Quoted(string(changed.Name)), changed.Folder, p.day(changed.Before), p.day(changed.Since),
-			p.named.all(changed.Devices), p.day(changed.Since))
+	p.line("%s %s", counted(count, "file has other bytes than before", "files have other bytes than before, each"), on)
+	for _, one := range all[:shown(len(all))] {
+		devices := p.named.all(one.Devices)
+		p.line("  %s in %s: its bytes changed between %s and %s on %s%s. A program that puts a file's time back after it wrote looks the same", shell.Quoted(string(one.Name)),
+			one.Folder, p.day(one.Before), p.day(one.Since), devices, toDo(p.day(one.Since), devices))
 	}
-	p.notShown(since.Count, len(since.Changed))
-}
-
-// notShown says how many files aren't shown of all, and how many of them are kept.
-func (p *printer) notShown(all int64, kept int) {
-	if more := all - int64(shown(kept)); more > 0 {
-		p.line("  and %s more (--json has %s of them)", thousands(more), thousands(int64(kept)))
+	if more := count - int64(shown(len(all))); more > 0 {
+		p.line("  and %s more (--json has %s of them)", thousands(more), thousands(int64(len(all))))
 	}
-}
-
-// changedAndRecorded tells of files whose bytes changed under one time where they are recorded: whatever takes them from there loses the bytes before.
-func (p *printer) changedAndRecorded(since *history.Since) {
-	if since.Takes == 0 {
-		return
-	}
-	p.line("%s where it is recorded so, under one time and size, and devices that lack it take it. The answer below takes it for an edit",
-		counted(since.Takes, "file has other bytes than before", "files have other bytes than before, each"))
-	for _, taken := range since.Taken[:shown(len(since.Taken))] {
-		p.line("  %s in %s: its bytes changed between %s and %s on %s, and are recorded there. If nobody changed it, first copy it elsewhere from a device or a backup that has the bytes "+
-			"before ('syncthing-audit find' looks for them), and take no step below that sends it from %s. A program that puts a file's time back after it wrote looks the same",
-			shell.Quoted(string(taken.Name)), taken.Folder, p.day(taken.Before), p.day(taken.Since), p.named.all(taken.Devices), p.named.all(taken.Devices))
-	}
-	p.notShown(since.Takes, len(since.Taken))
 }
 
 // news says what is new since the audit before.

@@ -3,14 +3,16 @@
 package summary
 
 import (
+	"io"
 	"time"
 
 	"syncthing-audit/choice"
 	"syncthing-audit/finding"
 	"syncthing-audit/history"
 	"syncthing-audit/join"
+	"syncthing-audit/outlook"
+	"syncthing-audit/outside"
 	"syncthing-audit/part"
-	"syncthing-audit/print"
 	"syncthing-audit/shell"
 )
 
@@ -38,10 +40,10 @@ type Summary struct {
 	NotTold     []string   `json:"not_told"`          // devices whose parts don't say which folders they haven't
 	NotCompared []string   `json:"not_compared"`
 
-	Observers []Observer     `json:"observers,omitempty"` // devices that share a folder, keep no files of it, and weren't asked
-	Since     *history.Since `json:"since,omitempty"`     // what a history says beside the answer
-	isByName  bool           // whether the folders were asked for by their ids
-	byNames   bool           // whether the names were asked for by how they begin
+	Observers []join.Observer `json:"observers,omitempty"` // devices that share a folder, keep no files of it, and weren't asked
+	Since     *history.Since  `json:"since,omitempty"`     // what a history says beside the answer
+	isByName  bool            // whether the folders were asked for by their ids
+	byNames   bool            // whether the names were asked for by how they begin
 	actions   *actions
 }
 
@@ -79,36 +81,36 @@ func sliceOf(names choice.Names) *Slice {
 
 // Folder is what was found in a folder.
 type Folder struct {
-	ID      string   `json:"id"`
-	Label   string   `json:"label"`
-	Verdict string   `json:"verdict"`
-	Names   int64    `json:"names"`
-	Deleted int64    `json:"deleted"`
-	Going   int64    `json:"being_deleted"`
-	Bytes   int64    `json:"bytes_hashed"`
-	Devices []Member `json:"devices"`
-	Wrong   int64    `json:"names_wrong"` // files, directories and symlinks that keep the folder from being in step
-	Files   []*File  `json:"files"`
-	Groups  []*Group `json:"groups"`
-	Copies  []Copy   `json:"conflict_copies"`
-	LeftOut []Names  `json:"left_out"`
-	MoreOut Count    `json:"left_out_unlisted"`
-	More    Count    `json:"conflict_copies_unlisted"`
-	Ignored Count    `json:"ignored"`
-	Own     bool     `json:"not_shared,omitempty"` // its one device shares it with nobody: it was compared with that one's own index
-	modes   int64    // names of which the permissions alone differ, which don't count for the verdict
-	isApart bool     // whether other devices have theirs of this id, which they share with nobody, too
-	Live    *Live    `json:"live,omitempty"` // of devices that were looked at while they ran
-	Firm    Firm     `json:"firm"`
-	Loose   int64    `json:"names_not_firm"`           // that keep a folder in step from being firm
-	NotFirm []Loose  `json:"not_firm"`                 // the first of these names
-	Unsure  []Unsure `json:"not_known_firm,omitempty"` // what may change a folder in step that is otherwise firm
+	ID      string             `json:"id"`
+	Label   string             `json:"label"`
+	Verdict string             `json:"verdict"`
+	Names   int64              `json:"names"`
+	Deleted int64              `json:"deleted"`
+	Going   int64              `json:"being_deleted"`
+	Bytes   int64              `json:"bytes_hashed"`
+	Devices []Member           `json:"devices"`
+	Wrong   int64              `json:"names_wrong"` // files, directories and symlinks that keep the folder from being in step
+	Files   []*File            `json:"files"`
+	Groups  []*Group           `json:"groups"`
+	Copies  []finding.Conflict `json:"conflict_copies"`
+	LeftOut []Names            `json:"left_out"`
+	MoreOut Count              `json:"left_out_unlisted"`
+	More    Count              `json:"conflict_copies_unlisted"`
+	Ignored Count              `json:"ignored"`
+	Own     bool               `json:"not_shared,omitempty"` // its one device shares it with nobody: it was compared with that one's own index
+	modes   int64              // names of which the permissions alone differ, which don't count for the verdict
+	isApart bool               // whether other devices have theirs of this id, which they share with nobody, too
+	Live    *Live              `json:"live,omitempty"` // of devices that were looked at while they ran
+	Firm    Firm               `json:"firm"`
+	Loose   int64              `json:"names_not_firm"`           // that keep a folder in step from being firm
+	NotFirm []Loose            `json:"not_firm"`                 // the first of these names
+	Unsure  []Unsure           `json:"not_known_firm,omitempty"` // what may change a folder in step that is otherwise firm
 
 	Converging finding.Converging `json:"converging,omitempty"`     // of a folder not in step: whether its records lead to one end
 	Hindrance  *Hindrance         `json:"not_converging,omitempty"` // the first thing that hinders it, in syncaudit's words
 	Pairs      *int64             `json:"pairs_to_come,omitempty"`  // of a name and a device, in a folder that converges
 
-	Outlook *print.Outlook `json:"outlook,omitempty"` // what happens if nobody does anything; nothing where an older program made the export
+	Outlook *outlook.Outlook `json:"outlook,omitempty"` // what happens if nobody does anything; nothing where an older program made the export
 
 	lacksOutlook bool // of a folder not in step
 }
@@ -143,22 +145,13 @@ func memberOf(member join.Member) Member {
 		told.Wanted = wantedOf(member.About.Rest)
 	}
 	if member.Temporary != nil && member.Temporary.Names > 0 {
-		told.Temporary = &Count{member.Temporary.Names, member.Temporary.Bytes}
+		told.Temporary = member.Temporary
 	}
 	return told
 }
 
-// Copy is a conflict copy that lies about.
-type Copy struct {
-	Name  Text  `json:"name"`
-	Bytes int64 `json:"bytes"`
-}
-
 // Count is of names that aren't listed: of those that .stignore keeps out of the folder everywhere, or of further ones.
-type Count struct {
-	Names int64 `json:"names"`
-	Bytes int64 `json:"bytes"`
-}
+type Count = part.Count
 
 // Names are a name that was left out on request, or all names below it.
 type Names struct {
@@ -202,25 +195,21 @@ var notCompared = []string{"owners", "extended attributes", "old versions"}
 // Of gives the summary of an answer.
 func Of(answer *finding.Answer) *Summary {
 	summary := &Summary{Version: Version, Verdict: verdictOf(answer), Firm: answer.HowFirm(), Devices: []Device{}, Folders: []*Folder{}, LeftOut: []LeftOut{},
-		NotAsked: notAsked(answer), NotTold: notTold(answer), NotCompared: notCompared, isByName: answer.IsByName, byNames: answer.ByNames}
+		NotAsked: notAsked(answer), NotTold: notTold(answer), NotCompared: notCompared, Observers: answer.Observers, isByName: answer.IsByName, byNames: answer.ByNames}
 	asked := askedOf(answer)
 	for _, device := range answer.Devices {
 		names := asked[device.ID]
 		summary.Devices = append(summary.Devices, Device{device.ID, device.Name, device.Made, device.From, device.Runs, Text(names.Prefix), sliceOf(names), device.Index, device.Newer, device.ToRepair, device.IsUnsigned, names})
 	}
 	named := summary.labels()
-	summary.actions = &actions{safe: map[string][]int{}, damaged: map[string]int64{}, waits: map[string]*waiting{}, grown: map[string]int64{}, added: map[string]int64{},
-		changed: map[string]int64{}, taken: map[string][]int{}, reverts: map[string][]int{}, started: map[string][]int{}}
+	summary.actions = newActions()
 	names := []*folding{}
 	for _, folder := range answer.Folders {
-		all := &folding{named: named, to: summary.actions, alike: map[string]*alike{}, lacking: map[lacked]int64{}}
+		all := &folding{named: named, to: summary.actions, alike: map[string]*alike{}, name: shell.Folder(folder.ID, folder.Label)}
 		summary.Folders, names = append(summary.Folders, folderOf(answer, folder, all)), append(names, all)
 	}
 	for place, folder := range summary.Folders { // what is told of one name depends on what is told of all others
 		folder.Files, folder.Groups = names[place].end()
-	}
-	for _, observer := range answer.Observers {
-		summary.Observers = append(summary.Observers, Observer{observer.Folder, observer.Device, observer.Name})
 	}
 	summary.First = summary.firstOf(named)
 	for _, refusal := range answer.LeftOut {
@@ -271,7 +260,7 @@ func verdictOf(answer *finding.Answer) string {
 // folderOf gives the summary of a folder, but for what is told of its names, which it puts there.
 func folderOf(answer *finding.Answer, from *finding.Folder, all *folding) *Folder {
 	folder := &Folder{ID: from.ID, Label: from.Label, Own: from.Own != "", isApart: answer.IsApart(from), Verdict: InStep, Names: from.Names, Deleted: from.Deleted, Going: from.Deleting, Bytes: from.Bytes,
-		Devices: []Member{}, Files: []*File{}, Groups: []*Group{}, Copies: []Copy{}, LeftOut: []Names{}, Ignored: Count(from.Outside), MoreOut: Count(from.Unlisted.LeftOut), More: Count(from.Unlisted.Conflicts)}
+		Devices: []Member{}, Files: []*File{}, Groups: []*Group{}, Copies: append([]finding.Conflict{}, from.Conflicts...), LeftOut: []Names{}, Ignored: from.Outside, MoreOut: from.Unlisted.LeftOut, More: from.Unlisted.Conflicts}
 	switch {
 	case from.HasFailures():
 		folder.Verdict = NotInStep
@@ -281,21 +270,21 @@ func folderOf(answer *finding.Answer, from *finding.Folder, all *folding) *Folde
 	for _, member := range from.Members {
 		folder.Devices = append(folder.Devices, memberOf(member))
 	}
-	folder.Outlook = print.OutlookOf(from.Outlook, devicesIn(folder))
+	if from.Outlook != nil {
+		told := *from.Outlook
+		folder.Outlook = &told
+	}
 	foretell := foreteller(folder, all.named)
-	without := &withoutSteps{planned: plannedIn(from.Outlook)}
 	from.EachName(func(told *finding.Told) {
 		file := fileOf(from, told)
 		file.isOfSum, file.foretold = answer.IsSum, foretell(told.Name)
-		file.noteParents(from)
 		all.take(file)
-		without.note(file)
+		if folder.Outlook != nil && len(file.withoutSteps()) > 0 {
+			folder.Outlook.AddWithoutSteps(told.Name)
+		}
 	})
 	folder.Wrong, folder.modes = all.wrong, all.modes
 	all.to.noteWaiting(from)
-	for _, conflict := range from.Conflicts {
-		folder.Copies = append(folder.Copies, Copy{Text(conflict.Name), conflict.Bytes})
-	}
 	for _, left := range from.LeftOut {
 		folder.LeftOut = append(folder.LeftOut, namesOf(from, left))
 	}
@@ -306,9 +295,6 @@ func folderOf(answer *finding.Answer, from *finding.Folder, all *folding) *Folde
 	folder.Converging, folder.Hindrance = answer.HowConverging(from), hindranceOf(from)
 	if folder.Converging == finding.Converges {
 		folder.Pairs = from.Convergence.Pairs
-	}
-	if folder.Outlook != nil {
-		folder.Outlook.WithoutSteps, folder.Outlook.FirstWithout = without.count, without.first
 	}
 	folder.lacksOutlook = answer.IsSum && from.Outlook == nil && folder.Verdict == NotInStep
 	return folder
@@ -345,3 +331,11 @@ func askedOf(answer *finding.Answer) map[string]choice.Names {
 	}
 	return asked
 }
+
+// WriteJSON writes a summary for programs, on one line. auditor/audit.schema.json is its schema.
+func (s *Summary) WriteJSON(to io.Writer) error {
+	return outside.PrintJSON(to, s)
+}
+
+// Called gives how a person reads each device's id: by the device's name.
+func (s *Summary) Called() func(device string) string { return s.labels().of }

@@ -7,6 +7,7 @@ import (
 	"strings"
 	"time"
 
+	"golang.org/x/exp/slices"
 	"syncthing-audit/damage"
 	"syncthing-audit/finding"
 	"syncthing-audit/outside"
@@ -92,99 +93,14 @@ func (p *printer) folder(folder *Folder) {
 	p.line("%s: %s; %s (%s), %s hashed on %s%s", shell.Folder(folder.ID, folder.Label), verdict, names, deleted, size(folder.Bytes), p.named.all(devicesIn(folder)), moving)
 }
 
-// group prints names with the same fault as one entry.
-func (p *printer) group(folder *Folder, group *Group) {
-	p.line("\n%s in %s: %s%s", counted(group.Names, "name", "names"), folder.ID, size(group.Bytes), p.unsized(group))
-	if group.Cause == Permissions {
-		p.modes(group.Modes)
-	}
-	for _, device := range group.Devices {
-		words := p.wordsOfMany(group, device)
-		if group.Deleted {
-			words = "behind: hasn't deleted them yet"
-		}
-		p.line("  %s: %s", p.named.of(device), words)
-	}
-	first := []string{}
-	for _, name := range group.First {
-		first = append(first, shell.Path(string(name)))
-	}
-	p.line("  the first: %s, and %s more (--lines has all)", strings.Join(first, " "), thousands(group.Names-int64(len(first))))
-	if len(group.Have) > 0 && group.Cause != Permissions {
-		p.have(group.Have, group.isOfAnotherTime, group.of.isDeletionDue())
-	}
-	p.foretold(group.Foretold)
-	p.advice(group.Advice)
-}
-
-func (p *printer) unsized(group *Group) string {
-	if group.Unsized == 0 {
-		return ""
-	}
-	return fmt.Sprintf(", without %s whose details weren't kept", counted(group.Unsized, "name", "names"))
-}
-
-// file prints the entry of a name. Of a directory that a disk fails to give, whose name ends with a slash, it isn't known who has what is
-// below it.
-func (p *printer) file(folder *Folder, file *File) {
-	about := "in " + folder.ID
-	if file.Size > 0 {
-		about += ", " + size(file.Size)
-	}
-	p.line("\n%s  (%s)", shell.Path(string(file.Name)), about)
-	for next := range file.Faults {
-		p.fault(&file.Faults[next])
-	}
-	p.renamed(file)
-	for _, same := range file.Same {
-		p.line("  the same other bytes on: %s", p.named.all(same))
-	}
-	p.modes(file.Permissions)
-	if len(file.Faults) > 0 && !isOfNobody(file) && !strings.HasSuffix(string(file.Name), "/") {
-		p.have(file.Have, file.isOfAnotherTime, file.isDeletionDue())
-	}
-	if len(file.Follows) > 0 && !file.isTied() {
-		p.line("  so %s can still take another version of it, until that is mended", p.named.all(devicesOf(file.Follows)))
-	}
-	p.foretold(file.Foretold)
-	p.advice(file.Advice)
-}
-
-// have prints which devices have what is due, be it with another time.
-func (p *printer) have(devices []string, isOfAnotherTime, isDeletion bool) {
-	switch {
-	case isDeletion && len(devices) > 0:
-		p.line("  deleted on: %s", p.named.all(devices))
-	case len(devices) == 0:
-		p.line("  as recorded on: no audited device")
-	case isOfAnotherTime:
-		p.line("  the recorded bytes on: %s", p.named.all(devices))
-	default:
-		p.line("  as recorded on: %s", p.named.all(devices))
-	}
-}
-
 // isOfNobody says whether a name has no winner, so that there is nothing that devices should have.
 func isOfNobody(file *File) bool {
-	for _, fault := range file.Faults {
-		if len(fault.Reasons) == 1 && fault.Reasons[0] == "NotWinner" {
-			return true
-		}
-	}
-	return false
-}
-
-func devicesOf(follows []Follow) []string {
-	devices := []string{}
-	for _, follow := range follows {
-		devices = addOnce(devices, follow.Device)
-	}
-	return devices
+	return slices.IndexFunc(file.Faults, func(fault Fault) bool { return len(fault.Reasons) == 1 && fault.Reasons[0] == "NotWinner" }) >= 0
 }
 
 // wordsOf say what is wrong.
 var wordsOf = map[Cause]string{
-	OtherBytes:    "other bytes on the disk; size and time are as recorded, so no scan sees it",
+	OtherBytes:    "other bytes on the disk; size and time are as recorded",
 	Changed:       "changed on the disk since the last scan",
 	Missing:       "missing on the disk",
 	Back:          "on the disk, though it is deleted",
@@ -201,53 +117,68 @@ var wordsOf = map[Cause]string{
 	Differs:       "differs; details weren't kept",
 }
 
-// fault prints what is wrong on a device, and since when.
-func (p *printer) fault(fault *Fault) {
-	p.line("  %s: %s%s", p.named.of(fault.Device), p.wordsOf(fault), p.since(fault))
-	if fault.Found != nil && fault.Found.Unread > 0 {
-		p.line("    its last %s weren't read: it is that much longer than any record, so it isn't what is recorded, and which devices have the same "+
-			"bytes isn't known", size(fault.Found.Unread))
+// wordsOfFaults say what is wrong with a name on a device, or with several names whose faults are alike.
+func wordsOfFaults(faults []*Fault, isMany bool) string {
+	fault, it := faults[0], "it"
+	if isMany {
+		it = "them"
 	}
-	if fault.Blocks == nil || fault.Blocks.Of < 1 {
-		return
-	}
-	p.line("    %s (%s of %s of %d KiB; the first is block 0)", differing(fault.Blocks), thousands(fault.Blocks.Count),
-		counted(fault.Blocks.Of, "block", "blocks"), fault.Blocks.Size>>10)
-	if fault.Blocks.Recorded != "" && fault.Blocks.Found != "" {
-		p.line("    the first of them: SHA-256 %s.. recorded, %s.. on the disk", fault.Blocks.Recorded[:8], fault.Blocks.Found[:8])
-	}
-}
-
-func (p *printer) wordsOf(fault *Fault) string {
 	switch {
-	case fault.Cause == Differs && fault.Why != "":
+	case fault.Cause == Differs && fault.Why != "" && !isMany:
 		return fault.Why
 	case fault.mayBeEdit():
 		return "other bytes on the disk, of the recorded size: rot, or an edit that no scan has taken" + fault.ofDamage()
-	case fault.isSeen:
-		return "other bytes on the disk; size and time are as recorded, the mode isn't, so the next scan sees it"
-	case fault.mayShow():
-		return "other bytes on the disk; size and time are as recorded, but a scan of owners or attributes may see it"
 	case fault.isTied:
-		return "has something else under the same version, so Syncthing takes the two for the same"
+		return "has something else under the same version"
 	case fault.Cause == Behind && fault.Deletion:
-		return "behind: hasn't deleted it yet"
-	case fault.Cause == Behind && fault.Recorded == nil:
-		return "behind: doesn't have it yet"
+		return "behind: hasn't deleted " + it + " yet"
+	case fault.isWithout():
+		return "behind: doesn't have " + it + " yet"
 	case fault.Cause == Conflicting && fault.Deletion:
-		return "in conflict: deleted it, and lacks a change of it"
+		return "in conflict: deleted " + it + ", and lacks a change of " + it
 	case fault.Cause == LocalChange && fault.Deletion:
 		return "deleted on this receive-only device"
 	case fault.Cause == LocalChange && fault.Due != nil && fault.Due.Deleted:
-		return "changed on this receive-only device, while the others have deleted it"
+		return "changed on this receive-only device, while the others have deleted " + it
 	case fault.Cause == Changed && fault.Recorded != nil && fault.Found != nil && fault.Recorded.Type != fault.Found.Type:
 		return fmt.Sprintf("a %s on the disk, recorded as a %s", fault.Found.Type, fault.Recorded.Type)
 	case fault.Cause == Changed && fault.isFileForFile():
-		return wordsOfChanged([]*Fault{fault})
-	case fault.Cause == OtherBytes && fault.Damage != damage.None:
+		return wordsOfChanged(faults)
+	case fault.Cause == OtherBytes:
 		return wordsOf[OtherBytes] + fault.ofDamage()
 	}
 	return wordsOf[fault.Cause]
+}
+
+// wordsOfDamage say why what stands on a disk looks like damage.
+var wordsOfDamage = map[damage.Kind]string{
+	damage.Emptied:   "EMPTY",
+	damage.Zeros:     "all of it is ZEROS",
+	damage.Cut:       "cut short under the recorded time",
+	damage.ZeroBlock: "a block of it is all zeros now",
+	damage.OverZeros: "all that is recorded is zeros, under the recorded time",
+	damage.Longer:    "more bytes than recorded under the recorded time",
+}
+
+// wordsOfChanged say what changed in files: of one, or of many together.
+func wordsOfChanged(faults []*Fault) string {
+	recorded, found := int64(0), int64(0)
+	for _, fault := range faults {
+		recorded, found = recorded+fault.Recorded.Size, found+fault.Found.Size
+	}
+	words := wordsOf[Changed]
+	why := faults[0].Damage
+	if why != damage.None && !why.MayBeOfRecord() {
+		words = "looks damaged"
+	}
+	if recorded != found {
+		words += ": " + size(recorded) + " recorded, " + size(found) + " on the disk"
+	}
+	words += faults[0].ofDamage()
+	if why.MayBeOfRecord() {
+		words += ": nobody can tell which bytes are the right ones"
+	}
+	return words
 }
 
 // since says when a file was modified, as far as that is known. For a deletion it says of when the deletion is.
@@ -257,7 +188,7 @@ func (p *printer) since(fault *Fault) string {
 		return " (" + fault.Why + ")"
 	case fault.isTied || fault.Cause == Behind && fault.Due.isUndated() || fault.Cause == LocalChange && fault.Recorded.isUndated():
 		return ""
-	case fault.mayBeEdit() && fault.Recorded != nil:
+	case fault.isOverWire && (fault.Cause == OtherBytes || fault.Cause == Changed) && fault.isFileForFile():
 		return " (recorded as modified " + p.when(*fault.Recorded.Modified) + ")"
 	case fault.Cause == OtherBytes && fault.Recorded != nil:
 		return " (modified " + p.when(*fault.Recorded.Modified) + ")"

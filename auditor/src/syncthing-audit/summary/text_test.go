@@ -28,56 +28,55 @@ var textsForAPerson = []struct {
 		fails(folder, "my budget.txt", []*part.Name{file(1, 1), with(file(1, 1), rotten)}, "StoreDiffers 2")
 	}, lineOfFolder + `
 'my budget.txt'  (in docs, 300.0 kB)
-  server: other bytes on the disk; size and time are as recorded, so no scan sees it (modified 2020-09-13 12:26:40 UTC)
+  server: other bytes on the disk; size and time are as recorded (modified 2020-09-13 12:26:40 UTC)
     block 2 differs (1 of 3 blocks of 128 KiB; the first is block 0)
     the first of them: SHA-256 abcd0000.. recorded, 12000000.. on the disk
   as recorded on: laptop
-  if nothing is done: it isn't known what happens: a program of 0.14.0 or before made the export.
+  if nothing is done: it isn't known what happens: a program of 0.16.0 or before made the export.
   to do: before Syncthing starts or scans on any of these devices, copy elsewhere what is to stay of
          what stands on laptop, server.
-  to do: to have again what server recorded, copy elsewhere first what stands there, if it may be
-         right, and copy it from laptop to server with its time alone (cp --preserve=timestamps, or
-         rsync --inplace --times --ignore-times) while Syncthing is stopped there.
+  to do: to have again what server recorded, copy it from laptop to server with its time alone, into
+         the file that stands there (cp --preserve=timestamps, or rsync --inplace --times
+         --ignore-times) while Syncthing is stopped there.
 ` + lastLine},
 	{"a file of other bytes where scans look at attributes", 2, func(folder *finding.Folder) {
 		folder.Members[1].About.ScansAttributes = true
 		fails(folder, "a", []*part.Name{file(1, 1), with(file(1, 1), rotten)}, "StoreDiffers 2")
 	}, lineOfFolder + `
 a  (in docs, 300.0 kB)
-  server: other bytes on the disk; size and time are as recorded, but a scan of owners or attributes may see it (modified 2020-09-13 12:26:40 UTC)
+  server: other bytes on the disk; size and time are as recorded (modified 2020-09-13 12:26:40 UTC)
     block 2 differs (1 of 3 blocks of 128 KiB; the first is block 0)
     the first of them: SHA-256 abcd0000.. recorded, 12000000.. on the disk
   as recorded on: laptop
-  if nothing is done: it isn't known what happens: a program of 0.14.0 or before made the export.
+  if nothing is done: it isn't known what happens: a program of 0.16.0 or before made the export.
   to do: before Syncthing starts or scans on any of these devices, copy elsewhere what is to stay of
          what stands on laptop, server.
-  to do: to have again what server recorded, copy elsewhere first what stands there, if it may be
-         right, and copy it from laptop to server with its time alone, into the file that stands
-         there (cp --preserve=timestamps, or rsync --inplace --times --ignore-times) while Syncthing
-         is stopped there: that file keeps its owner and attributes.
+  to do: to have again what server recorded, copy it from laptop to server with its time alone, into
+         the file that stands there (cp --preserve=timestamps, or rsync --inplace --times
+         --ignore-times) while Syncthing is stopped there.
 ` + lastLine},
 	{"the same other bytes on two devices, under a name like an option", 3, func(folder *finding.Folder) {
 		fails(folder, "-rf", []*part.Name{file(1, 1), with(file(1, 1), rotten), with(file(1, 1), rotten)}, "StoreDiffers 2", "StoreDiffers 3")
 	}, `docs (Documents): NOT in step, 1 name is wrong; 1,204 names (4 deleted), 335.2 MB hashed on laptop, phone, server
 
 ./-rf  (in docs, 300.0 kB)
-  phone: other bytes on the disk; size and time are as recorded, so no scan sees it (modified 2020-09-13 12:26:40 UTC)
+  phone: other bytes on the disk; size and time are as recorded (modified 2020-09-13 12:26:40 UTC)
     block 2 differs (1 of 3 blocks of 128 KiB; the first is block 0)
     the first of them: SHA-256 abcd0000.. recorded, 12000000.. on the disk
-  server: other bytes on the disk; size and time are as recorded, so no scan sees it (modified 2020-09-13 12:26:40 UTC)
+  server: other bytes on the disk; size and time are as recorded (modified 2020-09-13 12:26:40 UTC)
     block 2 differs (1 of 3 blocks of 128 KiB; the first is block 0)
     the first of them: SHA-256 abcd0000.. recorded, 12000000.. on the disk
   the same other bytes on: phone, server
   as recorded on: laptop
-  if nothing is done: it isn't known what happens: a program of 0.14.0 or before made the export.
+  if nothing is done: it isn't known what happens: a program of 0.16.0 or before made the export.
   to do: before Syncthing starts or scans on any of these devices, copy elsewhere what is to stay of
          what stands on laptop, phone, server.
-  to do: to have again what phone recorded, copy elsewhere first what stands there, if it may be
-         right, and copy it from laptop to phone with its time alone (cp --preserve=timestamps, or
-         rsync --inplace --times --ignore-times) while Syncthing is stopped there.
-  to do: to have again what server recorded, copy elsewhere first what stands there, if it may be
-         right, and copy it from laptop to server with its time alone (cp --preserve=timestamps, or
-         rsync --inplace --times --ignore-times) while Syncthing is stopped there.
+  to do: to have again what phone recorded, copy it from laptop to phone with its time alone, into
+         the file that stands there (cp --preserve=timestamps, or rsync --inplace --times
+         --ignore-times) while Syncthing is stopped there.
+  to do: to have again what server recorded, copy it from laptop to server with its time alone, into
+         the file that stands there (cp --preserve=timestamps, or rsync --inplace --times
+         --ignore-times) while Syncthing is stopped there.
 ` + lastLine},
 	{"a symlink, whose record has no time, that a device lacks", 2, func(folder *finding.Folder) {
 		link := &part.Name{Own: &part.Record{Type: 4, Target: "a", ModifiedBy: 1, Version: [][2]uint64{{1, 1}}, Sequence: 1}, Disk: &part.Node{Type: 4, Target: "a"}}
@@ -86,12 +85,9 @@ a  (in docs, 300.0 kB)
 link  (in docs)
   server: behind: doesn't have it yet
   as recorded on: laptop
-  if nothing is done: it isn't known what happens: a program of 0.14.0 or before made the export.
+  if nothing is done: it isn't known what happens: a program of 0.16.0 or before made the export.
   to do: before Syncthing starts or scans on any of these devices, copy elsewhere what is to stay of
          what stands on laptop.
-  to do: let Syncthing run on server and on laptop, and let them finish. If it stays so, see whether
-         a device or the folder is paused, whether they are connected, whether a disk is full, and
-         whether Syncthing's page lists 'Failed Items'.
 ` + lastLine},
 	{"a deletion on its way", 2, func(folder *finding.Folder) {
 		folder.Deleting = 1
@@ -101,26 +97,24 @@ link  (in docs)
 a  (in docs, 300.0 kB)
   server: behind: hasn't deleted it yet (since 2020-09-13 12:27:40 UTC)
   deleted on: laptop
-  if nothing is done: it isn't known what happens: a program of 0.14.0 or before made the export.
+  if nothing is done: it isn't known what happens: a program of 0.16.0 or before made the export.
   to do: before Syncthing starts or scans on any of these devices, copy elsewhere what is to stay of
          what stands on server.
-  to do: let Syncthing run on server and on laptop, and let them finish. If it stays so, see whether
-         a device or the folder is paused, whether they are connected, whether a disk is full, and
-         whether Syncthing's page lists 'Failed Items'; or 'Ignore Delete' is set for the folder on
-         server.
 ` + lastLine},
 	{"a missing file", 2, func(folder *finding.Folder) {
 		fails(folder, "a", []*part.Name{file(1, 1), with(file(1, 1), func(one *part.Name) { one.Disk = nil })}, "StoreDiffers 2")
 	}, lineOfFolder + `
+first, on server: see that the disk of docs (Documents) is mounted before Syncthing starts or scans there: 1 name is missing
+
 a  (in docs, 300.0 kB)
   server: missing on the disk
   as recorded on: laptop
-  if nothing is done: it isn't known what happens: a program of 0.14.0 or before made the export.
-  to do: first see that the folder's disk is mounted on server: a scan there takes it for deleted.
+  if nothing is done: it isn't known what happens: a program of 0.16.0 or before made the export.
   to do: before Syncthing starts or scans on any of these devices, copy elsewhere what is to stay of
          what stands on laptop.
   to do: to have again what server recorded, copy it from laptop to server as it is (cp -a, or rsync
-         -aI, as the user who runs Syncthing there) while Syncthing is stopped there.
+         -aIX, as the user who runs Syncthing there), with the directories above that aren't there,
+         while Syncthing is stopped there.
 ` + lastLine},
 	{"a device that took one of two changes, and lacks the other one", 2, func(folder *finding.Folder) {
 		fails(folder, "a", []*part.Name{file(1, 1), with(file(1, 2), func(one *part.Name) { one.Own.Version = [][2]uint64{{2, 1}} })}, "RecordDiffers 2",
@@ -129,11 +123,9 @@ a  (in docs, 300.0 kB)
 a  (in docs, 300.0 kB)
   server: in conflict: has one change of it, and lacks another
   as recorded on: laptop
-  if nothing is done: it isn't known what happens: a program of 0.14.0 or before made the export.
+  if nothing is done: it isn't known what happens: a program of 0.16.0 or before made the export.
   to do: before Syncthing starts or scans on any of these devices, copy elsewhere what is to stay of
          what stands on laptop, server.
-  to do: once what is to stay is saved, let Syncthing run on all of these devices, connected, until
-         it is idle. Then audit again.
 ` + lastLine},
 	{"a device that is behind, and what others still see of it", 3, func(folder *finding.Folder) {
 		old := with(file(1, 2), func(one *part.Name) { one.Own.ModifiedS = started - 60; one.Disk.ModifiedS = started - 60 })
@@ -143,13 +135,9 @@ a  (in docs, 300.0 kB)
 a  (in docs, 300.0 kB)
   server: behind: hasn't taken what is newest (modified 2020-09-13 12:26:40 UTC)
   as recorded on: laptop, phone
-  so phone can still take another version of it, until that is mended
-  if nothing is done: it isn't known what happens: a program of 0.14.0 or before made the export.
+  if nothing is done: it isn't known what happens: a program of 0.16.0 or before made the export.
   to do: before Syncthing starts or scans on any of these devices, copy elsewhere what is to stay of
          what stands on laptop, server.
-  to do: let Syncthing run on server and on one of laptop, phone, and let them finish. If it stays
-         so, see whether a device or the folder is paused, whether they are connected, whether a
-         disk is full, and whether Syncthing's page lists 'Failed Items'.
 ` + lastLine},
 	{"a device that is behind as a whole", 2, func(folder *finding.Folder) {
 		for next := 0; next < 7; next++ {
@@ -161,16 +149,15 @@ a  (in docs, 300.0 kB)
 		}
 	}, `docs (Documents): NOT in step, 7 names are wrong; 1,204 names (4 deleted), 335.2 MB hashed on laptop, server
 
+first, on server: do what the steps and the entries below say to do before Syncthing starts or scans there. As it starts, it scans all folders
+
 7 names in docs: 1.8 MB, without 1 name whose details weren't kept
-  server: behind: hasn't taken what is newest
-  the first: 'photo 0' 'photo 1' 'photo 2', and 4 more (--lines has all)
+  server: behind: doesn't have them yet
+  the first: 'photo 0' 'photo 1' 'photo 2' 'photo 3' 'photo 4', and 2 more (--lines has all)
   as recorded on: laptop
-  if nothing is done: it isn't known what happens: a program of 0.14.0 or before made the export.
+  if nothing is done: it isn't known what happens: a program of 0.16.0 or before made the export.
   to do: before Syncthing starts or scans on any of these devices, copy elsewhere what is to stay of
          what stands on laptop.
-  to do: let Syncthing run on server and on laptop, and let them finish. If it stays so, see whether
-         a device or the folder is paused, whether they are connected, whether a disk is full, and
-         whether Syncthing's page lists 'Failed Items'.
 ` + lastLine},
 	{"a file that was added on a receive-only device", 2, func(folder *finding.Folder) {
 		folder.Members[1].About.Kind = "receive-only"
@@ -178,40 +165,35 @@ a  (in docs, 300.0 kB)
 	}, lineOfFolder + `
 added  (in docs, 300.0 kB)
   server: added on this receive-only device; no other has it (modified 2020-09-13 12:26:40 UTC)
-  if nothing is done: it isn't known what happens: a program of 0.14.0 or before made the export.
+  if nothing is done: it isn't known what happens: a program of 0.16.0 or before made the export.
   to do: before Syncthing starts or scans on any of these devices, copy elsewhere what is to stay of
          what stands on server.
-  to do: 'Revert Local Changes' on server deletes what was added there, and writes over what was
-         changed, mostly without a copy: copy elsewhere first what is to stay.
 ` + lastLine},
 	{"a file that no scan has seen", 2, func(folder *finding.Folder) {
 		unwon(folder, "new", 0, finding.Unscanned, with(file(1, 1), func(one *part.Name) { one.Own = nil; one.Disk.ModifiedS = later }))
 	}, lineOfFolder + `
 new  (in docs, 300.0 kB)
   laptop: on the disk, and no scan has seen it (modified 2020-09-13 12:27:40 UTC)
-  if nothing is done: it isn't known what happens: a program of 0.14.0 or before made the export.
+  if nothing is done: it isn't known what happens: a program of 0.16.0 or before made the export.
   to do: before Syncthing starts or scans on any of these devices, copy elsewhere what is to stay of
          what stands on laptop.
-  to do: a scan on laptop takes it for new.
 ` + lastLine},
 	{"other bytes with another mode", 2, func(folder *finding.Folder) {
 		fails(folder, "a", []*part.Name{file(1, 1), with(file(1, 1), rotten)}, "StoreDiffers 2")
 		folder.Permissions.Add(finding.Permissions{Name: "a", At: []finding.Bits{{Has: true, Index: 0o644}, {Has: true, Index: 0o644, OnDisk: true, Disk: 0o600}}})
 	}, lineOfFolder + `
 a  (in docs, 300.0 kB)
-  server: other bytes on the disk; size and time are as recorded, the mode isn't, so the next scan sees it (modified 2020-09-13 12:26:40 UTC)
+  server: other bytes on the disk; size and time are as recorded (modified 2020-09-13 12:26:40 UTC)
     block 2 differs (1 of 3 blocks of 128 KiB; the first is block 0)
     the first of them: SHA-256 abcd0000.. recorded, 12000000.. on the disk
   permissions differ (they don't count for the verdict): laptop 0644; server 0644 recorded, 0600 on the disk
   as recorded on: laptop
-  if nothing is done: it isn't known what happens: a program of 0.14.0 or before made the export.
+  if nothing is done: it isn't known what happens: a program of 0.16.0 or before made the export.
   to do: before Syncthing starts or scans on any of these devices, copy elsewhere what is to stay of
          what stands on laptop, server.
-  to do: on server, 'chmod 0644' it if that is the right mode, before Syncthing scans there: a scan
-         takes 0600 for a change; or choose 'Ignore Permissions' for the folder.
-  to do: to have again what server recorded, copy elsewhere first what stands there, if it may be
-         right, and copy it from laptop to server with its time alone (cp --preserve=timestamps, or
-         rsync --inplace --times --ignore-times) while Syncthing is stopped there.
+  to do: to have again what server recorded, copy it from laptop to server with its time alone, into
+         the file that stands there (cp --preserve=timestamps, or rsync --inplace --times
+         --ignore-times) while Syncthing is stopped there.
 ` + lastLine},
 	{"permissions that differ", 2, func(folder *finding.Folder) {
 		folder.Permissions.Add(finding.Permissions{Name: "a", At: []finding.Bits{{Has: true, Index: 0o644, OnDisk: true, Disk: 0o600}, {Has: true, Index: 0o644}}})
@@ -219,8 +201,8 @@ a  (in docs, 300.0 kB)
 
 a  (in docs)
   permissions differ (they don't count for the verdict): laptop 0644 recorded, 0600 on the disk; server 0644
-  to do: on laptop, 'chmod 0644' it if that is the right mode, before Syncthing scans there: a scan
-         takes 0600 for a change; or choose 'Ignore Permissions' for the folder.
+  to do: 'chmod' it to the mode that is right on laptop, server, before Syncthing scans there; or
+         choose 'Ignore Permissions' for the folder.
 ` + lastLine},
 	{"permissions that differ everywhere", 2, func(folder *finding.Folder) {
 		for _, name := range []string{"1", "2", "3", "4", "5", "6"} {
@@ -230,9 +212,9 @@ a  (in docs)
 
 6 names in docs: 0 bytes, without 6 names whose details weren't kept
   permissions differ (they don't count for the verdict): laptop 0644; server 0600
-  the first: 1 2 3, and 3 more (--lines has all)
-  to do: 'chmod' them to the same mode on laptop, server: where that changes a mode, the next scan
-         takes it for a change; or choose 'Ignore Permissions' for the folder.
+  the first: 1 2 3 4 5, and 1 more (--lines has all)
+  to do: 'chmod' them to the mode that is right on laptop, server, before Syncthing scans there; or
+         choose 'Ignore Permissions' for the folder.
 ` + lastLine},
 	{"what was left out, and which names weren't asked for", 2, func(folder *finding.Folder) {
 		folder.LeftOut = []*finding.LeftOut{{Name: "odd\xff", Names: 1, Bytes: 3000000, Why: []finding.Reason{{Member: 0, Kind: part.OddName, Why: "its name isn't UTF-8"}}}}
@@ -309,9 +291,9 @@ not compared: owners, extended attributes, old versions
 		folder.Members[1].About.PausedDevices, folder.Members[2].About.PausedDevices = []string{laptop, phone}, []string{laptop}
 	}, `docs (Documents): in step and firm; 1,204 names (4 deleted), 335.2 MB hashed on laptop, phone, server
 
-paused: folder docs (Documents) on laptop, phone: nothing of it is scanned, taken or sent there until it is resumed
-paused: device laptop on phone, server: nothing is exchanged with it there until it is resumed
-paused: device phone on server: nothing is exchanged with it there until it is resumed
+paused: folder docs (Documents) on laptop, phone
+paused: device laptop on phone, server
+paused: device phone on server
 not compared: owners, extended attributes, old versions
 `},
 	{"a device that shares it with nobody", 1, func(folder *finding.Folder) { folder.Own = laptop },

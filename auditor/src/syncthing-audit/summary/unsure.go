@@ -28,7 +28,7 @@ func whyUnsure(unsure finding.Unsure) string {
 	case finding.Waits:
 		return "no scan has seen what stands there: " + countsOfWaiting(unsure.Waits.Names)
 	case finding.ToIgnore:
-		return counted(unsure.Names, "directory", "directories") + " in its index that .stignore ignores by now: the next scan marks the records"
+		return counted(unsure.Names, "directory", "directories") + " in its index that .stignore ignores by now"
 	case finding.Linked:
 		return counted(unsure.Names, "name stands for a file that has a name elsewhere, too (a hard link)",
 			"names stand for files that have names elsewhere, too (hard links)") + ": whoever sets time or mode there sets them here, as " +
@@ -41,11 +41,11 @@ func whyUnsure(unsure finding.Unsure) string {
 
 // whatToDo says what to do about what may change a folder.
 var whatToDo = map[string]string{
-	finding.Waits:    "A scan takes that for changes, and sends them to all. Do first what stands above for that device",
-	finding.Busy:     "What a scan found may wait in its memory, and go to all devices later. Audit again once it is idle, or with a longer --still",
+	finding.Waits:    "A scan may send that to all devices. Do first what stands above for that device",
+	finding.Busy:     "What a scan found may wait in its memory. Audit again once it is idle, or with a longer --still",
 	finding.Wanted:   "See its page there, and audit again once that is mended",
 	finding.ToIgnore: "Have Syncthing scan the folder, and audit again",
-	finding.Linked:   "Bytes stay in step; what the times and modes become isn't known. A copy in place of the link ends that",
+	finding.Linked:   "What the times and modes become isn't known. A copy in place of the link ends that",
 	finding.OverWire: "A walk of its disks (--disk) sees most of that, and an audit of the device itself all: its part, made while Syncthing is stopped there, or 'run'",
 }
 

@@ -26,9 +26,9 @@ func TestWhatMayChangeAFirmFolder(t *testing.T) {
 		finding.Waits: {func(folder *finding.Folder) {
 			waits(folder, "b", 1, []int{0}, noBytes)
 			waits(folder, "c", 1, []int{0}, absent)
-		}, "docs (Documents) on server: no scan has seen what stands there: 1 is MISSING, 1 is EMPTY. A scan takes that for changes"},
+		}, "docs (Documents) on server: no scan has seen what stands there: 1 is MISSING, 1 is EMPTY. A scan may send that to all devices. Do first what"},
 		finding.ToIgnore: {func(folder *finding.Folder) { folder.Members[1].ToIgnore = 2 },
-			"docs (Documents) on server: 2 directories in its index that .stignore ignores by now: the next scan marks the records. Have Syncthing scan"},
+			"docs (Documents) on server: 2 directories in its index that .stignore ignores by now. Have Syncthing scan"},
 		finding.Linked: {func(folder *finding.Folder) { folder.Members[1].Linked = &part.Count{Names: 1, Bytes: 5} },
 			"docs (Documents) on server: 1 name stands for a file that has a name elsewhere, too (a hard link): whoever"},
 	} {
@@ -60,7 +60,7 @@ func TestWhatMayChangeAFirmFolder(t *testing.T) {
 		waits(folder, "d", 1, nil, func(one *part.Name) { one.Own.Deleted = true }) // nor does this
 		folder.Members[1].Linked = &part.Count{}
 	})
-	if text := printed(calm); strings.Contains(text, "known") || Of(calm).Firm != finding.IsFirm {
+	if text := printed(calm); strings.Contains(text, "not known") || Of(calm).Firm != finding.IsFirm {
 		t.Error(text)
 	}
 }
@@ -91,7 +91,7 @@ func TestADeviceThatDoesNotRunIsTold(t *testing.T) {
 	text := printed(answerOf(2, func(folder *finding.Folder) {
 		folder.Members[0].About.Rest, folder.Members[1].About.Rest = &part.Rest{State: part.RestIdle}, &part.Rest{State: part.RestStopped}
 	}))
-	if !strings.Contains(text, "not running: Syncthing on server (docs): it takes and sends nothing until it is started there.") || strings.Contains(text, "Syncthing on laptop") {
+	if !strings.Contains(text, "not running: Syncthing on server (docs)") || strings.Contains(text, "Syncthing on laptop") {
 		t.Error(text)
 	}
 }

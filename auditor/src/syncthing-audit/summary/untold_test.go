@@ -8,7 +8,7 @@ import (
 	"syncthing-audit/part"
 )
 
-// A device that has heard of later changes, and not of this one, isn't told of it again by Syncthing. Nobody is told just to let it run.
+// A device that has heard of later changes, and not of this one, isn't told of it again by Syncthing.
 func TestChangesThatNobodyTells(t *testing.T) {
 	newest := func() *part.Name { return with(file(2, 1), func(one *part.Name) { one.Own.Sequence = 7 }) }
 	seeing := func(one *part.Name, version uint64) *part.Name {
@@ -38,7 +38,7 @@ func TestChangesThatNobodyTells(t *testing.T) {
 			folder.Members[1].About.Views = []part.View{one.view}
 			fails(folder, "a", []*part.Name{newest(), one.has}, reason, "StoreDiffers 2")
 		}))
-		if strings.Contains(text, "start it there once by 'syncthing serve --reset-deltas', as the same user and with the same --home, --config and --data as ever.") != one.isFor || strings.Contains(text, "let them finish") == one.isFor {
+		if strings.Contains(text, "start it there once by 'syncthing serve --reset-deltas', as the same user and with the same --home, --config and --data as ever.") != one.isFor {
 			t.Errorf("%s: %s", one.why, text)
 		}
 	}
@@ -53,7 +53,7 @@ func TestAChangeThatAnotherDeviceTells(t *testing.T) {
 		folder.Members[2].About.Views = []part.View{{Device: laptop, IndexID: 1, Max: 7}, {Device: server, IndexID: 2, Max: 0}}
 		fails(folder, "a", []*part.Name{file(2, 1), file(2, 1), file(1, 2)}, "RecordDiffers 3", "StoreDiffers 3")
 	}))
-	if strings.Contains(text, "reset-deltas") || !strings.Contains(text, "let them finish") {
+	if strings.Contains(text, "reset-deltas") || !strings.Contains(text, "behind") {
 		t.Error(text)
 	}
 }

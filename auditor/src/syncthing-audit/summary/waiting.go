@@ -1,7 +1,6 @@
 package summary
 
 import (
-	"fmt"
 	"sort"
 	"strings"
 
@@ -42,9 +41,6 @@ func (a *actions) noteWaiting(folder *finding.Folder) {
 		to.folders = append(to.folders, folder.ID)
 	}
 }
-
-// isWaiting says whether names wait for a scan on a device, which would send something else than what is recorded.
-func (a *actions) isWaiting(device string) bool { return a != nil && a.waits[device] != nil }
 
 // wordsOfWaiting say how many names wait so.
 var wordsOfWaiting = map[string][2]string{
@@ -98,7 +94,7 @@ func (s *Summary) firstWaiting(device string, named labels) []First {
 	}
 	return []First{{isUnscanned, []string{device}, waits.sent, "first, on " + named.of(device) + ": before Syncthing starts or scans there, also for an entry below, " +
 		"see which names no scan has seen yet ('in motion in " + strings.Join(waits.folders, "', 'in motion in ") + "' below): " + countsOfWaiting(waits.names) +
-		". A scan deletes on all devices what is missing there, and sends to all what stands there. As Syncthing starts, it scans all folders. So copy back first " +
+		". A scan may delete on all devices what is missing there, and send to all what stands there. As Syncthing starts, it scans all folders. So copy back first " +
 		"what is to stay as it is recorded, while Syncthing is stopped there." + waits.keep() + waits.sources(named)}}
 }
 
@@ -110,32 +106,6 @@ func (w *waiting) keep() string {
 		}
 	}
 	return ""
-}
-
-// waitsAdvice says that what stands first of a device comes before each start and each scan there, where this name's entry tells or implies one.
-func (f *File) waitsAdvice(named labels) []string {
-	on := []string{}
-	for _, device := range f.actsOn() {
-		if f.others.isWaiting(device) {
-			on = addOnce(on, device)
-		}
-	}
-	if len(on) == 0 {
-		return nil
-	}
-	return []string{"first what stands above for " + named.all(on) + ": names that no scan has seen wait there, and it comes before each start and scan there"}
-}
-
-// actsOn gives the devices on which something is done for the name: where Syncthing is stopped for that, it starts again.
-func (f *File) actsOn() []string {
-	devices := f.toStart()
-	for place := range f.Faults {
-		devices = addOnce(devices, f.Faults[place].Device)
-	}
-	for _, mode := range f.Permissions {
-		devices = addOnce(devices, mode.Device)
-	}
-	return devices
 }
 
 // rankOf gives the place of the first of a name's kinds of waiting: what looks most like damage is told first.
@@ -156,67 +126,32 @@ func (l *Live) worst() []Moving {
 	return names
 }
 
-// wordsOf says how a name waits for a scan on a device, and where what is recorded stands.
-func (p *printer) wordsOfWaiting(at Moved) string {
-	told := wordsOfDamaged(at)
-	switch at.Waits {
-	case finding.WaitsUnknown:
-		return wordsOfMoved["unscanned"] + " (no details were kept)"
-	case finding.WaitsNew:
-		return "on the disk, and no scan has seen it"
-	case finding.WaitsBack:
-		return "on the disk, though it is deleted by its record"
-	case finding.WaitsMissing:
-		told = "MISSING" + recordedSize(at)
-	case finding.WaitsChanged:
-		told = "changed on the disk since the last scan" + p.changeOf(at)
+// causesOfWaiting are the faults as which names wait for a scan; all other ones are changed.
+var causesOfWaiting = map[string]Cause{finding.WaitsMissing: Missing, finding.WaitsBack: Back, finding.WaitsNew: NotScanned, finding.WaitsUnknown: Differs}
+
+// asFault gives how a name waits as the fault that it would be if it were still; nothing where it doesn't wait.
+func (m *Moved) asFault(isOverWire bool) *Fault {
+	if m.Waits == "" {
+		return nil
 	}
-	if len(at.Have) == 0 {
+	if cause, is := causesOfWaiting[m.Waits]; is {
+		return &Fault{Device: m.Device, Cause: cause, Recorded: m.Recorded, Found: m.Found, isOverWire: isOverWire}
+	}
+	fault := &Fault{Device: m.Device, Cause: Changed, Recorded: m.Recorded, Found: m.Found, isOverWire: isOverWire}
+	if m.Waits != finding.WaitsChanged {
+		fault.Damage = damage.Kind(m.Waits)
+	}
+	return fault
+}
+
+// wordsOfWaiting says how a name waits for a scan on a device, and where what is recorded stands.
+func (p *printer) wordsOfWaiting(at Moved) string {
+	told := wordsOfFaults([]*Fault{at.fault}, false) + p.since(at.fault)
+	switch {
+	case !finding.LosesRecorded(at.Waits) || at.Waits == finding.WaitsUnknown:
+		return told
+	case len(at.Have) == 0:
 		return told + "; as recorded on no other audited device"
 	}
 	return told + "; as recorded on " + p.named.all(at.Have)
-}
-
-// wordsOfDamaged say of a file that waits why it looks damaged.
-func wordsOfDamaged(at Moved) string {
-	switch kind := damage.Kind(at.Waits); kind {
-	case damage.Emptied:
-		return "EMPTY: " + sizes(at)
-	case damage.Cut:
-		return "CUT SHORT: " + sizes(at) + at.time()
-	case damage.Longer:
-		return "longer: " + sizes(at) + at.time()
-	case damage.Zeros, damage.ZeroBlock, damage.OverZeros:
-		return "changed on the disk: " + wordsOfDamage[kind] + ": " + sizes(at)
-	}
-	return ""
-}
-
-func sizes(at Moved) string {
-	return size(at.as.Disk.Size) + " found of " + size(at.as.Own.Content.Size) + " recorded"
-}
-
-func recordedSize(at Moved) string {
-	if at.as.Own.Content == nil {
-		return ": a " + typeOf(at.as.Own.Type) + " is recorded"
-	}
-	return ": " + size(at.as.Own.Content.Size) + " recorded"
-}
-
-// changeOf says what of a name changed.
-func (p *printer) changeOf(at Moved) string {
-	was, is := recorded(at.as.Own), found(at.as.Disk)
-	switch {
-	case was.Type != is.Type:
-		return fmt.Sprintf(": a %s, recorded as a %s", is.Type, was.Type)
-	case was.Type == "symlink":
-		return ": another target"
-	case was.Type != "file":
-		return ""
-	}
-	told := ": the size is as recorded, the time isn't"
-	if was.Size != is.Size {
-		told = ": " + sizes(at)
-	}
-	return told + " (modified " + p.when(*is.Modified) + ")"
 }

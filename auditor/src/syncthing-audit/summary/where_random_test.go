@@ -33,7 +33,7 @@ func TestThereIsADeviceThatWasNamed(t *testing.T) {
 			}
 		}
 	}
-	if said < 100 {
+	if said < 50 {
 		t.Errorf("it was said %d times only", said)
 	}
 }

@@ -3,6 +3,7 @@ package summary
 import (
 	"strings"
 
+	"golang.org/x/exp/slices"
 	"syncthing-audit/damage"
 	"syncthing-audit/finding"
 	"syncthing-audit/join"
@@ -11,12 +12,7 @@ import (
 
 // isOverWire says whether some device of a folder was asked over the wire.
 func (f *Folder) isOverWire() bool {
-	for _, member := range f.Devices {
-		if member.OverWire != nil && !member.OverWire.hasDisks {
-			return true
-		}
-	}
-	return false
+	return slices.IndexFunc(f.Devices, func(member Member) bool { return member.OverWire != nil && !member.OverWire.hasDisks }) >= 0
 }
 
 // OverWire is what isn't seen of a device that was asked over the wire.
@@ -62,24 +58,15 @@ func (f *Folder) asFarAs() string {
 	return " as far as audited"
 }
 
-// time says under which time a file has another length than recorded.
-func (m Moved) time() string {
-	if m.isOverWire {
-		return ", its time isn't seen over the wire"
-	}
-	return ", under the recorded time"
-}
-
 // mayBeEdit says whether other bytes may be an edit that no scan has taken: over the wire a file's time isn't seen.
 func (f *Fault) mayBeEdit() bool { return f.Cause == OtherBytes && f.isOverWire }
 
-// whetherEdit says how to find out whether other bytes are an edit, before what is to be done if they aren't.
-func (f *Fault) whetherEdit(file *File, at string) string {
+// whetherEdit says to find out whether other bytes are an edit, before what is to be done if they aren't.
+func (f *Fault) whetherEdit(file *File, named labels) string {
 	if !f.mayBeEdit() {
 		return ""
 	}
-	return "first look at the " + file.say("file's time", "files' times") + " on " + at + ", which isn't seen over the wire. If it isn't the recorded one, someone " +
-		"changed " + file.say("it", "them") + " there: keep what stands there, and let Syncthing scan. If it is: "
+	return "first look at the " + file.say("file's time", "files' times") + " on " + named.of(f.Device) + ", which isn't seen over the wire. If it is the recorded one: "
 }
 
 // ofDamage says why what stands on the disk looks like damage, behind what is wrong there.
@@ -87,17 +74,10 @@ func (f *Fault) ofDamage() string {
 	if f.Damage == damage.None {
 		return ""
 	}
-	return ": " + wordsOfDamage[f.Damage]
-}
-
-// wordsOfMany says what is wrong on a device with names that are told as one.
-func (p *printer) wordsOfMany(group *Group, device string) string {
-	for place := range group.of.Faults {
-		if fault := &group.of.Faults[place]; fault.Device == device && fault.mayBeEdit() {
-			return p.wordsOf(fault)
-		}
+	if f.isOverWire {
+		return ": " + strings.Replace(wordsOfDamage[f.Damage], "the recorded time", "a time that isn't seen over the wire", 1)
 	}
-	return wordsOf[group.Cause]
+	return ": " + wordsOfDamage[f.Damage]
 }
 
 // notToldOverWire gives the devices that don't tell their other folders since they were asked over the wire, and the others of that kind.
@@ -118,15 +98,8 @@ func (s *Summary) notToldOverWire() (overWire, older []string) {
 	return overWire, older
 }
 
-// Observer is a device that shares a folder, keeps no files of it, and wasn't asked.
-type Observer struct {
-	Folder string `json:"folder"`
-	Device string `json:"device"`
-	Name   string `json:"name"`
-}
-
 // observer names an observer for a person.
-func (l labels) observer(observer Observer) string {
+func (l labels) observer(observer join.Observer) string {
 	if observer.Name == "" {
 		return observer.Device
 	}
@@ -141,8 +114,7 @@ func (p *printer) wentBack(s *Summary) {
 				p.line("went back: the index of %s on %s: an earlier look had its change %d, and its last one is %d now, as after an older home was put in its "+
 					"place there. Syncthing doesn't tell the others such changes again by itself", folder.ID, p.named.of(member.Device), member.OverWire.WentBackFrom,
 					member.OverWire.highest)
-				p.advice([]string{"stop Syncthing on " + p.named.of(member.Device) + ", and start it there once by 'syncthing serve --reset-deltas', as the same user and with " +
-					"the same --home, --config and --data as ever"})
+				p.advice([]string{"the others may not hear of such changes: stop Syncthing on " + p.named.of(member.Device) + ", and " + resetDeltas})
 			}
 		}
 	}

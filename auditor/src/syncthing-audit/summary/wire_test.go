@@ -6,6 +6,7 @@ import (
 	"time"
 
 	"github.com/syncthing/syncthing/lib/protocol"
+	"syncthing-audit/damage"
 	"syncthing-audit/finding"
 	"syncthing-audit/join"
 	"syncthing-audit/part"
@@ -60,12 +61,39 @@ func TestInStepOverTheWire(t *testing.T) {
 func TestOtherBytesOverTheWire(t *testing.T) {
 	for _, isOverWire := range []bool{false, true} {
 		fault := Fault{Cause: OtherBytes, isOverWire: isOverWire, Kind: "send-receive"}
-		if fault.mayShow() != isOverWire || (fault.whetherEdit(&File{}, "a") == "") == isOverWire {
-			t.Errorf("%v: %v, %s", isOverWire, fault.mayShow(), fault.whetherEdit(&File{}, "a"))
+		if told := fault.whetherEdit(&File{}, labels{}); (told == "") == isOverWire {
+			t.Errorf("%v: %s", isOverWire, told)
 		}
-		words := (&printer{}).wordsOf(&fault)
+		words := wordsOfFaults([]*Fault{&fault}, false)
 		if strings.Contains(words, "an edit that no scan has taken") != isOverWire || strings.Contains(words, "time are as recorded") == isOverWire {
 			t.Error(words)
+		}
+	}
+}
+
+// Nor is it said of a file that was cut short, or is longer, that this is under the recorded time; a device whose disks are seen shows that.
+func TestNoTimeOfADiskIsToldOverTheWire(t *testing.T) {
+	at := time.Unix(1600000000, 0)
+	for _, kind := range []damage.Kind{damage.Cut, damage.Longer} {
+		for _, isOverWire := range []bool{false, true} {
+			fault := Fault{Cause: Changed, Damage: kind, isOverWire: isOverWire, Recorded: &State{Type: "file", Size: 5, Modified: &at}, Found: &State{Type: "file", Size: 4, Modified: &at}}
+			p := &printer{zone: time.UTC}
+			told := wordsOfFaults([]*Fault{&fault}, false) + p.since(&fault)
+			if strings.Contains(told, "under the recorded time") == isOverWire || strings.Contains(told, "(recorded as modified ") != isOverWire {
+				t.Error(told)
+			}
+		}
+	}
+}
+
+// Of a device that is behind, the time of what is due is told, over the wire, too.
+func TestWhatIsDueHasItsTimeOverTheWire(t *testing.T) {
+	at, later := time.Unix(1600000000, 0), time.Unix(1700000000, 0)
+	state := func(at *time.Time) *State { return &State{Type: "file", Size: 5, Modified: at} }
+	for _, isOverWire := range []bool{false, true} {
+		fault := Fault{Cause: Behind, isOverWire: isOverWire, Recorded: state(&at), Found: state(&at), Due: state(&later)}
+		if told := (&printer{zone: time.UTC}).since(&fault); told != " (modified 2023-11-14 22:13:20 UTC)" {
+			t.Errorf("over the wire %v:%s", isOverWire, told)
 		}
 	}
 }

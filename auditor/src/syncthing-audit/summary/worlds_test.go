@@ -68,13 +68,6 @@ func replaced() *part.Name {
 	return with(directory(1), func(one *part.Name) { one.Disk = file(1, 2).Disk })
 }
 
-// addStray has the disk of one of two devices give the name another mode than recorded.
-func addStray(folder *finding.Folder, device int) {
-	at := []finding.Bits{{Has: true, Index: 0o644, OnDisk: true, Disk: 0o644}, {Has: true, Index: 0o644, OnDisk: true, Disk: 0o644}}
-	at[device-1].Disk = 0o600
-	folder.Permissions.Add(finding.Permissions{Name: "a", At: at})
-}
-
 // isSame says whether what stands on a disk is what a record says, whatever the times.
 func isSame(disk *part.Node, due *part.Record) bool {
 	if disk == nil || due == nil || due.Deleted || disk.Type != due.Type || disk.Target != due.Target {

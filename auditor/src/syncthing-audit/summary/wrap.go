@@ -2,7 +2,12 @@ package summary
 
 import (
 	"regexp"
+
+	"syncthing-audit/print"
 )
+
+// Words for a person, as all that is printed has them.
+var size, counted, thousands = print.Size, print.Counted, print.Thousands
 
 // quoted is a word of a shell with a part in quotes, as the package shell gives it, or words of a page such as 'Ignore Permissions'.
 var quoted = regexp.MustCompile(`^(?:\\['\\]|'[^']+')+`)

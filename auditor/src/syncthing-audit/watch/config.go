@@ -51,20 +51,20 @@ type Path struct {
 
 // Maps gives where the paths of the device's configuration are on its machine.
 func (d *Device) Maps() (device.Maps, error) {
-	made := device.Maps{}
+	maps := device.Maps{}
 	for _, path := range d.Paths {
 		if strings.Contains(path.From, "=") {
 			return nil, fmt.Errorf("<map from=%q>: a path with = isn't taken", path.From)
 		}
 		read, err := device.ParseMap(path.From + "=" + path.To)
 		if err == nil {
-			err = made.Add(read)
+			err = maps.Add(read)
 		}
 		if err != nil {
 			return nil, fmt.Errorf("<map>: %w", err)
 		}
 	}
-	return made, nil
+	return maps, nil
 }
 
 // Parts is a directory to which devices send their parts.
@@ -156,26 +156,26 @@ func Read(path string) (*Config, error) {
 
 // parse reads the text of a configuration.
 func parse(text []byte) (*Config, error) {
-	made := &Config{}
+	config := &Config{}
 	decoder := xml.NewDecoder(bytes.NewReader(text))
-	if err := decoder.Decode(made); err != nil {
-		return made, err
+	if err := decoder.Decode(config); err != nil {
+		return config, err
 	}
 	for {
 		token, err := decoder.Token()
 		if err == io.EOF {
-			for _, check := range []func() error{made.checkKnown, func() error { return checkText(text) }, made.check} {
+			for _, check := range []func() error{config.checkKnown, func() error { return checkText(text) }, config.check} {
 				if err := check(); err != nil {
-					return made, err
+					return config, err
 				}
 			}
-			return made, nil
+			return config, nil
 		}
 		if err != nil {
-			return made, err
+			return config, err
 		}
 		if _, is := token.(xml.StartElement); is {
-			return made, errors.New("it goes on behind </watch>")
+			return config, errors.New("it goes on behind </watch>")
 		}
 	}
 }
@@ -192,44 +192,32 @@ func (c *Config) check() error {
 
 // checkKnown says which word isn't known.
 func (c *Config) checkKnown() error {
-	errs := []error{c.unknown.check("watch")}
-	add := func(of unknown, in string) { errs = append(errs, of.check(in)) }
-	for _, device := range c.Devices {
-		add(device.unknown, "device")
-		for _, path := range device.Paths {
-			add(path.unknown, "map")
-		}
-	}
-	for _, parts := range c.Parts {
-		add(parts.unknown, "parts")
-	}
-	for _, observed := range c.Observed {
-		add(observed.unknown, "observed")
-	}
-	for _, folder := range c.Folders {
-		add(folder.unknown, "folder")
-	}
-	for _, slices := range c.Slices {
-		add(slices.unknown, "slices")
-	}
-	for _, budget := range c.Budget {
-		add(budget.unknown, "budget")
-	}
-	for _, place := range append(append(append([]Place(nil), c.State...), c.Metrics...), c.Page...) {
-		add(place.unknown, "state>, <metrics> or <page")
-	}
-	for _, mail := range c.Mail {
-		add(mail.unknown, "mail")
-	}
-	for _, command := range append(append([]Command(nil), c.Notify...), c.Ping...) {
-		add(command.unknown, "notify> or <ping")
-	}
-	for _, err := range errs {
+	places, commands := append(append(append([]Place(nil), c.State...), c.Metrics...), c.Page...), append(append([]Command(nil), c.Notify...), c.Ping...)
+	for _, err := range []error{c.unknown.check("watch"), checkEach("device", c.Devices), checkEach("parts", c.Parts), checkEach("observed", c.Observed), checkEach("folder", c.Folders),
+		checkEach("slices", c.Slices), checkEach("budget", c.Budget), checkEach("state>, <metrics> or <page", places), checkEach("mail", c.Mail), checkEach("notify> or <ping", commands)} {
 		if err != nil {
 			return err
 		}
 	}
 	return nil
+}
+
+// checkEach says which word of elements that are called so isn't known.
+func checkEach[Element interface{ check(in string) error }](in string, elements []Element) error {
+	for _, element := range elements {
+		if err := element.check(in); err != nil {
+			return err
+		}
+	}
+	return nil
+}
+
+// check says which word of a device, or of its maps, isn't known.
+func (d Device) check(in string) error {
+	if err := d.unknown.check(in); err != nil {
+		return err
+	}
+	return checkEach("map", d.Paths)
 }
 
 // checkCounts says what stands twice.

@@ -104,8 +104,8 @@ func (m Measured) Text() string {
 		}
 	}
 	text := &strings.Builder{}
-	for _, one := range []*metric{status, ended, wrong, names, out, spread, slice, read, oldest} {
-		one.write(text)
+	for _, each := range []*metric{status, ended, wrong, names, out, spread, slice, read, oldest} {
+		each.write(text)
 	}
 	return text.String()
 }

@@ -4,6 +4,7 @@ import (
 	"bytes"
 	"errors"
 	"fmt"
+	"io"
 	"os"
 	"path/filepath"
 	"reflect"
@@ -12,6 +13,7 @@ import (
 	"time"
 
 	"syncthing-audit/choice"
+	"syncthing-audit/fixture"
 	"syncthing-audit/history"
 	"syncthing-audit/summary"
 )
@@ -113,10 +115,11 @@ func TestNewsOfFaults(t *testing.T) {
 func TestWhatANightLeaves(t *testing.T) {
 	room := filepath.Join(t.TempDir(), "new", "state")
 	state, err := OpenState(room)
-	if err != nil || state.Limits == nil || state.Untold {
+	if err != nil || state.Limits == nil || state.Untold || !state.IsFirst || state.Lost != nil {
 		t.Fatal(state, err)
 	}
-	if _, err := OpenState(room); !errors.Is(err, ErrRuns) {
+	isLock := func(path string) bool { return filepath.Base(path) == nameOfLock }
+	if _, err := OpenState(room); !errors.Is(err, ErrRuns) || fixture.CountOpened(t, isLock) != 1 {
 		t.Errorf("two nights at once: %v", err)
 	}
 	state.Month, state.Untold, state.Limits["docs"] = "2026-11", true, Limits{"x": 2}
@@ -132,7 +135,7 @@ func TestWhatANightLeaves(t *testing.T) {
 		t.Errorf("%v, %v", about, err)
 	}
 	again, err := OpenState(room)
-	if err != nil || again.Month != "2026-11" || !again.Untold || !reflect.DeepEqual(again.Limits, map[string]Limits{"docs": {"x": 2}}) {
+	if err != nil || again.IsFirst || again.Lost != nil || again.Month != "2026-11" || !again.Untold || !reflect.DeepEqual(again.Limits, map[string]Limits{"docs": {"x": 2}}) {
 		t.Errorf("%+v, %v", again, err)
 	}
 	again.Close()
@@ -141,7 +144,7 @@ func TestWhatANightLeaves(t *testing.T) {
 			t.Fatal(err)
 		}
 		none, err := OpenState(room)
-		if err != nil || none.Month != "" || none.Untold || none.Limits == nil {
+		if err != nil || none.Month != "" || none.Untold || none.Limits == nil || none.IsFirst || none.Lost == nil {
 			t.Errorf("%q: %+v, %v", damaged, none, err)
 		}
 		none.Close()
@@ -196,6 +199,28 @@ func TestWhoIsTold(t *testing.T) {
 	}
 }
 
+// Who can't be told, as no shell and no sendmail is there, is said, and the others are tried.
+func TestWhoCannotBeTold(t *testing.T) {
+	for _, usual := range []string{"/usr/sbin/sendmail", "/usr/lib/sendmail"} {
+		if _, err := os.Stat(usual); err == nil {
+			t.Skip("it would be mailed")
+		}
+	}
+	room := t.TempDir()
+	t.Setenv("PATH", room)
+	config := &Config{Mail: []Mail{{To: "me"}, {To: "you"}}, Notify: []Command{{Command: "true"}}, Ping: []Command{{Command: "true"}}}
+	errs := append(config.Tell("x", "y", io.Discard), config.PingAll(io.Discard)...)
+	if len(errs) != 4 || !strings.HasPrefix(errs[0].Error(), "it can't be mailed: ") || !strings.HasPrefix(errs[2].Error(), "<notify>: ") || !strings.HasPrefix(errs[3].Error(), "<ping>: ") {
+		t.Errorf("%v", errs)
+	}
+	if err := os.WriteFile(filepath.Join(room, "sendmail"), []byte("#!/none\n"), 0o700); err != nil {
+		t.Fatal(err)
+	}
+	if errs := config.Tell("x", "y", io.Discard); len(errs) != 3 {
+		t.Errorf("a sendmail that can't be run: %v", errs)
+	}
+}
+
 // The slice that is due goes on by one each day at its hour, and begins anew behind the last.
 func TestWhichSliceIsDue(t *testing.T) {
 	const day, hour = 86400, 3600
@@ -228,9 +253,10 @@ func TestWhichSliceIsDue(t *testing.T) {
 // Each number is taken up to its ends, and none beyond; each word that is needed is.
 func TestEndsOfAConfiguration(t *testing.T) {
 	for _, row := range []struct{ was, is, told string }{
-		{`count="7"`, `count="1"`, ""}, {`count="7"`, fmt.Sprintf(`count="%d"`, choice.MostSlices), ""}, {`count="7"`, `count="0"`, "slices are 1 to"},
+		{`count="7"`, `count="1"`, ""}, {`count="7"`, fmt.Sprintf(`count="%d"`, choice.MostSlices), ""}, {`count="7"`, `count="0"`, `count="0" isn't taken: slices are 1 to `},
 		{`count="7"`, fmt.Sprintf(`count="%d"`, choice.MostSlices+1), "slices are 1 to"}, {`hour="3"`, `hour="0"`, ""}, {`hour="3"`, `hour="23"`, ""}, {`hour="3"`, `hour="24"`, "it is 0 to 23"},
-		{`hour="3"`, `hour="-1"`, "it is 0 to 23"}, {`hours="8.5"`, `hours="0.1"`, ""}, {`hours="8.5"`, `hours="10000"`, ""}, {`hours="8.5"`, `hours="10001"`, "isn't taken"},
+		{`hour="3"`, `hour="-1"`, "it is 0 to 23"}, {`hours="8.5"`, `hours="0.1"`, ""}, {`hours="8.5"`, `hours="10000"`, ""}, {`hours="8.5"`, `hours="10001"`, `hours="10001" isn't taken: it is above 0, and at most 10000`},
+		{`directory="~/parts" `, "", `<parts directory=".."> isn't given`}, {"</watch>", "</watch>\n<!-- all -->\n", ""},
 		{`hours="8.5"`, `hours="-1"`, "isn't taken"}, {`hours="8.5"`, `hours="NaN"`, "isn't taken"},
 		{`<budget bytes="20GB"/>`, `<budget bytes="20GB"/><budget bytes="1GB"/>`, "<budget> stands twice"}, {`<budget bytes="20GB"/>`, `<budget/>`, "<budget> says nothing"},
 		{`<folder id="docs"/>`, "", "of <observed> devices each <folder> is to be named"}, {`<mail to="me"/>`, `<mail to="me"/><mail to="you"/>`, "<mail> stands twice"},
@@ -254,5 +280,21 @@ func TestEndsOfAConfiguration(t *testing.T) {
 	}
 	if read, err := Read(path); err != nil || len(read.Devices) != 2 {
 		t.Errorf("%+v, %v", read, err)
+	}
+}
+
+// Each word that an element needs is refused where it is empty, also where another element of the kind has it.
+func TestWordsThatAreNeeded(t *testing.T) {
+	for _, row := range [][3]string{{`<device place="laptop:"`, `<device place=""`, `/><device place="server:"`}, {`<parts directory="~/parts"`, `<parts directory=""`}, {`<observed id="A"`, `<observed id=""`},
+		{`address="tcp://a:22000"`, `address=""`, `/><observed id="B" address="tcp://b:22000"`}, {`<folder id="docs"`, `<folder id=""`, `/><folder id="pics"`}, {`<budget bytes="20GB"`, `<budget bytes=""`},
+		{`<mail to="me"`, `<mail to=""`}, {`<state path="s"`, `<state path=""`}, {`<notify command="n"`, `<notify command=""`}} {
+		for _, more := range []string{"", row[2]} {
+			if _, err := parse([]byte(strings.Replace(all, row[0], row[1]+more, 1))); err == nil {
+				t.Errorf("%s%s is taken", row[1], more)
+			}
+			if _, err := parse([]byte(strings.Replace(all, row[0], row[0]+more, 1))); err != nil {
+				t.Errorf("%s%s: %v", row[0], more, err)
+			}
+		}
 	}
 }

@@ -48,22 +48,22 @@ func OpenState(directory string) (*State, error) {
 		}
 		return nil, err
 	}
-	made := &State{}
+	state := &State{}
 	text, _, err := regular.Read(filepath.Join(directory, nameOfState), mostBytes)
 	if err == nil {
-		err = json.Unmarshal(text, made)
+		err = json.Unmarshal(text, state)
 	}
 	if err != nil {
-		*made = State{IsFirst: os.IsNotExist(err)}
-		if !made.IsFirst {
-			made.Lost = err
+		*state = State{IsFirst: os.IsNotExist(err)}
+		if !state.IsFirst {
+			state.Lost = err
 		}
 	}
-	if made.Limits == nil {
-		made.Limits = map[string]Limits{}
+	if state.Limits == nil {
+		state.Limits = map[string]Limits{}
 	}
-	made.directory, made.lock = directory, lock
-	return made, nil
+	state.directory, state.lock = directory, lock
+	return state, nil
 }
 
 // Close gives the lock back.

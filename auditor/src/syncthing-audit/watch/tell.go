@@ -98,12 +98,12 @@ func body(text string) string {
 	if !isLong {
 		return "\n" + text
 	}
-	var made strings.Builder
-	made.WriteString("Content-Transfer-Encoding: quoted-printable\n\n")
-	writer := quotedprintable.NewWriter(&made)
+	var whole strings.Builder
+	whole.WriteString("Content-Transfer-Encoding: quoted-printable\n\n")
+	writer := quotedprintable.NewWriter(&whole)
 	_, _ = writer.Write([]byte(text)) // nothing fails in memory
 	_ = writer.Close()
-	return strings.ReplaceAll(made.String(), "\r\n", "\n")
+	return strings.ReplaceAll(whole.String(), "\r\n", "\n")
 }
 
 // sendmail finds the program, which may stand where only root looks for programs.

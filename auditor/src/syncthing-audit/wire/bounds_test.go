@@ -21,9 +21,9 @@ import (
 
 // framed gives a message with a header, as it is sent.
 func framed(header []byte, length uint32, body []byte) []byte {
-	made := binary.BigEndian.AppendUint16(nil, uint16(len(header)))
-	made = binary.BigEndian.AppendUint32(append(made, header...), length)
-	return append(made, body...)
+	text := binary.BigEndian.AppendUint16(nil, uint16(len(header)))
+	text = binary.BigEndian.AppendUint32(append(text, header...), length)
+	return append(text, body...)
 }
 
 // A message is read up to as many bytes as are taken, compressed or not, and refused by one more; what ends early is told as that.
@@ -41,11 +41,11 @@ func TestBoundsOfAMessage(t *testing.T) {
 		return framed(packed, uint32(len(body)), body)
 	}
 	padded := func(length int) []byte {
-		made := message.AppendText(ping, 9, make([]byte, length-len(ping)-3)) // a field that isn't known, with a length of two bytes
-		if len(made) != length {
-			t.Fatal(len(made), length)
+		text := message.AppendText(ping, 9, make([]byte, length-len(ping)-3)) // a field that isn't known, with a length of two bytes
+		if len(text) != length {
+			t.Fatal(len(text), length)
 		}
-		return made
+		return text
 	}
 	for why, row := range map[string]struct {
 		text   []byte
@@ -57,6 +57,7 @@ func TestBoundsOfAMessage(t *testing.T) {
 		"one byte more":                  {framed(ping, most+1, zeros), 0, TooLong},
 		"the longest header":             {framed(padded(longestHeader), 0, nil), 0, nil},
 		"a longer header":                {framed(padded(longestHeader+1), 0, nil), 0, TooLong},
+		"nothing, compressed":            {framed(packed, 4, zeros[:4]), 0, nil},
 		"a header that is none":          {framed([]byte{0xff}, 0, nil), 0, BadMessage},
 		"compressed in an unknown way":   {framed(message.AppendNumber(ping, headerCompression, 2), 0, nil), 0, BadMessage},
 		"compressed":                     {compressed(most, most), most, nil},
@@ -118,21 +119,21 @@ func TestBoundsOfAHello(t *testing.T) {
 func TestBoundsOfAConfiguration(t *testing.T) {
 	id := protocol.DeviceID{7}
 	device := func(sequence uint64, token string) []byte {
-		made := message.AppendText(message.AppendText(nil, deviceID, id[:]), deviceName, []byte("nas"))
-		return message.AppendText(message.AppendNumber(message.AppendNumber(made, deviceSequence, sequence), deviceIndexID, 4), deviceToken, []byte(token))
+		text := message.AppendText(message.AppendText(nil, deviceID, id[:]), deviceName, []byte("nas"))
+		return message.AppendText(message.AppendNumber(message.AppendNumber(text, deviceSequence, sequence), deviceIndexID, 4), deviceToken, []byte(token))
 	}
 	folder := func(id string, more ...[]byte) []byte {
-		made := message.AppendText(message.AppendText(nil, folderID, []byte(id)), folderLabel, []byte("Label"))
-		for _, one := range more {
-			made = message.AppendText(made, folderDevice, one)
+		text := message.AppendText(message.AppendText(nil, folderID, []byte(id)), folderLabel, []byte("Label"))
+		for _, device := range more {
+			text = message.AppendText(text, folderDevice, device)
 		}
-		return made
+		return text
 	}
-	config := func(folders ...[]byte) (made []byte) {
-		for _, one := range folders {
-			made = message.AppendText(made, configFolder, one)
+	config := func(folders ...[]byte) (text []byte) {
+		for _, folder := range folders {
+			text = message.AppendText(text, configFolder, folder)
 		}
-		return made
+		return text
 	}
 	limits := &Limits{Folders: 2, Devices: 2}
 	long := strings.Repeat("f", longestFolderID)
@@ -158,8 +159,8 @@ func TestBoundsOfAConfiguration(t *testing.T) {
 	} {
 		read, err := foldersIn(row.text, row.asked, limits)
 		ids := []string{}
-		for _, one := range read {
-			ids = append(ids, one.ID)
+		for _, folder := range read {
+			ids = append(ids, folder.ID)
 		}
 		if !errors.Is(err, row.err) || err == nil && strings.Join(ids, " ") != row.ids {
 			t.Errorf("%s: %.30q, %v", why, ids, err)
@@ -173,8 +174,8 @@ func TestBoundsOfAConfiguration(t *testing.T) {
 				t.Errorf("%d, %d: %+v, %v", flag, value, read, err)
 			}
 			if flags := map[bool]int{}; err == nil {
-				for _, one := range []bool{read.SendOnly, read.IgnoresPermissions, read.Paused} {
-					flags[one]++
+				for _, flag := range []bool{read.SendOnly, read.IgnoresPermissions, read.Paused} {
+					flags[flag]++
 				}
 				if flags[true] != int(value) {
 					t.Errorf("%d: %+v", flag, read)
@@ -188,30 +189,32 @@ func TestBoundsOfAConfiguration(t *testing.T) {
 			t.Errorf("type %d: %+v, %v", value, read, err)
 		}
 	}
-	made := &Folder{Devices: []Sharing{{Device: id, IndexID: 4}}}
-	if one, is := made.Of(id); !is || one.IndexID != 4 {
-		t.Errorf("%+v", one)
+	agreed := &Folder{Devices: []Sharing{{Device: id, IndexID: 4}}}
+	if sharing, is := agreed.Of(id); !is || sharing.IndexID != 4 {
+		t.Errorf("%+v", sharing)
 	}
-	if one, is := made.Of(protocol.DeviceID{8}); is || one != (Sharing{}) {
-		t.Errorf("%+v", one)
+	if sharing, is := agreed.Of(protocol.DeviceID{8}); is || sharing != (Sharing{}) {
+		t.Errorf("%+v", sharing)
 	}
 }
 
 // A record has as many counters and as long a name as are taken, and no more; blocks without hashes aren't read without an end.
 func TestBoundsOfARecord(t *testing.T) {
-	name := func(length int) []byte { return message.AppendText(nil, fileName, bytes.Repeat([]byte{'n'}, length)) }
+	name := func(length int) []byte {
+		return message.AppendText(nil, message.FileName, bytes.Repeat([]byte{'n'}, length))
+	}
 	counters := func(count int) []byte {
 		version := []byte{}
 		for number := 0; number < count; number++ {
-			version = message.AppendText(version, versionCounter, message.AppendNumber(message.AppendNumber(nil, counterID, uint64(number+1)), counterValue, 7))
+			version = message.AppendText(version, message.VersionCounter, message.AppendNumber(message.AppendNumber(nil, message.CounterID, uint64(number+1)), message.CounterValue, 7))
 		}
-		return message.AppendText(nil, fileVersion, version)
+		return message.AppendText(nil, message.FileVersion, version)
 	}
-	blocks := func(count int) (made []byte) {
+	blocks := func(count int) (text []byte) {
 		for number := 0; number < count; number++ {
-			made = message.AppendText(made, fileBlock, message.AppendNumber(nil, blockSize, 1))
+			text = message.AppendText(text, message.FileBlock, message.AppendNumber(nil, message.BlockSize, 1))
 		}
-		return made
+		return text
 	}
 	for why, row := range map[string]struct {
 		text []byte
@@ -231,17 +234,17 @@ func TestBoundsOfARecord(t *testing.T) {
 // The key of an observer is for its user alone: its id stays, and a directory that others may enter, or that is none, isn't used.
 func TestWhoseKeyAnObserverHas(t *testing.T) {
 	directory := filepath.Join(t.TempDir(), "observer")
-	made, err := Create(directory)
+	observer, err := Create(directory)
 	if err != nil {
 		t.Fatal(err)
 	}
 	for _, open := range []func(string) (*Observer, error){Create, Open} {
-		if again, err := open(directory); err != nil || again.ID != made.ID {
+		if again, err := open(directory); err != nil || again.ID != observer.ID {
 			t.Errorf("%v, %v", again, err)
 		}
 	}
-	if one, other := made.indexID("docs"), made.indexID("pics"); one == other || one%2 != 1 || one != made.indexID("docs") {
-		t.Errorf("%d, %d", one, other)
+	if first, other := observer.indexID("docs"), observer.indexID("pics"); first == other || first%2 != 1 || first != observer.indexID("docs") {
+		t.Errorf("%d, %d", first, other)
 	}
 	if entries, err := os.ReadDir(directory); err != nil || len(entries) != 2 {
 		t.Errorf("%v, %v", entries, err)

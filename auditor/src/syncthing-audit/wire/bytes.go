@@ -167,15 +167,15 @@ func (a *asker) read(ctx context.Context, name string, recorded, blockSize int64
 
 // blocks asks for so many of a file's bytes.
 func (a *asker) blocks(ctx context.Context, name string, most, blockSize int64) (Found, error) {
-	made := Found{State: Same, BlockSize: blockSize}
+	found := Found{State: Same, BlockSize: blockSize}
 	if most == 0 { // no byte is to be asked for
-		made.Blocks = [][32]byte{sha256.Sum256(nil)}
-		return made, nil
+		found.Blocks = [][32]byte{sha256.Sum256(nil)}
+		return found, nil
 	}
-	made.Blocks = make([][32]byte, part.CountOfBlocks(most, blockSize))
-	states, errs := make([]State, len(made.Blocks)), make([]error, len(made.Blocks))
+	found.Blocks = make([][32]byte, part.CountOfBlocks(most, blockSize))
+	states, errs := make([]State, len(found.Blocks)), make([]error, len(found.Blocks))
 	var all sync.WaitGroup
-	for place := range made.Blocks {
+	for place := range found.Blocks {
 		offset := int64(place) * blockSize
 		asked := request.ForBlock(name, offset, int32(min(blockSize, most-offset)))
 		all.Add(1)
@@ -185,7 +185,7 @@ func (a *asker) blocks(ctx context.Context, name string, most, blockSize int64) 
 			defer a.room.leave(asked)
 			said, err := a.of.over.ask(ctx, a.of.ID, asked)
 			states[place], errs[place] = stateOf(said), err
-			made.Blocks[place] = sha256.Sum256(said.data)
+			found.Blocks[place] = sha256.Sum256(said.data)
 		}(place)
 	}
 	all.Wait()
@@ -194,7 +194,7 @@ func (a *asker) blocks(ctx context.Context, name string, most, blockSize int64) 
 			return Found{State: states[place]}, errs[place]
 		}
 	}
-	return made, nil
+	return found, nil
 }
 
 // length finds how many bytes a file has: those that are recorded, mostly.

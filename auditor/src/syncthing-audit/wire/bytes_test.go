@@ -31,7 +31,8 @@ func look(t *testing.T, recorded map[string]string, change func(*fake)) (map[str
 		f.hello()
 		files := []file{}
 		for place, name := range names {
-			files = append(files, file{name: name, data: recorded[name], sequence: uint64(place + 1), deleted: strings.HasPrefix(name, "deleted")})
+			files = append(files, file{name: name, data: recorded[name], sequence: uint64(place + 1), deleted: strings.HasPrefix(name, "deleted"),
+				directory: strings.HasPrefix(name, "directory")})
 		}
 		f.write(kindClusterConfig, f.config("docs", observer.ID, 42, uint64(len(names))), false)
 		readFrame(f.stream, 1<<20, func() {})
@@ -50,12 +51,12 @@ func look(t *testing.T, recorded map[string]string, change func(*fake)) (map[str
 		t.Fatal(err)
 	}
 	found, last := map[string]Found{}, ""
-	err = connection.Folders[0].Bytes(context.Background(), index, all, func(entry entries.Entry, one Found) error {
+	err = connection.Folders[0].Bytes(context.Background(), index, all, func(entry entries.Entry, content Found) error {
 		name := entry.Name
 		if name <= last {
 			t.Errorf("%s behind %s", name, last)
 		}
-		found[name], last = one, name
+		found[name], last = content, name
 		return nil
 	})
 	if err != nil {
@@ -77,7 +78,7 @@ func TestFaults(t *testing.T) {
 	large := strings.Repeat("large", 100000) // four blocks
 	recorded := map[string]string{"same": large, "one": "1", "one grown": "1", "empty": "", "empty grown": "", "rot": large, "rot of one": "1", "missing": large,
 		"missing empty": "", "ignored": large, "truncated": large, "cut at a block": large, "grown": large, "grown much": "text", "emptied": large,
-		"deleted": "", "deleted and there": ""}
+		"deleted": "", "deleted and there": "", "directory": "", "directory that is a file": ""}
 	found, device := look(t, recorded, func(f *fake) {
 		f.disk["one grown"] = "11"
 		f.disk["empty grown"] = "x"
@@ -92,7 +93,8 @@ func TestFaults(t *testing.T) {
 		f.disk["grown"] = large + "x"
 		f.disk["grown much"] = "text" + large
 		f.disk["emptied"] = ""
-		f.disk["deleted and there"] = "x"
+		f.disk["deleted and there"], f.disk["directory that is a file"] = "x", "x"
+		delete(f.disk, "directory")
 	})
 	want := map[string]struct {
 		state  State
@@ -103,12 +105,12 @@ func TestFaults(t *testing.T) {
 		"rot": {Differs, 500000, []int{1}}, "rot of one": {Differs, 1, []int{0}}, "missing": {Missing, 0, nil}, "missing empty": {Missing, 0, nil},
 		"ignored": {Ignored, 0, nil}, "truncated": {Differs, 300000, []int{2, 3}}, "cut at a block": {Differs, 2 * block, []int{2, 3}},
 		"grown": {Differs, 500001, []int{3}}, "grown much": {Differs, 500004, []int{0, 1, 2, 3}}, "emptied": {Differs, 0, []int{0, 1, 2, 3}},
-		"deleted": {Missing, 0, nil}, "deleted and there": {Present, 1, nil},
+		"deleted": {Missing, 0, nil}, "deleted and there": {Present, 1, nil}, "directory": {Missing, 0, nil}, "directory that is a file": {Present, 1, nil},
 	}
-	for name, one := range want {
+	for name, row := range want {
 		got := found[name]
-		if got.State != one.state || got.Size != one.size || !equal(blocksIn(got.Differ), one.differ) {
-			t.Errorf("%s: %s, %d bytes, blocks %v differ, in place of %v", name, got.State, got.Size, got.Differ, one)
+		if got.State != row.state || got.Size != row.size || !equal(blocksIn(got.Differ), row.differ) {
+			t.Errorf("%s: %s, %d bytes, blocks %v differ, in place of %v", name, got.State, got.Size, got.Differ, row)
 		}
 	}
 	if len(device.rescans) > 0 {
@@ -123,15 +125,15 @@ func TestFaults(t *testing.T) {
 
 // blocksIn gives the blocks that differ, one by one.
 func blocksIn(differ *part.Differ) []int {
-	var made []int
+	var numbers []int
 	if differ != nil {
-		for _, one := range differ.Ranges {
-			for block := one[0]; block <= one[1]; block++ {
-				made = append(made, int(block))
+		for _, pair := range differ.Ranges {
+			for block := pair[0]; block <= pair[1]; block++ {
+				numbers = append(numbers, int(block))
 			}
 		}
 	}
-	return made
+	return numbers
 }
 
 func equal(a, b []int) bool {
@@ -158,13 +160,13 @@ func TestRandomLengths(t *testing.T) {
 		}
 	}
 	found, device := look(t, recorded, func(f *fake) { f.disk = disk })
-	for name, one := range found {
+	for name, content := range found {
 		state := Differs
 		if disk[name] == recorded[name] {
 			state = Same
 		}
-		if one.State != state || one.Size != int64(len(disk[name])) {
-			t.Errorf("%d bytes recorded, %d on the disk: %s, %d", len(recorded[name]), len(disk[name]), one.State, one.Size)
+		if content.State != state || content.Size != int64(len(disk[name])) {
+			t.Errorf("%d bytes recorded, %d on the disk: %s, %d", len(recorded[name]), len(disk[name]), content.State, content.Size)
 		}
 	}
 	if len(device.rescans) > 0 {

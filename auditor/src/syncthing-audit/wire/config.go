@@ -66,7 +66,7 @@ const (
 
 // foldersIn gives what a ClusterConfig says of these folders or, where none is asked for, of all, each once. Others take no room.
 func foldersIn(config []byte, asked []string, limits *Limits) ([]*Folder, error) {
-	made, isTaken := []*Folder{}, map[string]bool{}
+	folders, isTaken := []*Folder{}, map[string]bool{}
 	err := message.Each(config, func(field message.Field) error {
 		if field.Number != configFolder {
 			return nil
@@ -75,18 +75,18 @@ func foldersIn(config []byte, asked []string, limits *Limits) ([]*Folder, error)
 		if err != nil || isTaken[id] || len(asked) > 0 && !slices.Contains(asked, id) {
 			return err
 		}
-		if len(made) == limits.Folders {
+		if len(folders) == limits.Folders {
 			return fmt.Errorf("%w: over %d", TooManyFolders, limits.Folders)
 		}
 		isTaken[id] = true
 		folder, err := folderOf(field.Text, limits.Devices)
-		made = append(made, folder)
+		folders = append(folders, folder)
 		return err
 	})
 	if err != nil {
 		return nil, badly("its ClusterConfig", err)
 	}
-	return made, nil
+	return folders, nil
 }
 
 // longestFolderID is more than any folder's id has: Syncthing takes one of any length from a person.
@@ -123,67 +123,67 @@ func (f *Folder) takeType(value uint64) {
 
 // folderOf reads what is said of a folder.
 func folderOf(text []byte, most int) (*Folder, error) {
-	made := &Folder{}
+	folder := &Folder{}
 	err := message.Each(text, func(field message.Field) error {
 		switch field.Number {
 		case folderID:
-			made.ID = string(field.Text)
+			folder.ID = string(field.Text)
 		case folderLabel:
-			made.Label = limits.Cut(string(field.Text))
+			folder.Label = limits.Cut(string(field.Text))
 		case folderType:
-			made.takeType(field.Value)
+			folder.takeType(field.Value)
 		case folderIgnoresPermissions:
-			made.IgnoresPermissions = field.Value != 0
+			folder.IgnoresPermissions = field.Value != 0
 		case folderPaused:
-			made.Paused = field.Value != 0
+			folder.Paused = field.Value != 0
 		case folderDevice:
-			if len(made.Devices) == most {
+			if len(folder.Devices) == most {
 				return fmt.Errorf("%w: over %d", TooManyDevices, most)
 			}
 			sharing, token, err := sharingOf(field.Text)
-			made.Devices = append(made.Devices, sharing)
+			folder.Devices = append(folder.Devices, sharing)
 			if sharing.Encrypted {
-				if made.tokens == nil {
-					made.tokens = map[protocol.DeviceID][]byte{}
+				if folder.tokens == nil {
+					folder.tokens = map[protocol.DeviceID][]byte{}
 				}
-				made.tokens[sharing.Device] = token
+				folder.tokens[sharing.Device] = token
 			}
 			return err
 		}
 		return nil
 	})
-	return made, err
+	return folder, err
 }
 
 // longestToken is more than any token has: a folder's id with a few bytes.
 const longestToken = 2 * longestFolderID
 
 // sharingOf reads what is said of a folder's device, and the token of its password.
-func sharingOf(text []byte) (made Sharing, token []byte, err error) {
+func sharingOf(text []byte) (sharing Sharing, token []byte, err error) {
 	err = message.Each(text, func(field message.Field) error {
 		switch field.Number {
 		case deviceID:
 			device, err := protocol.DeviceIDFromBytes(field.Text)
-			made.Device = device
+			sharing.Device = device
 			return err
 		case deviceName:
-			made.Name = limits.Cut(string(field.Text))
+			sharing.Name = limits.Cut(string(field.Text))
 		case deviceSequence:
-			made.Sequence = int64(field.Value)
+			sharing.Sequence = int64(field.Value)
 		case deviceIndexID:
-			made.IndexID = field.Value
+			sharing.IndexID = field.Value
 		case deviceToken:
 			if len(field.Text) > longestToken {
 				return fmt.Errorf("%w: a password's token of %d bytes", BadMessage, len(field.Text))
 			}
-			made.Encrypted, token = len(field.Text) > 0, append([]byte(nil), field.Text...)
+			sharing.Encrypted, token = len(field.Text) > 0, append([]byte(nil), field.Text...)
 		}
 		return nil
 	})
-	if err == nil && made.Sequence < 0 {
-		err = fmt.Errorf("a highest sequence of %d", made.Sequence)
+	if err == nil && sharing.Sequence < 0 {
+		err = fmt.Errorf("a highest sequence of %d", sharing.Sequence)
 	}
-	return made, token, err
+	return sharing, token, err
 }
 
 // badly says that a message can't be read, unless the error is a refusal already.

@@ -72,19 +72,19 @@ type Wanted func(protocol.DeviceID) (look Look, is bool)
 
 // begin begins a connection up to the observer's ClusterConfig.
 func (o *Observer) begin(ctx context.Context, stream *tls.Conn, limits Limits, wanted Wanted) (*Connection, error) {
-	made := &Connection{stream: stream, limits: limits, Out: map[string]error{}, waiting: map[int32]chan response{}, news: make(chan struct{}, 1), ended: make(chan struct{})}
-	look, err := made.introduce(ctx, wanted)
+	connection := &Connection{stream: stream, limits: limits, Out: map[string]error{}, waiting: map[int32]chan response{}, news: make(chan struct{}, 1), ended: make(chan struct{})}
+	look, err := connection.introduce(ctx, wanted)
 	if err == nil {
-		err = o.agree(made, look)
+		err = o.agree(connection, look)
 	}
 	if err != nil {
 		stream.Close()
 		return nil, err
 	}
-	made.heard = time.Now()
-	go made.read()
-	go made.ping()
-	return made, nil
+	connection.heard = time.Now()
+	go connection.read()
+	go connection.ping()
+	return connection, nil
 }
 
 // introduce does what goes before all messages: TLS with a device that is wanted, and both Hellos. It gives what is asked of the device.

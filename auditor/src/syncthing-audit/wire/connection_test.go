@@ -115,15 +115,15 @@ func TestDeltas(t *testing.T) {
 		{"another index", 43, 3, 0, 0, 1},
 		{"a device that went back", 42, 1, 0, 0, 1},
 	}
-	for _, one := range cases {
+	for _, row := range cases {
 		observer := newObserver(t)
 		answered := make(chan []byte, 1)
 		device := newFake(t, func(f *fake) {
 			f.hello()
-			f.write(kindClusterConfig, f.config("docs", observer.ID, one.id, one.sequence), false)
+			f.write(kindClusterConfig, f.config("docs", observer.ID, row.id, row.sequence), false)
 			_, text, _ := readFrame(f.stream, 1<<20, func() {})
 			answered <- text
-			f.write(kindIndexUpdate, indexOf("docs", file{name: "new", sequence: one.sequence}), false)
+			f.write(kindIndexUpdate, indexOf("docs", file{name: "new", sequence: row.sequence}), false)
 			f.serve()
 		})
 		kept := NewIndex(42)
@@ -132,16 +132,16 @@ func TestDeltas(t *testing.T) {
 		}
 		connection, err := dial(observer, device, kept, short())
 		if err != nil {
-			t.Fatal(one.why, err)
+			t.Fatal(row.why, err)
 		}
 		index, err := connection.Folders[0].Index(context.Background())
 		if err != nil {
-			t.Fatal(one.why, err)
+			t.Fatal(row.why, err)
 		}
-		if count, err := index.Count(); err != nil || count != int64(one.names) || index.Highest != int64(one.sequence) {
-			t.Errorf("%s: %d names, %v", one.why, count, err)
+		if count, err := index.Count(); err != nil || count != int64(row.names) || index.Highest != int64(row.sequence) {
+			t.Errorf("%s: %d names, %v", row.why, count, err)
 		}
-		checkAnswer(t, observer, device, <-answered, one.announced, one.highest)
+		checkAnswer(t, observer, device, <-answered, row.announced, row.highest)
 		connection.Close()
 	}
 }
@@ -213,13 +213,13 @@ func TestRefusals(t *testing.T) {
 		{"blocks without hashes", BadMessage, then(kindIndex, message.AppendText(message.AppendText(nil, indexFolder, []byte("docs")), indexFile,
 			[]byte(strings.Repeat("\x82\x01\x00", 1000))))},
 		{"a version of very many counters", BadMessage, then(kindIndex, message.AppendText(message.AppendText(nil, indexFolder, []byte("docs")), indexFile,
-			message.AppendText(nil, fileVersion, []byte(strings.Repeat("\x0a\x00", 5000)))))},
+			message.AppendText(nil, message.FileVersion, []byte(strings.Repeat("\x0a\x00", 5000)))))},
 		{"an end before the index", Closed, then(kindClose, nil)},
 	}
-	for _, one := range cases {
-		device := newFake(t, one.script)
-		if got := refusalOf(observer, device, short()); got == nil || !errors.Is(got, one.want) {
-			t.Errorf("%s: %v in place of %v", one.why, got, one.want)
+	for _, row := range cases {
+		device := newFake(t, row.script)
+		if got := refusalOf(observer, device, short()); got == nil || !errors.Is(got, row.want) {
+			t.Errorf("%s: %v in place of %v", row.why, got, row.want)
 		}
 	}
 }
@@ -253,16 +253,16 @@ func TestEndless(t *testing.T) {
 	}
 	records, bytes, time1 := short(), short(), short()
 	records.Records, bytes.Index, time1.Frame = 100, 5000, 100*time.Millisecond
-	for _, one := range []struct {
+	for _, row := range []struct {
 		want   Refusal
 		limits Limits
 		script func(*fake)
 	}{{TooManyRecords, records, endless}, {TooLarge, bytes, endless}, {TooLate, time1, slow}} {
-		if got := refusalOf(observer, newFake(t, one.script), one.limits); !errors.Is(got, one.want) {
-			t.Errorf("%v in place of %v", got, one.want)
+		if got := refusalOf(observer, newFake(t, row.script), row.limits); !errors.Is(got, row.want) {
+			t.Errorf("%v in place of %v", got, row.want)
 		}
 	}
-	if err := refusalOf(observer, newFake(t, func(f *fake) { f.hello(); f.serve() }), Limits{Handshake: 200 * time.Millisecond, Hello: 1000}); !errors.Is(err, TooLate) {
+	if err := refusalOf(observer, newFake(t, func(f *fake) { f.hello(); f.serve() }), Limits{Handshake: time.Second, Hello: 1000}); !errors.Is(err, TooLate) {
 		t.Errorf("a device that says nothing: %v", err)
 	}
 }

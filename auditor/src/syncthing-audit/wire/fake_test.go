@@ -20,31 +20,35 @@ import (
 
 // file is a record that a fake device tells, as far as tests differ in it.
 type file struct {
-	name     string
-	data     string
-	sequence uint64
-	deleted  bool
+	name      string
+	data      string
+	sequence  uint64
+	deleted   bool
+	directory bool
 }
 
 // text gives the record as it is sent.
 func (f file) text() []byte {
-	made := message.AppendText(nil, fileName, []byte(f.name))
-	made = message.AppendNumber(made, fileModifiedS, 1700000000)
-	made = message.AppendNumber(made, fileModifiedBy, 7)
-	made = message.AppendNumber(made, fileSequence, f.sequence)
-	counter := message.AppendNumber(message.AppendNumber(nil, counterID, 7), counterValue, 1)
-	made = message.AppendText(made, fileVersion, message.AppendText(nil, versionCounter, counter))
+	text := message.AppendText(nil, message.FileName, []byte(f.name))
+	text = message.AppendNumber(text, message.FileModifiedS, 1700000000)
+	text = message.AppendNumber(text, message.FileModifiedBy, 7)
+	text = message.AppendNumber(text, message.FileSequence, f.sequence)
+	counter := message.AppendNumber(message.AppendNumber(nil, message.CounterID, 7), message.CounterValue, 1)
+	text = message.AppendText(text, message.FileVersion, message.AppendText(nil, message.VersionCounter, counter))
 	if f.deleted {
-		return message.AppendNumber(made, fileDeleted, 1)
+		return message.AppendNumber(text, message.FileDeleted, 1)
 	}
-	made = message.AppendNumber(made, fileSize, uint64(len(f.data)))
+	if f.directory {
+		return message.AppendNumber(text, message.FileType, uint64(protocol.FileInfoTypeDirectory))
+	}
+	text = message.AppendNumber(text, message.FileSize, uint64(len(f.data)))
 	for offset := 0; offset == 0 || offset < len(f.data); offset += protocol.MinBlockSize {
 		part := f.data[offset:min64(offset+protocol.MinBlockSize, len(f.data))]
 		sum := sha256.Sum256([]byte(part))
-		block := message.AppendNumber(message.AppendNumber(nil, blockOffset, uint64(offset)), blockSize, uint64(len(part)))
-		made = message.AppendText(made, fileBlock, message.AppendText(block, blockHash, sum[:]))
+		block := message.AppendNumber(message.AppendNumber(nil, message.BlockOffset, uint64(offset)), message.BlockSize, uint64(len(part)))
+		text = message.AppendText(text, message.FileBlock, message.AppendText(block, message.BlockHash, sum[:]))
 	}
-	return made
+	return text
 }
 
 func min64(a, b int) int {
@@ -56,11 +60,11 @@ func min64(a, b int) int {
 
 // indexOf gives a message of an index.
 func indexOf(folder string, files ...file) []byte {
-	made := message.AppendText(nil, indexFolder, []byte(folder))
-	for _, one := range files {
-		made = message.AppendText(made, indexFile, one.text())
+	text := message.AppendText(nil, indexFolder, []byte(folder))
+	for _, file := range files {
+		text = message.AppendText(text, indexFile, file.text())
 	}
-	return made
+	return text
 }
 
 // fake is a device that speaks the protocol as a test has it.
@@ -96,7 +100,7 @@ func newFake(t *testing.T, script func(*fake)) *fake {
 	if err != nil {
 		t.Fatal(err)
 	}
-	made := &fake{id: protocol.NewDeviceID(certificate.Certificate[0]), certificate: certificate, listener: listener, script: script}
+	device := &fake{id: protocol.NewDeviceID(certificate.Certificate[0]), certificate: certificate, listener: listener, script: script}
 	done := make(chan struct{})
 	go func() {
 		defer close(done)
@@ -105,12 +109,12 @@ func newFake(t *testing.T, script func(*fake)) *fake {
 			return
 		}
 		defer raw.Close()
-		made.stream = tls.Server(raw, &tls.Config{Certificates: []tls.Certificate{certificate}, ClientAuth: tls.RequireAnyClientCert,
+		device.stream = tls.Server(raw, &tls.Config{Certificates: []tls.Certificate{certificate}, ClientAuth: tls.RequireAnyClientCert,
 			NextProtos: []string{"bep/1.0"}, InsecureSkipVerify: true})
-		made.script(made)
+		device.script(device)
 	}()
 	t.Cleanup(func() { listener.Close(); <-done })
-	return made
+	return device
 }
 
 // hello exchanges Hellos.
@@ -147,13 +151,13 @@ func (f *fake) config(folder string, observer protocol.DeviceID, id, sequence ui
 	own = message.AppendNumber(message.AppendNumber(own, deviceSequence, sequence), deviceIndexID, id)
 	other := protocol.DeviceID{1}
 	known := message.AppendNumber(message.AppendNumber(message.AppendText(nil, deviceID, other[:]), deviceSequence, 5), deviceIndexID, 99)
-	made := message.AppendText(nil, folderID, []byte(folder))
-	made = message.AppendText(message.AppendText(made, folderDevice, own), folderDevice, known)
-	made = message.AppendText(made, folderDevice, message.AppendText(nil, deviceID, observer[:]))
+	text := message.AppendText(nil, folderID, []byte(folder))
+	text = message.AppendText(message.AppendText(text, folderDevice, own), folderDevice, known)
+	text = message.AppendText(text, folderDevice, message.AppendText(nil, deviceID, observer[:]))
 	for _, change := range more {
-		made = change(made)
+		text = change(text)
 	}
-	return message.AppendText(message.AppendText(nil, configFolder, message.AppendText(nil, folderID, []byte("other"))), configFolder, made)
+	return message.AppendText(message.AppendText(nil, configFolder, message.AppendText(nil, folderID, []byte("other"))), configFolder, text)
 }
 
 // isThere says whether the connection isn't ended yet.
@@ -237,15 +241,15 @@ func (f *fake) give(name string, offset int64, size int, hash []byte, weak uint3
 		}
 		return nil, codeNoSuchFile
 	}
-	made := []byte(f.recorded[name]) // a stale buffer at its worst: the recorded bytes
-	if offset < int64(len(made)) {
-		made = made[offset:]
+	text := []byte(f.recorded[name]) // a stale buffer at its worst: the recorded bytes
+	if offset < int64(len(text)) {
+		text = text[offset:]
 	} else {
-		made = nil
+		text = nil
 	}
-	made = append(made, make([]byte, size)...)[:size]
-	copy(made, read)
-	return made, codeNone
+	text = append(text, make([]byte, size)...)[:size]
+	copy(text, read)
+	return text, codeNone
 }
 
 func (f *fake) isRecorded(name string, offset int64, hash []byte) bool {
@@ -261,16 +265,16 @@ func (f *fake) isRecorded(name string, offset int64, hash []byte) bool {
 // newObserver makes an observer in a directory of its own.
 func newObserver(t *testing.T) *Observer {
 	t.Helper()
-	made, err := Create(filepath.Join(t.TempDir(), "observer"))
+	observer, err := Create(filepath.Join(t.TempDir(), "observer"))
 	if err != nil {
 		t.Fatal(err)
 	}
-	return made
+	return observer
 }
 
 // short are limits for tests.
 func short() Limits {
-	made := Usual
-	made.Message, made.IndexQuiet, made.Handshake = 1<<20, 300*time.Millisecond, 5*time.Second
-	return made
+	limits := Usual
+	limits.Message, limits.IndexQuiet, limits.Handshake = 1<<20, 300*time.Millisecond, 5*time.Second
+	return limits
 }

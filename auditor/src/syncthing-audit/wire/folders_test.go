@@ -12,11 +12,11 @@ import (
 
 // sharing gives what a device says of several folders: each of these with its index id and sequence, and what more is said of it.
 func (f *fake) sharing(observer protocol.DeviceID, folders ...string) []byte {
-	made := []byte{}
+	text := []byte{}
 	for at, id := range folders {
-		made = append(made, f.config(id, observer, uint64(at+40), 1)...)
+		text = append(text, f.config(id, observer, uint64(at+40), 1)...)
 	}
-	return made
+	return text
 }
 
 // connected connects for these folders to a device that says this of its own, and gives what the observer answered it.
@@ -29,8 +29,8 @@ func connected(t *testing.T, folders []string, config func(f *fake, observer pro
 		f.write(kindClusterConfig, config(f, observer.ID), false)
 		_, text, _ := readFrame(f.stream, 1<<20, func() {})
 		answered <- text
-		for _, one := range messages {
-			f.write(kindIndex, one, false)
+		for _, message := range messages {
+			f.write(kindIndex, message, false)
 		}
 		f.serve()
 	})
@@ -46,12 +46,12 @@ func connected(t *testing.T, folders []string, config func(f *fake, observer pro
 // told why. Each has its own index.
 func TestSeveralFolders(t *testing.T) {
 	config := func(f *fake, observer protocol.DeviceID) []byte {
-		made := f.sharing(observer, "photos", "docs", "more")
-		made = append(made, f.config("paused", observer, 50, 1, func(b []byte) []byte { return message.AppendNumber(b, folderPaused, 1) })...)
-		made = append(made, f.config("odd", observer, 50, 1, func(b []byte) []byte { return message.AppendNumber(b, folderType, 9) })...)
-		return append(made, f.config("docs", observer, 99, 1)...) // once more: the first word counts
+		text := f.sharing(observer, "photos", "docs", "more")
+		text = append(text, f.config("paused", observer, 50, 1, func(b []byte) []byte { return message.AppendNumber(b, folderPaused, 1) })...)
+		text = append(text, f.config("odd", observer, 50, 1, func(b []byte) []byte { return message.AppendNumber(b, folderType, 9) })...)
+		return append(text, f.config("docs", observer, 99, 1)...) // once more: the first word counts
 	}
-	for _, one := range []struct {
+	for _, row := range []struct {
 		asked, observed []string
 		out             map[string]Refusal
 	}{
@@ -63,18 +63,18 @@ func TestSeveralFolders(t *testing.T) {
 		for _, id := range []string{"more", "photos", "docs"} {
 			indexes = append(indexes, indexOf(id, file{name: "in " + id, sequence: 1}))
 		}
-		connection, answer, err := connected(t, one.asked, config, indexes...)
+		connection, answer, err := connected(t, row.asked, config, indexes...)
 		if err != nil {
-			t.Fatal(one.asked, err)
+			t.Fatal(row.asked, err)
 		}
 		said, err := foldersIn(answer, nil, &Usual)
-		if err != nil || len(said) != len(one.observed) || len(connection.Folders) != len(one.observed) || len(connection.Out) != len(one.out) {
-			t.Fatalf("%v: %v is answered, %v is observed, %v isn't, %v", one.asked, said, connection.Folders, connection.Out, err)
+		if err != nil || len(said) != len(row.observed) || len(connection.Folders) != len(row.observed) || len(connection.Out) != len(row.out) {
+			t.Fatalf("%v: %v is answered, %v is observed, %v isn't, %v", row.asked, said, connection.Folders, connection.Out, err)
 		}
-		for at, id := range one.observed {
+		for at, id := range row.observed {
 			folder := connection.Folders[at]
 			if said[at].ID != id || folder.ID != id || connection.Shared(id) != folder || len(said[at].Devices) != 2 {
-				t.Errorf("%v: %s, %+v", one.asked, folder.ID, said[at])
+				t.Errorf("%v: %s, %+v", row.asked, folder.ID, said[at])
 			}
 			index, err := folder.Index(context.Background())
 			if err != nil {
@@ -84,9 +84,9 @@ func TestSeveralFolders(t *testing.T) {
 				t.Errorf("%s: %d names, index %d, %v", id, count, index.ID, err)
 			}
 		}
-		for id, why := range one.out {
+		for id, why := range row.out {
 			if !errors.Is(connection.Out[id], why) || connection.Shared(id) != nil {
-				t.Errorf("%v: %s: %v", one.asked, id, connection.Out[id])
+				t.Errorf("%v: %s: %v", row.asked, id, connection.Out[id])
 			}
 		}
 	}
@@ -99,16 +99,16 @@ func TestNoFolder(t *testing.T) {
 		return f.config("docs", observer, 50, 1, func(b []byte) []byte { return message.AppendNumber(b, folderPaused, 1) })
 	}
 	many := func(f *fake, observer protocol.DeviceID) []byte {
-		made := []byte{}
+		text := []byte{}
 		for at := 0; at <= Usual.Folders; at++ {
-			made = append(made, f.config(fmt.Sprint(at), observer, 1, 1)...)
+			text = append(text, f.config(fmt.Sprint(at), observer, 1, 1)...)
 		}
-		return made
+		return text
 	}
 	odd := func(id string) func(f *fake, observer protocol.DeviceID) []byte {
 		return func(f *fake, observer protocol.DeviceID) []byte { return f.config(id, observer, 1, 1) }
 	}
-	for _, one := range []struct {
+	for _, row := range []struct {
 		asked  []string
 		config func(f *fake, observer protocol.DeviceID) []byte
 		want   Refusal
@@ -123,8 +123,8 @@ func TestNoFolder(t *testing.T) {
 			})
 		}, BadMessage},
 	} {
-		if _, _, err := connected(t, one.asked, one.config); !errors.Is(err, one.want) {
-			t.Errorf("%v: %v in place of %v", one.asked, err, one.want)
+		if _, _, err := connected(t, row.asked, row.config); !errors.Is(err, row.want) {
+			t.Errorf("%v: %v in place of %v", row.asked, err, row.want)
 		}
 	}
 }
@@ -134,7 +134,7 @@ func TestLimitsOfAllFolders(t *testing.T) {
 	three := func(id string) []byte {
 		return indexOf(id, file{name: "a", sequence: 1}, file{name: "b", sequence: 2}, file{name: "c", sequence: 3})
 	}
-	for _, one := range []struct {
+	for _, row := range []struct {
 		change func(*Limits)
 		want   Refusal
 	}{{func(limits *Limits) { limits.Records = 5 }, TooManyRecords}, {func(limits *Limits) { limits.Index = int64(2*len(three("docs")) + 9) }, TooLarge}} {
@@ -149,13 +149,13 @@ func TestLimitsOfAllFolders(t *testing.T) {
 			f.serve()
 		})
 		limits := short()
-		one.change(&limits)
+		row.change(&limits)
 		connection, err := observer.Dial(context.Background(), device.listener.Addr().String(), device.id, Look{Folders: []string{"docs", "more"}}, limits)
 		if err != nil {
 			t.Fatal(err)
 		}
-		if _, err = connection.Folders[1].Index(context.Background()); !errors.Is(err, one.want) {
-			t.Errorf("%v in place of %v", err, one.want)
+		if _, err = connection.Folders[1].Index(context.Background()); !errors.Is(err, row.want) {
+			t.Errorf("%v in place of %v", err, row.want)
 		}
 		connection.Close()
 	}

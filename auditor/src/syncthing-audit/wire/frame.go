@@ -99,19 +99,19 @@ func decompress(body []byte, most int) ([]byte, error) {
 	if of > uint64(most) {
 		return nil, fmt.Errorf("%w: %d bytes once it is decompressed, where at most %d are taken", TooLong, of, most)
 	}
-	made := make([]byte, of)
-	length, err := lz4.UncompressBlock(body[4:], made)
-	if err != nil || length != len(made) {
+	text := make([]byte, of)
+	length, err := lz4.UncompressBlock(body[4:], text)
+	if err != nil || length != len(text) {
 		return nil, fmt.Errorf("%w: it can't be decompressed (%d bytes of %d, %v)", BadMessage, length, of, err)
 	}
-	return made, nil
+	return text, nil
 }
 
 // frameOf gives a message as it is sent, uncompressed.
 func frameOf(what kind, body []byte) []byte {
 	header := message.AppendNumber(nil, headerType, uint64(what))
-	made := binary.BigEndian.AppendUint16(nil, uint16(len(header)))
-	made = append(made, header...)
-	made = binary.BigEndian.AppendUint32(made, uint32(len(body)))
-	return append(made, body...)
+	frame := binary.BigEndian.AppendUint16(nil, uint16(len(header)))
+	frame = append(frame, header...)
+	frame = binary.BigEndian.AppendUint32(frame, uint32(len(body)))
+	return append(frame, body...)
 }

@@ -29,9 +29,9 @@ const (
 // its configuration.
 func writeHello(to io.Writer) error {
 	body := message.AppendText(nil, helloClient, []byte("syncthing-audit"))
-	made := binary.BigEndian.AppendUint32(nil, protocol.HelloMessageMagic)
-	made = binary.BigEndian.AppendUint16(made, uint16(len(body)))
-	_, err := to.Write(append(made, body...))
+	hello := binary.BigEndian.AppendUint32(nil, protocol.HelloMessageMagic)
+	hello = binary.BigEndian.AppendUint16(hello, uint16(len(body)))
+	_, err := to.Write(append(hello, body...))
 	return err
 }
 

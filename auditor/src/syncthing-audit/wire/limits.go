@@ -14,6 +14,7 @@ type Limits struct {
 	Handshake  time.Duration // for TLS and Hello together
 	Frame      time.Duration // for a message from its first byte on, and for what is written
 	Silence    time.Duration // with no message at all: devices send pings each 90 s
+	Ping       time.Duration // between the observer's own pings: a device gives up after 300 s without a message
 	Answer     time.Duration // for the answer to a request
 	IndexQuiet time.Duration // with nothing more of an index that isn't whole
 	IndexWhole time.Duration // for all of an index
@@ -27,7 +28,7 @@ type Limits struct {
 // hour over the slowest line, and a disk on that a program waits for gives some files each second. Of more bytes than two days give, slices are asked for.
 var Usual = Limits{
 	Message: 64 << 20, Hello: 32767, Index: 8 << 30, Records: 10_000_000, Name: 32 << 10, Devices: 4096, Folders: 256,
-	Handshake: 20 * time.Second, Frame: 2 * time.Minute, Silence: 5 * time.Minute, Answer: 2 * time.Minute, IndexQuiet: time.Minute,
+	Handshake: 20 * time.Second, Frame: 2 * time.Minute, Silence: 5 * time.Minute, Ping: time.Minute, Answer: 2 * time.Minute, IndexQuiet: time.Minute,
 	IndexWhole: 2 * time.Hour, BytesWhole: 48 * time.Hour, Grace: 10 * time.Minute, LeastSteps: 1, LeastBytes: 16 << 10,
 }
 

@@ -15,11 +15,11 @@ import (
 
 // hurried are limits under which a test sees in a second what takes hours under the usual ones.
 func hurried(change func(*Limits)) Limits {
-	made := short()
-	made.Frame, made.IndexQuiet, made.Answer = 20*time.Second, 20*time.Second, 20*time.Second
-	made.IndexWhole, made.BytesWhole, made.Grace, made.LeastSteps, made.LeastBytes = time.Minute, time.Minute, 400*time.Millisecond, 1000, 1e6
-	change(&made)
-	return made
+	limits := short()
+	limits.Frame, limits.IndexQuiet, limits.Answer = 20*time.Second, 20*time.Second, 20*time.Second
+	limits.IndexWhole, limits.BytesWhole, limits.Grace, limits.LeastSteps, limits.LeastBytes = time.Minute, time.Minute, 400*time.Millisecond, 1000, 1e6
+	change(&limits)
+	return limits
 }
 
 // slowFiles are the files of a device that is asked for bytes.
@@ -83,7 +83,7 @@ func TestASlowDevice(t *testing.T) {
 		return func(f *fake) { f.after = func(int) { time.Sleep(pause) } }
 	}
 	nothing := func(*fake) {}
-	for _, one := range []struct {
+	for _, row := range []struct {
 		why      string
 		limits   Limits
 		sequence uint64
@@ -92,8 +92,8 @@ func TestASlowDevice(t *testing.T) {
 		told     string // nothing where the device is quick enough
 	}{
 		{"a byte now and then", hurried(func(l *Limits) { l.Frame = 300 * time.Millisecond; l.Grace = time.Minute }), 2, func(f *fake) {
-			for _, one := range frameOf(kindIndex, indexOf("docs", file{name: "a", sequence: 2})) {
-				f.stream.Write([]byte{one})
+			for _, letter := range frameOf(kindIndex, indexOf("docs", file{name: "a", sequence: 2})) {
+				f.stream.Write([]byte{letter})
 				time.Sleep(50 * time.Millisecond)
 			}
 		}, nothing, "i/o timeout"},
@@ -125,14 +125,14 @@ func TestASlowDevice(t *testing.T) {
 			}
 		}, func(f *fake) { f.lie = func(int64, int) uint64 { return codeNoSuchFile } }, ""},
 	} {
-		one := one // its own, as all run at once
-		t.Run(one.why, func(t *testing.T) {
+		row := row // its own, as all run at once
+		t.Run(row.why, func(t *testing.T) {
 			t.Parallel()
-			err := lookWithin(t, one.limits, one.sequence, one.index, one.prepare)
+			err := lookWithin(t, row.limits, row.sequence, row.index, row.prepare)
 			switch {
-			case one.told == "" && err != nil:
+			case row.told == "" && err != nil:
 				t.Error(err)
-			case one.told != "" && (!errors.Is(err, TooLate) || !strings.Contains(err.Error(), one.told)):
+			case row.told != "" && (!errors.Is(err, TooLate) || !strings.Contains(err.Error(), row.told)):
 				t.Errorf("%v", err)
 			}
 		})
@@ -146,5 +146,35 @@ func TestUsualPace(t *testing.T) {
 	}
 	if Usual.Grace > time.Hour || Usual.IndexWhole > 2*time.Hour || Usual.BytesWhole > 48*time.Hour || Usual.LeastSteps < 0.5 || Usual.LeastBytes < 1<<10 {
 		t.Errorf("a device holds the run up: %+v", Usual)
+	}
+}
+
+// A device is too slow from a moment behind its grace, and what it has earned by what it gave; or behind its whole time.
+func TestWhenADeviceIsTooSlow(t *testing.T) {
+	connection := &Connection{limits: Limits{Grace: time.Second, LeastSteps: 10, LeastBytes: 100}}
+	for _, row := range []struct {
+		gave gave
+		most time.Duration
+	}{{gave{0, 0}, time.Second}, {gave{10, 0}, 2 * time.Second}, {gave{0, 100}, 2 * time.Second}, {gave{20, 300}, 6 * time.Second}, {gave{1000, 0}, 10 * time.Second}} {
+		for _, taken := range []time.Duration{row.most - 1, row.most, row.most + 1} {
+			err := connection.tooSlow("records", taken, 10*time.Second, func() gave { return row.gave })
+			if (err != nil) != (taken > row.most) || err != nil && !errors.Is(err, TooLate) {
+				t.Errorf("%+v in %v: %v", row.gave, taken, err)
+			}
+		}
+	}
+}
+
+// Once a watch is ended, a device may be as slow as it is.
+func TestAWatchThatIsEnded(t *testing.T) {
+	connection := &Connection{limits: Limits{Grace: 20 * time.Millisecond, LeastSteps: 1, LeastBytes: 1}}
+	asked := make(chan bool, 1000)
+	end := connection.keepPace("records", time.Hour, func() gave { asked <- true; return gave{steps: 1 << 20} })
+	<-asked
+	end()
+	time.Sleep(10 * time.Millisecond) // it may be asking for the last time
+	before := len(asked)
+	if time.Sleep(50 * time.Millisecond); len(asked) > before {
+		t.Errorf("it is watched %d times more", len(asked)-before)
 	}
 }

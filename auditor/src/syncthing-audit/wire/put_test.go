@@ -19,8 +19,8 @@ func TestRecordsThatArePut(t *testing.T) {
 		for batch := 0; batch < 6; batch++ {
 			var texts [][]byte
 			for count := random.Intn(4); count > 0; count-- {
-				made := file{name: names[random.Intn(len(names))], data: "text", sequence: uint64(1 + random.Int63n(50))}
-				texts = append(texts, made.text())
+				put := file{name: names[random.Intn(len(names))], data: "text", sequence: uint64(1 + random.Int63n(50))}
+				texts = append(texts, put.text())
 			}
 			if isRefused := random.Intn(4) == 0; isRefused {
 				if err := index.Put(append(texts, []byte("\xff"))...); err == nil {
@@ -80,18 +80,40 @@ func checkKept(t *testing.T, index *Index, names []string, kept map[string]int64
 // Each request that waits has a number of its own, above 0, also once the numbers begin anew. None is given behind the end of a connection.
 func TestNumbersOfRequests(t *testing.T) {
 	waiting := make(chan response)
-	made := &Connection{next: math.MaxInt32 - 2, waiting: map[int32]chan response{1: waiting, 2: waiting}}
+	connection := &Connection{next: math.MaxInt32 - 2, waiting: map[int32]chan response{1: waiting, 2: waiting}}
 	for _, due := range []int32{math.MaxInt32 - 1, math.MaxInt32, 3, 4} {
-		if id, err := made.expect(waiting); err != nil || id != due || made.waiting[id] == nil {
+		if id, err := connection.expect(waiting); err != nil || id != due || connection.waiting[id] == nil {
 			t.Errorf("%d, not %d: %v", id, due, err)
 		}
 	}
-	made.forget(3)
-	if made.waiting[3] != nil || made.waiting[4] == nil || len(made.waiting) != 5 {
-		t.Errorf("%d wait", len(made.waiting))
+	connection.forget(3)
+	if connection.waiting[3] != nil || connection.waiting[4] == nil || len(connection.waiting) != 5 {
+		t.Errorf("%d wait", len(connection.waiting))
 	}
-	made.failure = errors.New("over")
-	if id, err := made.expect(waiting); id != 0 || err != made.failure || made.ending() != made.failure {
+	connection.failure = errors.New("over")
+	if id, err := connection.expect(waiting); id != 0 || err != connection.failure || connection.ending() != connection.failure {
 		t.Errorf("%d, %v", id, err)
+	}
+}
+
+// An Index stands in place of all that was had, with sequences of its own; an Index Update goes on behind it.
+func TestAnIndexBeginsAnew(t *testing.T) {
+	limits := short()
+	taking := &taker{folder: "docs", limits: &limits, spent: &spent{}, index: NewIndex(7)}
+	defer taking.index.Close()
+	for _, row := range []struct {
+		file     file
+		isUpdate bool
+		err      error
+		kept     map[string]int64
+		highest  int64
+	}{
+		{file{name: "a", sequence: 9}, false, nil, map[string]int64{"a": 9}, 9}, {file{name: "b", sequence: 3}, false, nil, map[string]int64{"b": 3}, 3},
+		{file{name: "c", sequence: 3}, true, SequenceFalls, map[string]int64{"b": 3}, 3}, {file{name: "c", sequence: 4}, true, nil, map[string]int64{"b": 3, "c": 4}, 4},
+	} {
+		if err := taking.take(indexOf("docs", row.file), row.isUpdate); !errors.Is(err, row.err) {
+			t.Errorf("%+v: %v", row.file, err)
+		}
+		checkKept(t, taking.index, []string{"a", "b", "c"}, row.kept, row.highest)
 	}
 }

@@ -9,9 +9,6 @@ import (
 	"syncthing-audit/request"
 )
 
-// secondsOfPing is after how long without a message the observer sends one: a device gives up after 300.
-const secondsOfPing = 60
-
 // The numbers of a Response's fields, and its codes (BEP, 'Fields (Response)').
 const (
 	responseID   protowire.Number = 1
@@ -143,7 +140,7 @@ func (c *Connection) refuse(text []byte) error {
 
 // ping keeps the connection open while nothing else is sent.
 func (c *Connection) ping() {
-	ticker := time.NewTicker(secondsOfPing * time.Second)
+	ticker := time.NewTicker(c.limits.Ping)
 	defer ticker.Stop()
 	for {
 		select {

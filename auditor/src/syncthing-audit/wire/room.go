@@ -22,9 +22,9 @@ type room struct {
 }
 
 func newRoom() *room {
-	made := &room{}
-	made.left = sync.NewCond(&made.mutex)
-	return made
+	empty := &room{}
+	empty.left = sync.NewCond(&empty.mutex)
+	return empty
 }
 
 // enter waits until there is room for a request.

@@ -24,17 +24,17 @@ const whySealed = "its record there isn't encrypted with this password: it may b
 func (t *taker) open(entry protocol.FileInfo, text []byte) (string, []byte) {
 	name, err := t.key.Name(entry.Name)
 	if err != nil {
-		return entry.Name, message.AppendText(append([]byte{}, text...), fileEncrypted, []byte(sealed))
+		return entry.Name, message.AppendText(append([]byte{}, text...), message.FileEncrypted, []byte(sealed))
 	}
 	if record := t.opened(name, entry.Encrypted); record != nil {
-		record = message.AppendNumber(record, fileSequence, uint64(entry.Sequence))
+		record = message.AppendNumber(record, message.FileSequence, uint64(entry.Sequence))
 		if entry.RawInvalid {
-			record = message.AppendNumber(record, fileInvalid, 1)
+			record = message.AppendNumber(record, message.FileInvalid, 1)
 		}
 		return name, record
 	}
-	record := message.AppendText(append([]byte{}, text...), fileName, []byte(name))
-	return name, message.AppendText(record, fileEncrypted, []byte(sealed))
+	record := message.AppendText(append([]byte{}, text...), message.FileName, []byte(name))
+	return name, message.AppendText(record, message.FileEncrypted, []byte(sealed))
 }
 
 // opened gives the record of a name that was encrypted; nothing where it isn't one of this name.
@@ -43,14 +43,14 @@ func (t *taker) opened(name string, data []byte) []byte {
 	if err != nil {
 		return nil
 	}
-	made, err := key.Open(data)
+	plain, err := key.Open(data)
 	if err != nil || limits.CheckName(name) != nil {
 		return nil
 	}
-	if read, err := entryIn(made, t.limits.Name); err != nil || read.Name != name {
+	if read, err := entryIn(plain, t.limits.Name); err != nil || read.Name != name {
 		return nil
 	}
-	return made
+	return plain
 }
 
 // lookSealed finds what stands where a file is recorded that is encrypted there. Each block says by itself whether it is one that was encrypted with the
@@ -75,15 +75,15 @@ func (a *asker) lookSealed(ctx context.Context, entry device.Entry) (Found, erro
 		return Found{}, err
 	}
 	content := entry.Record.Content
-	made := Found{State: Same, Size: content.Size, BlockSize: content.BlockSize, Sealed: true, Blocks: make([][32]byte, len(entry.Blocks))}
-	state, err := a.sealedBlocks(ctx, name, key, &made)
+	found := Found{State: Same, Size: content.Size, BlockSize: content.BlockSize, Sealed: true, Blocks: make([][32]byte, len(entry.Blocks))}
+	state, err := a.sealedBlocks(ctx, name, key, &found)
 	if err != nil || state != Same {
 		return Found{State: state}, err
 	}
-	if made.Differ = disk.Compare(entry.Blocks, made.Blocks); made.Differ != nil {
-		made.State = Differs
+	if found.Differ = disk.Compare(entry.Blocks, found.Blocks); found.Differ != nil {
+		found.State = Differs
 	}
-	return made, nil
+	return found, nil
 }
 
 // sealedBlocks asks for all blocks of an encrypted file, and hashes what is in them. Of one that wasn't encrypted with the password it is the hash of

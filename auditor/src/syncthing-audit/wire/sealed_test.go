@@ -52,22 +52,22 @@ func (v *vault) seal(name string, data []byte) []byte {
 }
 
 func (v *vault) encrypted(name string) string {
-	made, err := v.key.Encrypted(name)
+	told, err := v.key.Encrypted(name)
 	if err != nil {
 		v.t.Fatal(err)
 	}
-	return made
+	return told
 }
 
 // add adds a record as the device sends it, with what is encrypted in it.
 func (v *vault) add(name string, inner []byte, more ...byte) {
 	v.next++
-	made := message.AppendNumber(message.AppendText(nil, fileName, []byte(name)), fileSequence, v.next)
-	made = message.AppendText(made, fileVersion, message.AppendText(nil, versionCounter, message.AppendNumber(message.AppendNumber(nil, counterID, 1), counterValue, v.next)))
+	text := message.AppendNumber(message.AppendText(nil, message.FileName, []byte(name)), message.FileSequence, v.next)
+	text = message.AppendText(text, message.FileVersion, message.AppendText(nil, message.VersionCounter, message.AppendNumber(message.AppendNumber(nil, message.CounterID, 1), message.CounterValue, v.next)))
 	if inner != nil {
-		made = message.AppendText(made, fileEncrypted, inner)
+		text = message.AppendText(text, message.FileEncrypted, inner)
 	}
-	v.index = message.AppendText(v.index, indexFile, append(made, more...))
+	v.index = message.AppendText(v.index, indexFile, append(text, more...))
 }
 
 // put adds a file, and puts it on the disk.
@@ -126,11 +126,11 @@ func TestSealedFolder(t *testing.T) {
 	v.disk[v.encrypted("cut")] = v.disk[v.encrypted("cut")][:3*(protocol.MinBlockSize+secret.Overhead)]
 	v.disk[v.encrypted("cut small")] = v.disk[v.encrypted("cut small")][:20]
 	delete(v.disk, v.encrypted("missing"))
-	v.add("text", nil)                                                                     // a file that somebody put there
-	v.add(v.encrypted("changed there"), nil, message.AppendNumber(nil, fileInvalid, 1)...) // a change that was made there
+	v.add("text", nil)                                                                             // a file that somebody put there
+	v.add(v.encrypted("changed there"), nil, message.AppendNumber(nil, message.FileInvalid, 1)...) // a change that was made there
 	v.add(v.encrypted("swapped"), v.seal("other", file{name: "other", data: "x", sequence: 1}.text()))
 	v.add(v.encrypted("named otherwise"), v.seal("named otherwise", file{name: "other", data: "x", sequence: 1}.text()))
-	v.add(v.encrypted("invalid"), v.seal("invalid", file{name: "invalid", data: "i", sequence: 1}.text()), message.AppendNumber(nil, fileInvalid, 1)...)
+	v.add(v.encrypted("invalid"), v.seal("invalid", file{name: "invalid", data: "i", sequence: 1}.text()), message.AppendNumber(nil, message.FileInvalid, 1)...)
 	v.add(v.encrypted("deleted"), v.seal("deleted", file{name: "deleted", sequence: 1, deleted: true}.text()))
 	connection, _, device, answer, err := v.open(map[string]string{"docs": passwordOfTest, "other": "x"})
 	if err != nil {
@@ -187,9 +187,9 @@ func checkToken(t *testing.T, answer []byte, with protocol.DeviceID) {
 	if err != nil || len(said) != 1 {
 		t.Fatal(said, err)
 	}
-	for _, one := range said[0].Devices {
-		if one.Encrypted != (one.Device == with) {
-			t.Errorf("the token stands with %s", one.Device)
+	for _, sharing := range said[0].Devices {
+		if sharing.Encrypted != (sharing.Device == with) {
+			t.Errorf("the token stands with %s", sharing.Device)
 		}
 	}
 }
@@ -212,5 +212,78 @@ func TestSealedWithoutAPassword(t *testing.T) {
 	}
 	if _, _, device, _, err := v.open(map[string]string{"docs": "another"}); !errors.Is(err, OtherPassword) || len(device.heard) > 0 {
 		t.Errorf("%v, %v", err, device.heard)
+	}
+}
+
+// Of an encrypted folder a deleted name that is there isn't known: its bytes may be of any time. What the device refuses is told as that, and a device that ends
+// ends the look.
+func TestSealedNamesThatAreAmiss(t *testing.T) {
+	v := newVault(t)
+	v.put("whole", "text")
+	v.put("ignored", "text")
+	v.add(v.encrypted("deleted"), v.seal("deleted", file{name: "deleted", sequence: 1, deleted: true}.text()))
+	v.disk[v.encrypted("deleted")] = "what stands there"
+	directory := message.AppendNumber(message.AppendNumber(message.AppendText(nil, message.FileName, []byte("folder")), message.FileType, uint64(protocol.FileInfoTypeDirectory)), message.FileSequence, 1)
+	v.add(v.encrypted("folder"), v.seal("folder", directory))
+	connection, _, device, _, err := v.open(map[string]string{"docs": passwordOfTest})
+	if err != nil {
+		t.Fatal(err)
+	}
+	device.mutex.Lock()
+	device.ignored = map[string]bool{v.encrypted("ignored"): true}
+	device.mutex.Unlock()
+	index, err := connection.Folders[0].Index(context.Background())
+	if err != nil {
+		t.Fatal(err)
+	}
+	found := map[string]Found{}
+	err = connection.Folders[0].Bytes(context.Background(), index, all, func(entry entries.Entry, content Found) error { found[entry.Name] = content; return nil })
+	if err != nil {
+		t.Fatal(err)
+	}
+	for name, state := range map[string]State{"whole": Same, "ignored": Ignored, "deleted": NotKnown, "folder": Missing} {
+		if found[name].State != state {
+			t.Errorf("%s: %+v in place of %s", name, found[name], state)
+		}
+	}
+	if content := found["whole"]; !content.Sealed || content.Size != 4 || content.BlockSize != protocol.MinBlockSize || len(content.Blocks) != 1 || content.Differ != nil {
+		t.Errorf("%+v", content)
+	}
+	connection.stream.NetConn().Close()
+	for _, name := range []string{"whole", "deleted"} {
+		only := func(entry entries.Entry) (bool, error) { return entry.Name == name, nil }
+		if err := connection.Folders[0].Bytes(context.Background(), index, only, func(entries.Entry, Found) error { return nil }); !errors.Is(err, Closed) {
+			t.Errorf("%s: %v", name, err)
+		}
+	}
+}
+
+// Of an encrypted file each block is asked for where it stands there: behind those before it, each with what encryption adds. Where the device has none it's missing.
+func TestWhereSealedBlocksStand(t *testing.T) {
+	v := newVault(t)
+	large := strings.Repeat("x", protocol.MinBlockSize+5)
+	v.put("two", large)
+	connection, _, device, _, err := v.open(map[string]string{"docs": passwordOfTest})
+	if err != nil {
+		t.Fatal(err)
+	}
+	asked := map[int64]bool{}
+	device.mutex.Lock()
+	device.lie = func(offset int64, _ int) uint64 { asked[offset] = true; return codeNoSuchFile }
+	device.mutex.Unlock()
+	index, err := connection.Folders[0].Index(context.Background())
+	if err != nil {
+		t.Fatal(err)
+	}
+	if err := connection.Folders[0].Bytes(context.Background(), index, all, func(_ entries.Entry, found Found) error {
+		if found.State != Missing {
+			t.Errorf("%+v", found)
+		}
+		return nil
+	}); err != nil {
+		t.Fatal(err)
+	}
+	if !asked[0] || !asked[protocol.MinBlockSize+secret.Overhead] || len(asked) != 2 {
+		t.Errorf("%v", asked)
 	}
 }

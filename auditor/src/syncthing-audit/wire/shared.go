@@ -55,15 +55,15 @@ func (o *Observer) agree(c *Connection, look Look) error {
 	for _, id := range look.Folders {
 		c.Out[id] = NotShared
 	}
-	for _, one := range said {
-		if err := o.share(c, one, look); err != nil {
+	for _, folder := range said {
+		if err := o.share(c, folder, look); err != nil {
 			return err
 		}
 	}
 	if len(c.Folders) == 0 {
 		return c.whyNone()
 	}
-	sort.Slice(c.Folders, func(one, other int) bool { return c.Folders[one].ID < c.Folders[other].ID })
+	sort.Slice(c.Folders, func(a, b int) bool { return c.Folders[a].ID < c.Folders[b].ID })
 	return c.send(kindClusterConfig, o.answer(c.Device, c.Folders))
 }
 
@@ -153,11 +153,11 @@ func sharedWith(folder *Folder, device, observer protocol.DeviceID) (Sharing, er
 // answer is the observer's ClusterConfig: it shares the folders with the one device alone, has nothing of them, and asks not to hear of temporary
 // files. It names no other device, and introduces none. Of the device's own indexes it says what was kept, so that the device sends what came since.
 func (o *Observer) answer(device protocol.DeviceID, folders []*Shared) []byte {
-	made := []byte{}
-	for _, one := range folders {
-		made = message.AppendText(made, configFolder, o.answerOf(device, one))
+	text := []byte{}
+	for _, shared := range folders {
+		text = message.AppendText(text, configFolder, o.answerOf(device, shared))
 	}
-	return made
+	return text
 }
 
 // answerOf is what the observer says of a folder.
@@ -175,8 +175,8 @@ func (o *Observer) answerOf(device protocol.DeviceID, folder *Shared) []byte {
 	case folder.IsSealed(): // as a device that hasn't the password says so of itself
 		own = message.AppendText(own, deviceToken, folder.token)
 	}
-	made := message.AppendText(nil, folderID, []byte(folder.ID))
-	made = message.AppendNumber(made, folderNoTemporary, 1)
-	made = message.AppendText(made, folderDevice, other)
-	return message.AppendText(made, folderDevice, own)
+	text := message.AppendText(nil, folderID, []byte(folder.ID))
+	text = message.AppendNumber(text, folderNoTemporary, 1)
+	text = message.AppendText(text, folderDevice, other)
+	return message.AppendText(text, folderDevice, own)
 }

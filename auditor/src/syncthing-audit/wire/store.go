@@ -28,12 +28,12 @@ type Index struct {
 
 // NewIndex gives an index in memory, of which nothing is had.
 func NewIndex(id uint64) *Index {
-	made, err := openIndex(storage.NewMemStorage())
+	index, err := openIndex(storage.NewMemStorage())
 	if err != nil {
 		panic(err) // of what is in memory
 	}
-	made.ID = id
-	return made
+	index.ID = id
+	return index
 }
 
 // OpenIndex opens the index that stands in a directory; one of which nothing is had where none does.
@@ -42,12 +42,12 @@ func OpenIndex(directory string) (*Index, error) {
 	if err != nil {
 		return nil, fmt.Errorf("the index in %s: %w", directory, err)
 	}
-	made, err := openIndex(files)
+	index, err := openIndex(files)
 	if err != nil {
 		files.Close()
 		return nil, fmt.Errorf("the index in %s: %w", directory, err)
 	}
-	return made, nil
+	return index, nil
 }
 
 var errNoIndex = errors.New("it is none")
@@ -58,11 +58,11 @@ func openIndex(files storage.Storage) (*Index, error) {
 	if err != nil {
 		return nil, err
 	}
-	made := &Index{db: db, files: files, read: db}
+	index := &Index{db: db, files: files, read: db}
 	about, err := db.Get(keyOfHead, nil)
 	switch {
 	case errors.Is(err, leveldb.ErrNotFound):
-		return made, nil
+		return index, nil
 	case err == nil && len(about) != bytesOfHead:
 		err = errNoIndex
 	}
@@ -70,8 +70,8 @@ func openIndex(files storage.Storage) (*Index, error) {
 		db.Close()
 		return nil, err
 	}
-	made.ID, made.Highest = binary.BigEndian.Uint64(about), int64(binary.BigEndian.Uint64(about[8:]))
-	return made, nil
+	index.ID, index.Highest = binary.BigEndian.Uint64(about), int64(binary.BigEndian.Uint64(about[8:]))
+	return index, nil
 }
 
 // IsDamaged says whether an index can't be opened since its files aren't what was written.
@@ -145,8 +145,8 @@ func (i *Index) Get(name string) (device.Entry, bool, error) {
 	if err != nil {
 		return device.Entry{}, false, err
 	}
-	made, err := entryOf(text)
-	return made, err == nil, err
+	entry, err := entryOf(text)
+	return entry, err == nil, err
 }
 
 // Each gives all entries, rising by name.

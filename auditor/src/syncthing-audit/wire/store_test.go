@@ -4,6 +4,7 @@ import (
 	"fmt"
 	"os"
 	"os/exec"
+	"path/filepath"
 	"strconv"
 	"syscall"
 	"testing"
@@ -77,12 +78,13 @@ func TestKilled(t *testing.T) {
 	}
 	directory := t.TempDir()
 	last := int64(0)
-	for n := 0; n < 8; n++ {
+	for n := 0; n < 8 || last == 0 && n < 60; n++ { // on a busy machine nothing may be written at first
 		command := exec.Command(os.Args[0], "-test.run", "^TestKilled$")
 		command.Env = append(os.Environ(), filling+"="+directory)
 		if err := command.Start(); err != nil {
 			t.Fatal(err)
 		}
+		awaitFile(t, filepath.Join(directory, "CURRENT")) // an index that was killed as it was made is none yet
 		time.Sleep(time.Duration(100+60*n) * time.Millisecond)
 		command.Process.Signal(syscall.SIGKILL)
 		command.Wait()
@@ -91,6 +93,17 @@ func TestKilled(t *testing.T) {
 	if last == 0 {
 		t.Error("nothing was ever written")
 	}
+}
+
+// awaitFile waits until something is at a path, for a minute at most.
+func awaitFile(t *testing.T, path string) {
+	for tries := 0; tries < 600; tries++ {
+		if _, err := os.Stat(path); err == nil {
+			return
+		}
+		time.Sleep(100 * time.Millisecond)
+	}
+	t.Fatal("nothing came to ", path)
 }
 
 // fill fills an index, three records in a message, and never ends.

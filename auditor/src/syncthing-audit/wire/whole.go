@@ -39,11 +39,11 @@ func (s *Shared) state(due int64) (*Index, time.Time, error) {
 	c.mutex.Lock()
 	defer c.mutex.Unlock()
 	if had := s.taker.index; had.Highest >= due {
-		made, err := had.snapshot()
+		index, err := had.snapshot()
 		if err != nil {
 			return nil, c.heard, err
 		}
-		return made, c.heard, nil
+		return index, c.heard, nil
 	}
 	return nil, c.heard, c.failure
 }

@@ -2,7 +2,7 @@
 use Rattle.std.specs.Prelude.{◌≡◌, ◌<◌, ◌≤◌, ◌+◌, ◌++◌, ℕ, Bool, ◌&&◌, List, [], Option, Some, None, Contains, length, map, get_or, ltb}
 use Rattle.std.specs.Ordering.{is_eq}
 use Rattle.std.specs.BTreeMap.{is_at}
-use Rattle.std.specs.List.{flat_map}
+use Rattle.std.specs.List.{flat_map, sum_by}
 use Rattle.std.specs.List.Sorted.{IsStrictlySortedBy}
 use Rattle.std.specs.Map.{lookup, keys_of}
 use Rattle.bep_model.specs.Tables.{Folder, FileName}
@@ -35,6 +35,10 @@ grouping groups places entries = record { groups = groups; places = places; entr
 -- the group at this place
 abbrev pub spot_at : List Spot → ℕ → Spot
 spot_at groups place = get_or groups place (([], []), 0)
+
+-- the sum of the groups' numbers
+abbrev pub numbered : List Spot → ℕ
+numbered groups = sum_by (λ (spot : Spot). spot.1) groups
 
 -- there is a group at the place, and it is of this folder and name
 abbrev pub begins_with : Folder × FileName → ℕ → List Spot → Bool

@@ -1,9 +1,9 @@
 //! Entries put together by their folders and names.
-ghost use Rattle.std.specs.Prelude.{◌≡◌, ◌+◌, ◌∷◌, [], Some, List, None, IfOk, OnOk, length, map, set};
+ghost use Rattle.std.specs.Prelude.{◌≡◌, ◌+◌, ◌-◌, ◌^◌, ◌∷◌, [], Some, List, None, IfOk, OnOk, length, map, min, set};
 ghost use Rattle.std.specs.Ordering.{is_eq};
 ghost use Rattle.bep_model.specs.Settled.{key_cmp};
 ghost use Rattle.bep_tables.specs.Listed.{IsGrouped, Listed, listed};
-ghost use Rattle.bep_tables.specs.inner.Groups.{AreFull, Counted, Filled, Took, begins_with, grouping, key_in, place_of};
+ghost use Rattle.bep_tables.specs.inner.Groups.{AreFull, Counted, Filled, Took, begins_with, grouping, key_in, numbered, place_of};
 
 use super::TableEntry;
 use std::alloc::{AllocError, Global};
@@ -105,9 +105,11 @@ fn rooms<'a>(
     Ok(list)
 }
 
-// How many entries the groups have. It is the room that the list of all is made with. No contract needs that it is right, but
-// with too great a number the list would want more memory than there is.
-fn counted(groups: &[Group<'_>]) -> usize {
+// How many entries the groups have. It is the room that the list of all is made with: with too great a number the list would
+// want more memory than there is.
+fn counted(groups: &[Group<'_>]) -> usize
+    ensures { result ≡ min (numbered groups.now) (2 ^ 64 - 1) }
+{
     let mut count: usize = 0;
     for group in groups {
         count = count.saturating_add(group.number());

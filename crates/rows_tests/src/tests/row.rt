@@ -2,7 +2,7 @@
 use bep_cut_document::read_cut;
 use bep_record::{FolderName, Items, Name};
 use bep_row::{DeviceCell, NameRow, cut_of, row_fits};
-use bep_rows::{RowError, Standing, standing_of_row, standing_of_rows};
+use bep_rows::{Aim, RowError, Standing, standing_of_row, standing_of_rows};
 use bep_tables::Cut;
 use std::alloc::Global;
 
@@ -41,7 +41,7 @@ fn row_of(alloc: Global, header: &Cut, name: &[u8]) -> Option<NameRow> {
 
 // Which device lacks the record, 0 where the row doesn't fit, 99 at any other answer.
 fn lacking(alloc: Global, header: &Cut, row: &NameRow) -> u64 {
-    match standing_of_row(alloc, header, row) {
+    match standing_of_row(alloc, Aim::Settled, header, row) {
         Ok(Standing::Not(_, _, _, Some(device))) => device.number(),
         Ok(_) => 99,
         Err(RowError::Unfit) => 0,
@@ -73,7 +73,7 @@ fn answered_together(alloc: Global, twice: bool) -> Option<u64> {
     if twice {
         rows.push(row_of(alloc, &header, b"b")?).ok()?;
     }
-    match standing_of_rows(alloc, &header, rows.as_slice()) {
+    match standing_of_rows(alloc, Aim::Settled, &header, rows.as_slice()) {
         Ok(Standing::Not(_, _, _, Some(device))) => Some(device.number()),
         Ok(_) => None,
         Err(RowError::OutOfOrder) => Some(0),

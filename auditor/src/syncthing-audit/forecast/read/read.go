@@ -1,4 +1,4 @@
-// Package read makes a world of the parts of all devices that share a folder.
+// Package read makes a world of what all devices that share a folder have of its names.
 package read
 
 import (
@@ -10,7 +10,7 @@ import (
 	"syncthing-audit/part"
 )
 
-// World makes a world of parts of one folder. Devices stand in the order of the parts.
+// World makes a world of parts of one folder, for the tests on real devices (forecast/cmd). Devices stand in the order of the parts.
 func World(parts []part.Stream, folder string) (forecast.World, error) {
 	r := newReader(folder, len(parts))
 	for place, one := range parts {
@@ -57,7 +57,7 @@ func (r *reader) device(head *part.Head) (forecast.Device, error) {
 	if !is {
 		return forecast.Device{}, fmt.Errorf("the model knows no folder of kind %q", folder.Kind)
 	}
-	made := forecast.Device{Kind: kind, Release: forecast.ReleaseOf(head.Runs), Number: head.Number(), IgnorePermissions: folder.IgnoresPermissions,
+	made := forecast.Device{ID: head.Device, Kind: kind, Release: forecast.ReleaseOf(head.Runs), Number: head.Number(), IgnorePermissions: folder.IgnoresPermissions,
 		MaxConflicts: usualMaxConflicts, TimeWindow: folder.TimeWindow * 1e9}
 	if folder.Options != nil {
 		made.MaxConflicts, made.IgnoreDelete = folder.Options.MaxConflicts, folder.Options.IgnoresDeletions
@@ -107,12 +107,8 @@ func (r *reader) takeName(place int, line *part.Name, views []part.View) {
 		}
 	}
 	for _, seen := range line.Views {
-		of := seen.Record
-		if of == nil {
-			of = line.Own
-		}
-		if at, is := r.places[views[seen.View].Device]; is && of != nil {
-			name.Views[place][at] = record(of)
+		if at, is := r.places[views[seen.View].Device]; is {
+			name.Views[place][at] = record(seen.Record)
 		}
 	}
 	if line.Disk != nil {

@@ -87,6 +87,7 @@ func TestWhatIsAtRest(t *testing.T) {
 			at.Views[0].Record.Deleted, at.Views[0].Record.Content = true, nil
 		}
 	}))
+	rows.Take(calm("c", func(row *join.Row) { row.At[0], row.At[1] = &part.Name{Name: "c"}, nil })) // nobody has anything of it
 	if world := rows.World(); len(world.Names) != 0 {
 		t.Errorf("%+v aren't at rest", world.Names)
 	}
@@ -125,6 +126,9 @@ var unknowns = []struct {
 	change func(*join.Folder)
 }{
 	{Absent, func(folder *join.Folder) {
+		folder.Members[0].About.Sharing = append([]part.Sharing{{Device: id(7)}}, folder.Members[0].About.Sharing...)
+	}},
+	{Absent, func(folder *join.Folder) {
 		folder.Members[1].About.Sharing = append(folder.Members[1].About.Sharing, part.Sharing{Device: id(7)})
 	}},
 	{Unlinked, func(folder *join.Folder) { folder.Members[0].About.Sharing = nil }},
@@ -138,7 +142,9 @@ var unknowns = []struct {
 	{Attributes, func(folder *join.Folder) { folder.Members[0].About.ScansAttributes = true }},
 	{Writers, func(folder *join.Folder) { folder.Members[0].About.Writers = []string{"folder x"} }},
 	{OtherIndex, func(folder *join.Folder) { folder.Members[0].About.Views[0].IndexID = 77 }},
+	{OtherIndex, func(folder *join.Folder) { folder.Members[1].About.Views[0].IndexID = 77 }},
 	{OtherIndex, func(folder *join.Folder) { folder.Members[0].Head.ToRepair = true }},
+	{Untold, func(folder *join.Folder) { folder.Members[0].Head.Folders[0].Kind = "receive-encrypted" }},
 	{Asked, func(folder *join.Folder) { folder.Members[0].Head.Names = choice.Names{Prefix: "a"} }},
 }
 
@@ -206,13 +212,15 @@ func TestWhatIsLeftOutBelow(t *testing.T) {
 
 // The names of a large folder that aren't kept are counted.
 func TestTooManyNames(t *testing.T) {
-	rows := NewRows(folderOf(2))
-	rows.room = 3*rows.cells() - 1
-	for _, name := range []string{"a", "b", "c"} {
-		rows.Take(calm(name, restless[1].change))
-	}
-	if rows.Count[TooMany] != 1 || len(rows.World().Names) != 2 {
-		t.Errorf("%v, %d names", rows.Count, len(rows.World().Names))
+	for _, over := range []int{0, 1, NewRows(folderOf(2)).cells() - 1} {
+		rows := NewRows(folderOf(2))
+		rows.room = 2*rows.cells() + over
+		for _, name := range []string{"a", "b", "c"} {
+			rows.Take(calm(name, restless[1].change))
+		}
+		if rows.Count[TooMany] != 1 || len(rows.World().Names) != 2 {
+			t.Errorf("%d cells more: %v, %d names", over, rows.Count, len(rows.World().Names))
+		}
 	}
 }
 
@@ -220,10 +228,16 @@ func TestTooManyNames(t *testing.T) {
 func TestFilter(t *testing.T) {
 	rows := NewRows(folderOf(2))
 	rows.Take(calm("a", nil))
+	rows.Take(calm("empty", func(row *join.Row) {
+		for _, at := range row.At {
+			at.Own.Content.Size, at.Views[0].Record.Content.Size, at.Disk.Size, at.Disk.Contents[0].Size = 0, 0, 0, 0
+			at.Own.Content.Hash[0], at.Views[0].Record.Content.Hash[0], at.Disk.Contents[0].Hash[0] = 3, 3, 3
+		}
+	}))
 	for _, one := range []struct {
 		hash byte
 		has  bool
-	}{{1, true}, {2, false}} {
+	}{{1, true}, {2, false}, {3, false}} {
 		other := NewRows(folderOf(2))
 		other.Take(calm("b", func(row *join.Row) {
 			for _, at := range row.At {
@@ -264,6 +278,12 @@ func TestFilterOfMany(t *testing.T) {
 	if wrong > 30 {
 		t.Errorf("%d are said to be there, and aren't", wrong)
 	}
+	if len(many.exact) != mostExact || len(many.bits) != bitsOfFilter/64 {
+		t.Errorf("%d are known exactly, with %d words of bits", len(many.exact), len(many.bits))
+	}
+	if many.has(forecast.Content{Size: 1, Hash: "no hash"}) {
+		t.Error("it has what is no hash")
+	}
 }
 
 // A name with as many copies as a device keeps, or almost, isn't foretold.
@@ -276,6 +296,23 @@ func TestManyCopies(t *testing.T) {
 		rows.Take(calm("a.txt", restless[1].change))
 		if rows.World(); (rows.Unknown["a.txt"] == Copies) != is {
 			t.Errorf("%d copies: %v", count, rows.Unknown)
+		}
+	}
+}
+
+// A device that keeps no copies, or all of them, drops none unforeseen but by its number.
+func TestHowManyCopiesAreKept(t *testing.T) {
+	for most, is := range map[int]bool{-1: false, 0: true, 2: true, 3: false} {
+		folder := folderOf(2)
+		for _, member := range folder.Members {
+			member.Head.Folders[0].Options = &part.Options{MaxConflicts: most}
+		}
+		rows := NewRows(folder)
+		rows.Take(calm("a.sync-conflict-20261128-230000-AAAAAAA.txt", nil))
+		rows.Take(calm("a.txt", restless[1].change))
+		rows.Take(calm("b.txt", restless[1].change))
+		if rows.World(); (rows.Unknown["a.txt"] == Copies) != is || rows.Unknown["b.txt"] != "" {
+			t.Errorf("%d are kept: %v", most, rows.Unknown)
 		}
 	}
 }

@@ -153,35 +153,21 @@ func (r *Rows) isNeverTold(member int, row *join.Row) bool {
 		return false
 	}
 	for knower := range r.members {
-		for place, view := range r.members[knower].About.Views {
-			if r.viewed[knower][place] != member || heard(view) < own.Sequence {
-				continue
-			}
-			seen := seenAt(row.At[knower], place)
-			if seen == nil || seen.Invalid != own.Invalid || !slices.Equal(seen.Version, own.Version) {
-				return true
-			}
+		view, seen := join.ViewOf(r.members, row, knower, member)
+		if view == nil || heard(view) < own.Sequence || r.world.Devices[knower].Apart.Has(member) {
+			continue
+		}
+		if seen == nil || seen.Invalid != own.Invalid || !slices.Equal(seen.Version, own.Version) {
+			return true
 		}
 	}
 	return false
 }
 
 // heard gives how far a device has heard of an index.
-func heard(view part.View) int64 {
+func heard(view *part.View) int64 {
 	if view.Heard > view.Max {
 		return view.Heard
 	}
 	return view.Max
-}
-
-func seenAt(at *part.Name, view int) *part.Record {
-	if at == nil {
-		return nil
-	}
-	for _, seen := range at.Views {
-		if seen.View == view {
-			return seen.Record
-		}
-	}
-	return nil
 }

@@ -3,4 +3,4 @@ use Rattle.bep_rows.specs.ListRead.{IsListRead}
 use Rattle.bep_rows.proofs.all.standing_of_rows.Given as goal
 
 abbrev pub invariant-loop-row : goal.invariant-loop-row
-invariant-loop-row l = IsListRead l.header (take l.row-index l.rows) l.stream
+invariant-loop-row l = IsListRead l.aim l.header (take l.row-index l.rows) l.stream

@@ -9,6 +9,6 @@ use Rattle.bep_rows.proofs.row.standing_of_row.Goals as goal
 pub returns-clause-stands : goal.returns-clause-stands
 returns-clause-stands c whole is =
     let row = c.args.row.now in
-    subst (λ (t : Tables). IsStanding t c.in_ok-standing.standing)
+    subst (λ (t : Tables). IsStanding c.args.aim t c.in_ok-standing.standing)
     (ap tables_of c.in_ok-cut.ensures ∙ c.documents_say_only.ensures (is_name (row.folder, row.name)) whole (cut_with c.args.header.now row) is)
     c.in_ok-standing.ensures

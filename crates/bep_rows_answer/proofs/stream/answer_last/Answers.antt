@@ -18,9 +18,9 @@ returns-clause-ok g c =
       written = Appends-trans _ _ _ next.more ended.more next.written ended.written;
       says = λ lines text so_far no_end numbered.
           inl
-          (subst (λ (all : List (List ℕ)). IsWholeAnswer all outcome (text ++ (next.more ++ ended.more))) (sym (all_is_more lines line text c.args.state.now so_far over))
-          (subst (λ (all : List ℕ). IsWholeAnswer (lines ++ line ∷ []) outcome all) (append_assoc text next.more ended.more)
-          (ended.says (lines ++ line ∷ []) (text ++ next.more) (next.taken lines text so_far))));
+          (subst (λ (all : List (List ℕ)). IsWholeAnswer c.args.aim all outcome (text ++ (next.more ++ ended.more))) (sym (all_is_more c.args.aim lines line text c.args.state.now so_far over))
+          (subst (λ (all : List ℕ). IsWholeAnswer c.args.aim (lines ++ line ∷ []) outcome all) (append_assoc text next.more ended.more)
+          (ended.says c.args.aim (lines ++ line ∷ []) (text ++ next.more) (next.taken lines text so_far))));
     })
     c.end-2.ensures.ok
 

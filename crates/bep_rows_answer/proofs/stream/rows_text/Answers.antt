@@ -5,8 +5,8 @@ use Rattle.bep_rows_answer.proofs.stream.rows_text.Goals as goal
 
 pub loop-number-init : goal.loop-number-init
 loop-number-init g c =
-    subst (λ (bytes : List ℕ). IsStreamedTo (g.R.Read.remaining c.args.reader.now) (g.R.Read.remaining c.args.reader.now) (g.W.Write.contents c.args.writer.now) (g.W.Write.contents c.args.writer.now) None bytes 1)
-    (sym c.new-pending.ensures.items) (nothing_yet (g.R.Read.remaining c.args.reader.now) (g.W.Write.contents c.args.writer.now))
+    subst (λ (bytes : List ℕ). IsStreamedTo c.args.aim (g.R.Read.remaining c.args.reader.now) (g.R.Read.remaining c.args.reader.now) (g.W.Write.contents c.args.writer.now) (g.W.Write.contents c.args.writer.now) None bytes 1)
+    (sym c.new-pending.ensures.items) (nothing_yet c.args.aim (g.R.Read.remaining c.args.reader.now) (g.W.Write.contents c.args.writer.now))
 
 pub returns-in_err-told-clause-err : goal.returns-in_err-told-clause-err
 returns-in_err-told-clause-err g c =

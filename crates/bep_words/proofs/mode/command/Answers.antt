@@ -10,5 +10,5 @@ returns c =
     let converging = c.in_ok-converges.ensures.shape c.plain_command-converge.ensures.local ∙ ap₂ with_subcommand firming (ap (λ (a : App). a.top) c.plain_command-converge.ensures.shape) in
     let certifying = c.in_ok-certifies.ensures.shape c.in_ok-certify.ensures.local ∙ ap₂ with_subcommand converging (ap (λ (a : App). a.top) c.in_ok-certify.ensures.shape) in
     let explaining = c.in_ok-explains.ensures.shape c.in_ok-explain.ensures.local ∙ ap₂ with_subcommand certifying (ap (λ (a : App). a.top) c.in_ok-explain.ensures.shape) in
-    let streaming = c.in_ok-streams.ensures.shape c.plain_command-rows.ensures.local ∙ ap₂ with_subcommand explaining (ap (λ (a : App). a.top) c.plain_command-rows.ensures.shape) in
+    let streaming = c.in_ok-streams.ensures.shape c.in_ok-rows.ensures.local ∙ ap₂ with_subcommand explaining (ap (λ (a : App). a.top) c.in_ok-rows.ensures.shape) in
     IfOk-weaker c.subcommand-7.result _ _ (λ made h. h.shape c.in_ok-run.ensures.local ∙ ap₂ with_subcommand streaming (ap (λ (a : App). a.top) c.in_ok-run.ensures.shape)) c.subcommand-7.ensures

@@ -18,6 +18,7 @@ returns-in-Ok g c =
       firm_under_winners = c.run.ensures.firm_under_winners;
       converging = c.run.ensures.converging;
       settled_rows = c.run.ensures.settled_rows;
+      firm_rows = c.run.ensures.firm_rows;
       ends_settled = c.run.ensures.ends_settled;
       lives_settled = c.run.ensures.lives_settled;
     })

@@ -36,13 +36,14 @@ returns-clause-ok c =
         here = here;
         stands = c.in_ok-here.ensures.stands;
         told = c.in_ok-push_standing.ensures ∙ ap (λ text. text ++ standing_line here) c.new-text.ensures.items;
+        aim = refl;
         version = refl;
         header = refl;
         counts = c.new.ensures ∙ c.in_ok-counts.ensures ∙ ap (map (counted row)) c.as_slice.ensures;
         above = subst (λ (l : Option Key). IsAbove (key_of_row row) l) c.last.ensures above;
         last = c.in-Ok.ensures.last ∙ ap (λ (k : Key). Some k) key;
         takes = λ t keys read is.
-            subst (λ (k : Key). IsReadTo t (k ∷ keys) c.take.new.self) key
-            (c.in-Ok.ensures.read t keys read (subst (λ (k : Key). IsStanding (only (is_name k) t) here) (sym key) is));
+            subst (λ (k : Key). IsReadTo rows.aim t (k ∷ keys) c.take.new.self) key
+            (c.in-Ok.ensures.read rows.aim t keys read (subst (λ (k : Key). IsStanding rows.aim (only (is_name k) t) here) (sym key) is));
       },
     )

@@ -1,0 +1,213 @@
+package diskhalf
+
+import (
+	"bytes"
+	"errors"
+	"flag"
+	"fmt"
+	"os"
+	"path/filepath"
+	"sort"
+	"strings"
+	"testing"
+
+	"syncthing-audit/disk"
+	"syncthing-audit/part"
+	"syncthing-audit/shell"
+)
+
+// oddRoom makes a folder's directory with what a part tells by itself, by a hash, or with why it isn't read.
+func oddRoom(t *testing.T) string {
+	room := roomWith(t, "a", "b/c", "1.tmp", "2.tmp", "3.tmp", "odd\xff")
+	if err := os.WriteFile(filepath.Join(room, ".stignore"), []byte("*.tmp\n"), 0o644); err != nil {
+		t.Fatal(err)
+	}
+	return room
+}
+
+// Folders stand in a part in the order of their ids, each with its own names: those with a hash in their place behind all others, in the order of the hashes. A name
+// that no document has says why.
+func TestEachFolderOfAPart(t *testing.T) {
+	rooms := map[string]string{"b": oddRoom(t), "a": roomWith(t, "x"), "c": roomWith(t)}
+	asked := askedFor("")
+	asked.Folders, asked.Paths = nil, true
+	for id, room := range rooms {
+		asked.Folders = append(asked.Folders, Folder{id, room})
+	}
+	pool := disk.NewPool(2)
+	defer pool.Close()
+	var text bytes.Buffer
+	told, err := Write(&text, asked, pool)
+	if err != nil {
+		t.Fatal(err)
+	}
+	reader, err := part.NewReader(&text)
+	if err != nil {
+		t.Fatal(err)
+	}
+	var ids, hashes []string
+	names := map[string]*part.Name{}
+	for line, err := reader.Next(); err == nil; line, err = reader.Next() {
+		switch {
+		case line.Begin != nil:
+			ids = append(ids, line.Begin.Folder)
+		case line.Name != nil:
+			name := string(line.Name.Name)
+			if names[name] = line.Name; shell.IsBehindNames(name) {
+				hashes = append(hashes, name)
+			}
+		}
+	}
+	if strings.Join(ids, "") != "abc" || told.Names != int64(len(names)) || !sort.StringsAreSorted(hashes) {
+		t.Errorf("%q, %+v, %q", ids, told, hashes)
+	}
+	for place, folder := range reader.Head().Folders {
+		if folder.ID != ids[place] || folder.Path != rooms[folder.ID] || folder.Directory == "" {
+			t.Errorf("%+v", folder)
+		}
+	}
+	odd := names["odd\xff"]
+	if odd == nil || len(odd.Out) != 1 || odd.Out[0].Kind != part.OddName {
+		t.Errorf("%+v", odd)
+	}
+	for _, hash := range hashes {
+		if one := names[hash]; one.Disk.Size != 5 || one.Out[0].Bytes != 5 || one.Out[0].Kind != part.Ignored {
+			t.Errorf("%+v", one)
+		}
+	}
+	if len(hashes) != 3 {
+		t.Errorf("%q", hashes)
+	}
+}
+
+// A name that is too long to be told has a hash of its own in its place, whatever .stignore says, and one that isn't has none.
+func TestNamesThatAreTooLong(t *testing.T) {
+	made := &maker{asked: askedFor(roomWith(t))}
+	opened, err := made.open(made.asked.Folders[0])
+	if err != nil {
+		t.Fatal(err)
+	}
+	for length := part.MostNameBytes - 1; length < part.MostNameBytes+3; length++ {
+		walking := &walking{maker: made, folder: opened, walker: made.walker(opened), to: disk.NewQueue()}
+		name := strings.Repeat("n", length)
+		if err := walking.take(disk.Found{Name: name, Node: &part.Node{}, Out: &part.LeftOut{Kind: part.Unreadable}}); err != nil {
+			t.Fatal(err)
+		}
+		if (len(walking.hidden) == 1) != (length > part.MostNameBytes) {
+			t.Errorf("%d bytes: %d", length, len(walking.hidden))
+		}
+		for _, hidden := range walking.hidden {
+			if hidden.line.Name != part.HiddenLongName("docs", name).Bytes() || hidden.line.Disk != nil || hidden.line.Out[0].Kind != part.OddName ||
+				hidden.line.Out[0].Why != fmt.Sprintf("its name has %d bytes: a part tells at most 4096", length) {
+				t.Errorf("%+v", hidden.line)
+			}
+		}
+	}
+}
+
+// Whichever line of a part can't be written, that ends the walk, and is told.
+func TestEachLineThatIsNotTaken(t *testing.T) {
+	pool := disk.NewPool(2)
+	defer pool.Close()
+	full := errors.New("no room")
+	for lines := 0; ; lines++ {
+		made := &maker{asked: askedFor(oddRoom(t)), pool: pool}
+		opened, err := made.open(made.asked.Folders[0])
+		if err != nil {
+			t.Fatal(err)
+		}
+		made.folders = []*folder{opened}
+		left := lines
+		err = made.write(func(part.Line) error {
+			if left--; left < 0 {
+				return full
+			}
+			return nil
+		})
+		if left >= 0 {
+			if err != nil || lines < 9 {
+				t.Errorf("%d lines: %v", lines, err)
+			}
+			return
+		}
+		if err != full {
+			t.Errorf("line %d isn't taken: %v", lines, err)
+		}
+	}
+}
+
+// What is counted is told: names that moved, that a disk fails to give, and the bytes that were read. No stamp is in a part.
+func TestWhatIsCounted(t *testing.T) {
+	made := &maker{}
+	var taken []*part.Name
+	take := made.count(func(line part.Line) error { taken = append(taken, line.Name); return nil })
+	contents := []part.Content{{}}
+	stamped := &part.Name{Name: "a", Disk: &part.Node{Size: 9, Unread: 2, Stamp: "s", Contents: contents}}
+	for _, line := range []part.Line{{Begin: &part.Begin{}}, {Name: stamped}, {Name: &part.Name{Name: "b", Disk: &part.Node{Size: 5}}}, {Name: &part.Name{Name: "c", Moved: []string{part.MovedDisk}}},
+		{Name: &part.Name{Name: "d", Out: []part.LeftOut{{Kind: part.Damaged}}}}, {Name: &part.Name{Name: "e"}}, {End: &part.End{}}} {
+		if err := take(line); err != nil {
+			t.Fatal(err)
+		}
+	}
+	if told := made.told; told.Names != 5 || told.Bytes != 7 || told.Moved != 1 || told.Damaged != 1 {
+		t.Errorf("%+v", told)
+	}
+	if taken[0] != nil || taken[1].Disk.Stamp != "" || stamped.Disk.Stamp != "s" || taken[1].Disk.Size != 9 || len(taken) != 7 {
+		t.Errorf("%+v", taken)
+	}
+}
+
+// What can't be walked, and what there is no place for, is told, and nothing is left.
+func TestWhatIsNotWalked(t *testing.T) {
+	room, pool := roomWith(t, "a"), disk.NewPool(1)
+	defer pool.Close()
+	asked := askedFor(room)
+	asked.Marker = "a/b"
+	if _, err := Write(&bytes.Buffer{}, asked, pool); err == nil || !strings.Contains(err.Error(), "not a directory") {
+		t.Errorf("a marker below a file: %v", err)
+	}
+	if _, err := Write(unwritable{}, askedFor(room), pool); err == nil {
+		t.Error("it is written where nothing can be")
+	}
+	gone := &maker{asked: askedFor(room), pool: pool}
+	opened, err := gone.open(gone.asked.Folders[0])
+	if err != nil {
+		t.Fatal(err)
+	}
+	gone.folders = []*folder{opened}
+	if err := os.RemoveAll(room); err != nil {
+		t.Fatal(err)
+	}
+	temporary := t.TempDir()
+	t.Setenv("TMPDIR", temporary)
+	_, drop, err := gone.glance()
+	if drop(); err == nil || !strings.HasPrefix(err.Error(), "folder docs: ") {
+		t.Errorf("a directory that is gone: %v", err)
+	}
+	if err := gone.write(func(part.Line) error { return nil }); err == nil {
+		t.Error("a directory that is gone is written")
+	}
+	if left, err := os.ReadDir(temporary); err != nil || len(left) > 0 {
+		t.Errorf("%v is left, %v", left, err)
+	}
+	t.Setenv("TMPDIR", "/nowhere")
+	if _, err := Write(&bytes.Buffer{}, askedFor(roomWith(t, "a")), pool); err == nil || !strings.Contains(err.Error(), "/nowhere") {
+		t.Errorf("%v", err)
+	}
+}
+
+type unwritable struct{}
+
+func (unwritable) Write([]byte) (int, error) { return 0, errors.New("no room") }
+
+// A program may have flags of its own beside those that each has.
+func TestMoreFlags(t *testing.T) {
+	more := func(flags *flag.FlagSet, command *Command) { flags.StringVar(&command.Key, "sign", "", "") }
+	words := []string{"--sign", "key", "--after", askedFor("").Device + ":" + look, "docs=/x"}
+	if read, err := ReadCommand(words, more); err != nil || read.Key != "key" || read.Jobs < 1 || read.Marker != ".stfolder" {
+		t.Errorf("%+v, %v", read, err)
+	}
+	if _, err := ReadCommand(words, nil); err == nil {
+		t.Error("a flag that no program has is read")
+	}
+}

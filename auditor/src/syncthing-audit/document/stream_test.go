@@ -1,0 +1,298 @@
+package document
+
+import (
+	"bytes"
+	"encoding/json"
+	"fmt"
+	"math/rand"
+	"reflect"
+	"strings"
+	"testing"
+
+	"syncthing-audit/join"
+	"syncthing-audit/part"
+)
+
+// streamed gives a folder's streams and documents of these rows, and which rows are left out.
+func streamed(folder *join.Folder, rows []*join.Row) (made []*Document, out []string) {
+	stream := NewStream(folder)
+	for _, row := range rows {
+		full, left := stream.Add(row)
+		if left != nil {
+			out = append(out, row.Name)
+		}
+		if full != nil {
+			made = append(made, full)
+		}
+	}
+	return append(made, stream.Take()), out
+}
+
+// decoded gives a JSON text, whose numbers are texts.
+func decoded(t *testing.T, text []byte) interface{} {
+	var read interface{}
+	decoder := json.NewDecoder(bytes.NewReader(text))
+	decoder.UseNumber()
+	if err := decoder.Decode(&read); err != nil {
+		t.Fatalf("%s: %v", text, err)
+	}
+	return read
+}
+
+// expanded gives the document for which a stream stands.
+func expanded(t *testing.T, stream []byte) object {
+	lines := bytes.SplitAfter(stream, []byte("\n"))
+	made := decoded(t, lines[0]).(object)
+	devices := made["cut"].(object)["folders"].([]interface{})[0].(object)["devices"].([]interface{})
+	for _, line := range lines[1 : len(lines)-1] {
+		row := decoded(t, line).([]interface{})
+		records, nodes := row[2].([]interface{}), row[3].([]interface{})
+		checkEachOnce(t, line, records)
+		checkEachOnce(t, line, nodes)
+		add := func(to object, list string, from []interface{}, place interface{}) {
+			if at := int(numberIn(place)); at > 0 {
+				to[list] = append(to[list].([]interface{}), from[at-1])
+			}
+		}
+		last := 0
+		for _, one := range row[4].([]interface{}) {
+			cell := one.([]interface{})
+			number := int(numberIn(cell[0]))
+			device := devices[number-1].(object)
+			add(device, "own", records, cell[1])
+			add(device, "store", nodes, cell[2])
+			for _, view := range cell[4].([]interface{}) {
+				add(device["views"].([]interface{})[numberIn(view.([]interface{})[0])-1].(object), "records", records, view.([]interface{})[1])
+			}
+			if row[0] != "docs" || number <= last || numberIn(cell[3]) != 0 || fmt.Sprint(cell[1:]) == "[0 0 0 []]" {
+				t.Errorf("%s", line)
+			}
+			last = number
+		}
+	}
+	return made
+}
+
+func numberIn(value interface{}) int64 {
+	number, err := value.(json.Number).Int64()
+	if err != nil {
+		panic(err)
+	}
+	return number
+}
+
+// checkEachOnce says which thing stands twice in a list.
+func checkEachOnce(t *testing.T, line []byte, list []interface{}) {
+	for place := range list {
+		for _, other := range list[:place] {
+			if reflect.DeepEqual(list[place], other) {
+				t.Errorf("%v stands twice: %s", other, line)
+			}
+		}
+	}
+}
+
+// alike gives a row of which the members mostly have and see one thing, as most names are, with other sequences.
+func alike(random *rand.Rand, name string, sequence int64) *join.Row {
+	row := randomDirectRow(random, name, sequence)
+	one := randomRecord(random, sequence)
+	for member, at := range row.At {
+		if at == nil {
+			continue
+		}
+		if own := *one; random.Intn(4) > 0 {
+			own.Sequence += int64(member)
+			at.Own = &own
+		}
+		for place := range at.Views {
+			if seen := *one; random.Intn(4) > 0 {
+				seen.Sequence += int64(random.Intn(3))
+				at.Views[place].Record = &seen
+			}
+		}
+	}
+	return row
+}
+
+// seenAlone gives a row of which no member has more than others' records.
+func seenAlone(random *rand.Rand, name string, sequence int64) *join.Row {
+	row := alike(random, name, sequence)
+	for _, at := range row.At {
+		if at != nil {
+			at.Own, at.Disk = nil, nil
+		}
+	}
+	return row
+}
+
+// isKnownDirectly says whether anything holds a name at members.
+func isKnownDirectly(row *join.Row) bool {
+	for _, at := range row.At {
+		if at == nil {
+			continue
+		}
+		if at.Own != nil || at.Disk != nil {
+			return true
+		}
+		for _, seen := range at.Views {
+			if seen.View > 0 && !seen.Record.Invalid {
+				return true
+			}
+		}
+	}
+	return false
+}
+
+// has says whether members have anything of a name: what only the first view of each has is of no member.
+func has(row *join.Row) bool {
+	for _, at := range row.At {
+		if at != nil && (at.Own != nil || at.Disk != nil || len(at.Views) > 1 || len(at.Views) == 1 && at.Views[0].View > 0) {
+			return true
+		}
+	}
+	return false
+}
+
+// A stream stands for the document of its names, and has each record and node once.
+func TestStreamsEqualADirectReading(t *testing.T) {
+	unknown := 0
+	for seed := int64(1); seed <= 100; seed++ {
+		random := rand.New(rand.NewSource(seed))
+		rows, stand := []*join.Row{}, []*join.Row{}
+		for place := 0; place < 20; place++ {
+			row := []func(*rand.Rand, string, int64) *join.Row{randomDirectRow, alike, alike, seenAlone}[random.Intn(4)](random, fmt.Sprintf("%02d <\"ü\n", place), int64(place*10+1))
+			if rows = append(rows, row); has(row) {
+				stand = append(stand, row)
+			}
+		}
+		made, out := streamed(threeDevices(), rows)
+		if len(made) != 1 || out != nil || len(made[0].Rows) != len(stand) || made[0].Folder != "docs" || made[0].Own != "x" || !made[0].IsStream() {
+			t.Fatalf("seed %d: %+v, without %v", seed, made, out)
+		}
+		if is, due := expanded(t, made[0].Written), directDocument(threeDevices(), stand, false); !reflect.DeepEqual(is, due) {
+			t.Fatalf("seed %d: %s is\n%v, not\n%v", seed, made[0].Written, is, due)
+		}
+		for _, row := range stand {
+			if !isKnownDirectly(row) {
+				made[0].Unknown--
+				unknown++
+			}
+		}
+		if made[0].Unknown != 0 {
+			t.Errorf("seed %d: %d more names are unknown", seed, made[0].Unknown)
+		}
+	}
+	if unknown == 0 {
+		t.Error("all names were known")
+	}
+}
+
+// longRow gives a name whose line has about so many bytes, in targets of two views.
+func longRow(name string, sequence int64, bytes int) *join.Row {
+	row := rowOf(name, sequence, 5)
+	for _, at := range row.At {
+		at.Views[0].Record = &part.Record{Type: 4, Sequence: sequence, Target: strings.Repeat(fmt.Sprint(len(row.At)), bytes/2)}
+		row.At[0].Own.ModifiedS++
+	}
+	row.At[0].Views[0].Record.ModifiedS = 7
+	return row
+}
+
+// What no line has room for has a document of its own, in its place among the others.
+func TestLongLines(t *testing.T) {
+	rows := []*join.Row{}
+	for place, bytes := range []int{1, 1, mostBytesOfLine, mostBytesOfLine + 1, 1, mostBytesOfLine - 2000, mostBytesOfLine - 2000, mostBytesOfLine} {
+		rows = append(rows, longRow(fmt.Sprint(place), int64(place+1), bytes))
+	}
+	made, out := streamed(twoDevices(), rows)
+	told := []string{}
+	for _, one := range made {
+		names := ""
+		for _, row := range one.Rows {
+			names += row.Name
+		}
+		told = append(told, fmt.Sprint(names, one.IsStream()))
+		if one.IsStream() {
+			for _, line := range bytes.SplitAfter(one.Written, []byte("\n")) {
+				if len(line) > mostBytesOfLine {
+					t.Errorf("a line of %d bytes", len(line))
+				}
+			}
+		}
+	}
+	if is, due := fmt.Sprint(told), "[01true 2false 3false 456true 7false]"; out != nil || is != due {
+		t.Errorf("%s, not %s, without %v", is, due, out)
+	}
+	if _, out := NewStream(twoDevices()).Add(longRow("a", 1, 65<<20)); out == nil || out.Kind != part.Large {
+		t.Errorf("what no document has room for: %v", out)
+	}
+}
+
+// rowOfLine gives a name whose line has this length.
+func rowOfLine(name string, sequence int64, length int) *join.Row {
+	row := rowOf(name, sequence, 5)
+	link := &part.Record{Type: 4, Sequence: sequence}
+	row.At[0].Views[0].Record = link
+	link.Target = "x"
+	short := len(new(line).of(NewStream(twoDevices()).Builder, row))
+	link.Target = strings.Repeat("x", 1+length-short)
+	return row
+}
+
+// A line of just as many bytes as it may have is in a stream, and a stream of just as many lines' bytes is one.
+func TestLinesOfJustAsManyBytes(t *testing.T) {
+	for _, length := range []int{mostBytesOfLine - 1, mostBytesOfLine, mostBytesOfLine + 1} {
+		made, out := streamed(twoDevices(), []*join.Row{rowOfLine("a", 1, length)})
+		if len(made) != 1 || out != nil || made[0].IsStream() != (length <= mostBytesOfLine) {
+			t.Errorf("%d bytes: %d streams, without %v", length, len(made), out)
+		}
+	}
+	for more := -1; more < 2; more++ {
+		rows := []*join.Row{rowOfLine("a", 1, mostBytesOfLine), rowOfLine("b", 2, bytesOfStream-mostBytesOfLine-500), rowOfLine("c", 3, 500+more)}
+		if made, out := streamed(twoDevices(), rows); out != nil || (len(made) == 1) != (more <= 0) {
+			t.Errorf("%d bytes more than a stream: %d streams, without %v", more, len(made), out)
+		}
+	}
+}
+
+// A stream has no more names and bytes than it may, and no two of one sequence; one that is left out takes no room.
+func TestBoundsOfStreams(t *testing.T) {
+	rows := []*join.Row{}
+	for place := 0; place < 2*mostRows+1; place++ {
+		rows = append(rows, rowOf(fmt.Sprintf("%05d", place), int64(place+1), 5))
+	}
+	rows[1].At[0].Own.Sequence = 1
+	made, out := streamed(twoDevices(), rows)
+	if len(made) != 2 || len(made[0].Rows) != mostRows || len(made[1].Rows) != mostRows || len(out) != 1 || out[0] != "00001" {
+		t.Errorf("%d streams, without %v", len(made), out)
+	}
+	long := []*join.Row{}
+	for place := 0; place < 5; place++ {
+		long = append(long, longRow(fmt.Sprint(place), int64(place+1), bytesOfStream/3))
+	}
+	made, _ = streamed(twoDevices(), long)
+	if len(made) != 3 || len(made[0].Rows) != 2 || len(made[1].Rows) != 2 {
+		t.Errorf("%d streams of long lines", len(made))
+	}
+	if empty := NewStream(twoDevices()).Take(); len(empty.Rows) != 0 || bytes.Count(empty.Written, []byte("\n")) != 1 {
+		t.Errorf("a stream without names: %s", empty.Written)
+	}
+}
+
+// Of some names of a stream there are documents with these alone.
+func TestDocumentsOfSomeNames(t *testing.T) {
+	rows := []*join.Row{rowOf("a", 1, 5), rowOf("b", 2, 5), rowOf("c", 3, 5)}
+	made, _ := streamed(twoDevices(), rows)
+	made[0].Place = 7
+	documents, err := made[0].Documents(func(name string) bool { return name != "b" })
+	if err != nil || len(documents) != 1 || documents[0].Place != 7 || documents[0].IsStream() {
+		t.Fatalf("%+v, %v", documents, err)
+	}
+	if names := namesIn(t, documents); !reflect.DeepEqual(names, []string{"ac"}) {
+		t.Errorf("%q", names)
+	}
+	whole, _ := built(t, false, BytesOfOne, rows[0], rows[2])
+	if !bytes.Equal(whole[0].Written, documents[0].Written) {
+		t.Errorf("%s, not %s", documents[0].Written, whole[0].Written)
+	}
+}

@@ -1,0 +1,80 @@
+package exported
+
+import (
+	"bufio"
+	"encoding/json"
+	"errors"
+	"fmt"
+	"io"
+	"path/filepath"
+
+	"syncthing-audit/finding"
+	"syncthing-audit/regular"
+)
+
+// RestName is the file beside exported documents. It has what no document says, in lines of JSON. The first line is an
+// exported. Behind it stand the long lists of its answer.
+const RestName = "rest.jsonl"
+
+// exported is what an export into a directory leaves there beside the documents.
+type exported struct {
+	Answer    *finding.Answer `json:",omitempty"`
+	OfSlice   *finding.Answer `json:",omitempty"` // in its place where it is of one slice: a 'sum' that doesn't know of slices refuses it
+	Documents []exportedDocument
+}
+
+// exportedDocument is one of the documents.
+type exportedDocument struct {
+	File, Folder string
+	Own          string `json:",omitempty"` // as join.Folder has it
+}
+
+// write writes what no document says.
+func (e *exported) write(file io.Writer) error {
+	to := bufio.NewWriter(file)
+	lines := json.NewEncoder(to)
+	first := *e
+	if e.Answer.IsOfSlice() {
+		first.Answer, first.OfSlice = nil, e.Answer
+	}
+	if err := lines.Encode(first); err != nil {
+		return err
+	}
+	if err := e.Answer.WriteLists(lines); err != nil {
+		return err
+	}
+	return to.Flush()
+}
+
+// readExported reads what an export left in a directory.
+func readExported(directory string) (*exported, error) {
+	path := filepath.Join(directory, RestName)
+	file, _, err := regular.Open(path)
+	if err != nil {
+		return nil, fmt.Errorf("refused: 'export --into' fills a directory for 'sum': %w", err)
+	}
+	defer file.Close()
+	read := &exported{}
+	if err := read.readFrom(json.NewDecoder(bufio.NewReader(file))); err != nil {
+		return nil, fmt.Errorf("refused: %s isn't what 'export' writes: %w", path, err)
+	}
+	return read, nil
+}
+
+// readFrom reads the lines that save writes.
+func (e *exported) readFrom(lines *json.Decoder) error {
+	if err := lines.Decode(e); err != nil {
+		return err
+	}
+	if e.OfSlice != nil {
+		e.Answer, e.OfSlice = e.OfSlice, nil
+	}
+	if e.Answer == nil {
+		return errors.New("it has no answer")
+	}
+	for place := range e.Answer.Devices {
+		device := &e.Answer.Devices[place]
+		device.IsSilent = device.IsSilent || !e.Answer.HasRest
+	}
+	return e.Answer.ReadLists(lines)
+}

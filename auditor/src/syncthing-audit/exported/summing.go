@@ -1,0 +1,48 @@
+package exported
+
+import (
+	"fmt"
+	"path/filepath"
+	"strings"
+
+	"syncthing-audit/ask"
+	"syncthing-audit/audit"
+	"syncthing-audit/document"
+	"syncthing-audit/finding"
+	"syncthing-audit/regular"
+)
+
+// SumOf reads the answers that stand beside exported documents.
+func SumOf(directory string) (*finding.Answer, error) {
+	read, err := readExported(directory)
+	if err != nil {
+		return nil, err
+	}
+	replies := audit.NewReplies()
+	for _, entry := range read.Documents {
+		reply, err := replyTo(directory, entry)
+		if err != nil {
+			return nil, err
+		}
+		replies.Take(&document.Document{Folder: entry.Folder, Own: entry.Own}, reply)
+	}
+	read.Answer.IsSum = true
+	return read.Answer, replies.AddTo(read.Answer)
+}
+
+// mostOfReply is how many bytes the answer to a document has at most.
+const mostOfReply = 1 << 30
+
+// replyTo reads the answer to an exported document.
+func replyTo(directory string, entry exportedDocument) (*ask.Reply, error) {
+	path := filepath.Join(directory, strings.TrimSuffix(filepath.Base(entry.File), ".json")+".reply")
+	text, _, err := regular.Read(path, mostOfReply)
+	if err != nil {
+		return nil, fmt.Errorf("refused: a document has no answer yet: %w", err)
+	}
+	reply, err := ask.ReadReply(entry.Folder, string(text))
+	if err != nil {
+		return nil, fmt.Errorf("refused: %s: %w", path, err)
+	}
+	return reply, nil
+}

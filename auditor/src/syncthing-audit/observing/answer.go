@@ -1,0 +1,95 @@
+package observing
+
+import (
+	"io"
+	"os"
+	"path/filepath"
+	"sort"
+
+	"syncthing-audit/answering"
+	"syncthing-audit/ask"
+	"syncthing-audit/commandline"
+	"syncthing-audit/fault"
+	"syncthing-audit/finding"
+	"syncthing-audit/inputs"
+	"syncthing-audit/observe"
+	"syncthing-audit/part"
+	"syncthing-audit/target"
+)
+
+// write writes the parts of all devices that were looked at twice, and gives their files with what their devices were given as.
+func (o *observing) write() (map[string]string, error) {
+	seen, given, places := []*observe.Device{}, map[*observe.Device]string{}, map[*observe.Device]int{}
+	for at, device := range o.devices {
+		if device != nil {
+			seen = append(seen, device)
+			given[device], places[device] = o.addresses[at].given, at
+		}
+	}
+	if err := os.MkdirAll(o.room, 0o700); err != nil {
+		return nil, fault.Of(err)
+	}
+	files := map[string]string{}
+	for _, device := range seen {
+		path := filepath.Join(o.room, device.ID.String()[:7]+".part")
+		to, err := target.Of(path)
+		if err != nil {
+			return nil, err
+		}
+		if err := to.Write(func(to io.Writer) error {
+			return device.Write(to, o.wants(places[device]), o.observer.ID, o.lookID, seen)
+		}); err != nil {
+			return nil, err
+		}
+		files[path] = given[device]
+	}
+	return files, nil
+}
+
+// answer joins what was seen of all devices, and tells the answer. A device that failed on the way is left out, which the answer says.
+func (o *observing) answer(program ask.Program, files map[string]string, output io.Writer) (int, error) {
+	read := commandline.Options{Folders: o.asked.Folders, Names: o.asked.Names, Strict: o.asked.Strict, LeaveOut: o.asked.LeaveOut, Lines: o.asked.Lines, JSON: o.asked.JSON, Jobs: o.asked.Jobs, Take: o.asked.Take, Script: o.asked.Script}
+	for path := range files {
+		read.Parts = append(read.Parts, path)
+	}
+	read.Parts = append(read.Parts, o.halves()...)
+	sort.Strings(read.Parts)
+	if len(o.failed) > 0 {
+		read.LeaveOut[part.Absent] = true
+	}
+	opened, err := inputs.Open(read)
+	if err != nil {
+		return 0, answering.Renamed(err, files)
+	}
+	defer opened.Close()
+	opened.Left = o.left()
+	for _, device := range opened.Devices {
+		device.From, device.IsUnsigned = files[device.From], false // the devices said all that themselves
+	}
+	kept, err := answering.Remember(o.asked.History, opened)
+	if err != nil {
+		return 0, err
+	}
+	defer kept.Close()
+	o.tellWaiting(kept)
+	if read.Lines {
+		inputs.TellDevices(o.log, opened.Devices)
+	}
+	answer, err := opened.Audited(read, o.log, func() (*finding.Answer, error) { return answering.Of(opened, read, program) })
+	if err != nil {
+		return 0, answering.Renamed(err, files)
+	}
+	for _, folder := range answer.Folders {
+		if folder.Live != nil {
+			folder.Live.Seconds, folder.Live.Timed = o.second.Sub(o.first).Seconds(), true
+		}
+	}
+	status, err := kept.Tell(output, o.log, read, answer)
+	if err == nil {
+		err = o.keepChosen(kept)
+	}
+	if err == nil && !read.Lines && !read.JSON {
+		err = o.printWaiting(output)
+	}
+	return status, err
+}

@@ -1,0 +1,182 @@
+package outlook
+
+import (
+	"encoding/json"
+	"sort"
+	"time"
+
+	"golang.org/x/exp/slices"
+	"syncthing-audit/forecast"
+	"syncthing-audit/part"
+)
+
+// Thing is what stands at a name, or in a conflict copy of it, on some devices.
+type Thing struct {
+	Devices []string // in the folder's order
+	Type    forecast.Type
+	Content forecast.Content
+	Target  part.Bytes
+	Time    int64 // of a file, in nanoseconds; forecast.Now for what is made later
+	IsCopy  bool
+}
+
+// thingAsJSON is a thing for programs.
+type thingAsJSON struct {
+	Devices  []string    `json:"devices"`
+	Type     string      `json:"type"`
+	Size     *int64      `json:"size,omitempty"`    // of a file
+	Content  string      `json:"content,omitempty"` // of a file: SHA-256 of the SHA-256 hashes of its blocks
+	Target   *part.Bytes `json:"target,omitempty"`
+	Modified *time.Time  `json:"modified,omitempty"` // of a file; none of what is made later
+	Copy     bool        `json:"copy,omitempty"`
+}
+
+// WordsOfTypes name what things are.
+var WordsOfTypes = map[forecast.Type]string{forecast.File: "file", forecast.Directory: "directory", forecast.Symlink: "symlink"}
+
+func (t Thing) MarshalJSON() ([]byte, error) {
+	told := thingAsJSON{Devices: t.Devices, Type: WordsOfTypes[t.Type], Copy: t.IsCopy}
+	switch t.Type {
+	case forecast.File:
+		told.Size, told.Content, told.Modified = &t.Content.Size, t.Content.Hash, t.Modified()
+	case forecast.Symlink:
+		told.Target = &t.Target
+	}
+	return json.Marshal(told)
+}
+
+func (t *Thing) UnmarshalJSON(text []byte) error {
+	told := thingAsJSON{}
+	if err := json.Unmarshal(text, &told); err != nil {
+		return err
+	}
+	*t = Thing{Devices: told.Devices, Content: forecast.Content{Hash: told.Content}, Time: forecast.Now, IsCopy: told.Copy}
+	for kind, word := range WordsOfTypes {
+		if word == told.Type {
+			t.Type = kind
+		}
+	}
+	if told.Size != nil {
+		t.Content.Size = *told.Size
+	}
+	if told.Target != nil {
+		t.Target = *told.Target
+	}
+	if told.Modified != nil {
+		t.Time = told.Modified.UnixNano()
+	}
+	return nil
+}
+
+// Modified gives when a file was modified; nothing of what has no time, or is made later.
+func (t *Thing) Modified() *time.Time {
+	if t.Type != forecast.File || t.Time == forecast.Now {
+		return nil
+	}
+	at := time.Unix(0, t.Time).UTC()
+	return &at
+}
+
+// thingsOf gives what stands at each name at an end. The same thing on several devices stands once.
+func thingsOf(devices []forecast.Device, end *forecast.End) map[string][]Thing {
+	standing := map[string][]Thing{}
+	for member, disk := range end.Disks {
+		for place := range disk {
+			thing := thingOf(&disk[place].Node)
+			thing.Time, thing.IsCopy = disk[place].Node.Time, disk[place].IsCopy
+			standing[disk[place].Name] = withThing(standing[disk[place].Name], thing, devices[member].ID)
+		}
+	}
+	for _, things := range standing {
+		sortThings(things, devices)
+	}
+	return standing
+}
+
+// sortThings puts copies last, and things in the order of their first devices.
+func sortThings(things []Thing, devices []forecast.Device) {
+	sort.SliceStable(things, func(a, b int) bool {
+		one, other := &things[a], &things[b]
+		if one.IsCopy != other.IsCopy {
+			return other.IsCopy
+		}
+		if first, second := placeOf(devices, one.Devices[0]), placeOf(devices, other.Devices[0]); first != second {
+			return first < second
+		}
+		return one.Content.Hash < other.Content.Hash
+	})
+}
+
+func placeOf(devices []forecast.Device, id string) int {
+	return slices.IndexFunc(devices, func(device forecast.Device) bool { return device.ID == id })
+}
+
+// thingsNow gives what stands at a name now, the same on several devices once.
+func thingsNow(devices []forecast.Device, name *forecast.Name) []Thing {
+	var things []Thing
+	for member, what := range name.Disk {
+		if what != nil {
+			things = withThing(things, thingOf(what), devices[member].ID)
+		}
+	}
+	return things
+}
+
+// withThing adds a thing on a device: the same on several devices stands once.
+func withThing(things []Thing, thing *Thing, device string) []Thing {
+	if place := slices.IndexFunc(things, thing.IsSame); place >= 0 {
+		things[place].Devices = append(things[place].Devices, device)
+		return things
+	}
+	thing.Devices = []string{device}
+	return append(things, *thing)
+}
+
+func thingOf(what *forecast.Node) *Thing {
+	thing := &Thing{Type: what.Type, Content: what.Content, Target: part.Bytes(what.Target)}
+	if what.Type == forecast.File {
+		thing.Time = what.Time
+	}
+	return thing
+}
+
+func thingOfRecord(record *forecast.Record) *Thing {
+	return &Thing{Type: record.Type, Content: record.Content, Target: part.Bytes(record.Target)}
+}
+
+// IsSame says whether two things are one, whatever their times, and wherever they stand.
+func (t *Thing) IsSame(other Thing) bool { return t.IsLike(&other) && t.IsCopy == other.IsCopy }
+
+// IsLike says whether two things are alike, be one of them a copy.
+func (t *Thing) IsLike(other *Thing) bool {
+	return t.Type == other.Type && t.Content == other.Content && t.Target == other.Target
+}
+
+func (t *Thing) isEmpty() bool { return t.Type == forecast.File && t.Content.Size == 0 }
+
+func isAmong(things []Thing, thing *Thing) bool { return slices.IndexFunc(things, thing.IsSame) >= 0 }
+
+// filesOf leaves directories out: what is below them are names, too.
+func filesOf(things []Thing) []Thing {
+	var files []Thing
+	for _, thing := range things {
+		if thing.Type != forecast.Directory {
+			files = append(files, thing)
+		}
+	}
+	return files
+}
+
+// stands says whether something stands at a name on a device that is no copy.
+func stands(things []Thing, device string) bool {
+	return slices.IndexFunc(things, func(thing Thing) bool { return !thing.IsCopy && slices.Contains(thing.Devices, device) }) >= 0
+}
+
+// idsOf gives the ids of devices in these places.
+func idsOf(devices []forecast.Device, places []int) []string {
+	var ids []string
+	for _, place := range places {
+		ids = append(ids, devices[place].ID)
+	}
+	return ids
+}

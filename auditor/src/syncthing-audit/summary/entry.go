@@ -1,0 +1,150 @@
+package summary
+
+import (
+	"strings"
+
+	"syncthing-audit/shell"
+)
+
+// entries prints the entries of names, those in the greatest danger first, whatever their names.
+func (p *printer) entries(s *Summary) {
+	for danger := losesBytes; danger <= isSafe; danger++ {
+		for _, folder := range s.Folders {
+			for _, group := range folder.Groups {
+				if group.of.danger() == danger {
+					p.group(folder, group, nil)
+				}
+			}
+			p.files(folder, danger)
+		}
+	}
+}
+
+// files prints the entries of the names in such a danger. Many of which the very same is told are one entry: a disk that rots has many, and so has a device
+// on which someone worked while Syncthing was off. --json tells each.
+func (p *printer) files(folder *Folder, danger int) {
+	files, told := []*File{}, map[string]*alike{}
+	for _, file := range folder.Files {
+		if file.danger() == danger {
+			if files = append(files, file); told[file.key] == nil {
+				told[file.key] = &alike{}
+			}
+			told[file.key].take(file)
+		}
+	}
+	for _, file := range files {
+		switch all := told[file.key]; {
+		case all.group.Names <= mostAlone:
+			p.file(folder, file)
+		case file == all.files[0]:
+			p.group(folder, all.groupOf(p.named), all.files)
+		}
+	}
+}
+
+// file prints the entry of a name.
+func (p *printer) file(folder *Folder, file *File) {
+	about := "in " + folder.ID
+	if file.Size > 0 {
+		about += ", " + size(file.Size)
+	}
+	p.line("\n%s  (%s)", shell.Path(string(file.Name)), about)
+	for next := range file.Faults {
+		p.fault(&file.Faults[next])
+	}
+	p.renamed(file)
+	p.same(file)
+	p.modes(file.Permissions)
+	p.have(file)
+	p.foretold(file.Foretold)
+	p.advice(file.Advice)
+}
+
+// group prints names of which the very same is told as one entry; with all of these names, where their details are kept.
+func (p *printer) group(folder *Folder, group *Group, all []*File) {
+	unsized := ""
+	if group.Unsized > 0 {
+		unsized = ", without " + counted(group.Unsized, "name", "names") + " whose details weren't kept"
+	}
+	p.line("\n%s in %s: %s%s", counted(group.Names, "name", "names"), folder.ID, size(group.Bytes), unsized)
+	for place := range group.of.Faults {
+		faults := faultsAt(all, place)
+		if len(faults) == 0 {
+			faults = []*Fault{&group.of.Faults[place]}
+		}
+		p.line("  %s: %s%s", p.named.of(faults[0].Device), wordsOfFaults(faults, true), differingInAll(faults))
+	}
+	p.same(group.of)
+	p.modes(group.Modes)
+	first := []string{}
+	for _, name := range group.First {
+		first = append(first, shell.Path(string(name)))
+	}
+	p.line("  the first: %s, and %s more (--lines has all)", strings.Join(first, " "), thousands(group.Names-int64(len(first))))
+	p.have(group.of)
+	p.foretold(group.Foretold)
+	p.advice(group.Advice)
+}
+
+// faultsAt gives the faults of all names at this place, as of one device.
+func faultsAt(all []*File, place int) []*Fault {
+	faults := []*Fault{}
+	for _, file := range all {
+		faults = append(faults, &file.Faults[place])
+	}
+	return faults
+}
+
+// differingInAll says how many blocks differ in all names, where these have other bytes on a disk.
+func differingInAll(faults []*Fault) string {
+	if faults[0].Cause != OtherBytes {
+		return ""
+	}
+	blocks := int64(0)
+	for _, fault := range faults {
+		if fault.Blocks != nil {
+			blocks += fault.Blocks.Count
+		}
+	}
+	return "; " + counted(blocks, "block differs", "blocks differ") + " in all (--json tells them)"
+}
+
+// fault prints what is wrong with a name on a device, and since when.
+func (p *printer) fault(fault *Fault) {
+	p.line("  %s: %s%s", p.named.of(fault.Device), wordsOfFaults([]*Fault{fault}, false), p.since(fault))
+	if fault.Found != nil && fault.Found.Unread > 0 {
+		p.line("    its last %s weren't read: it is that much longer than any record, so it isn't what is recorded, and which devices have the same "+
+			"bytes isn't known", size(fault.Found.Unread))
+	}
+	if fault.Blocks == nil || fault.Blocks.Of < 1 {
+		return
+	}
+	p.line("    %s (%s of %s of %d KiB; the first is block 0)", differing(fault.Blocks), thousands(fault.Blocks.Count),
+		counted(fault.Blocks.Of, "block", "blocks"), fault.Blocks.Size>>10)
+	if fault.Blocks.Recorded != "" && fault.Blocks.Found != "" {
+		p.line("    the first of them: SHA-256 %s.. recorded, %s.. on the disk", fault.Blocks.Recorded[:8], fault.Blocks.Found[:8])
+	}
+}
+
+// same prints which devices have the same bytes in place of those recorded.
+func (p *printer) same(file *File) {
+	for _, same := range file.Same {
+		p.line("  the same other bytes on: %s", p.named.all(same))
+	}
+}
+
+// have prints which devices have what is due, be it with another time. Nothing is due of a name without a winner, and of one without details it isn't known.
+func (p *printer) have(file *File) {
+	devices := p.named.all(file.Have)
+	switch {
+	case len(file.Faults) == 0 || len(file.Have) == 0 && !file.hasDetails || isOfNobody(file):
+	case len(file.Have) == 0:
+		p.line("  as recorded on: no audited device")
+	case file.isDeletionDue():
+		p.line("  deleted on: %s", devices)
+	case file.isOfAnotherTime:
+		p.line("  the recorded bytes on: %s", devices)
+	default:
+		p.line("  as recorded on: %s", devices)
+	}
+}
