@@ -86,8 +86,20 @@ func TestHearing(t *testing.T) {
 		t.Fatal("where broadcasts are taken, multicasts aren't heard", err)
 	}
 	defer second.Close()
-	for network, to := range map[string]net.IP{"udp4": net.IPv4(127, 0, 0, 1), "udp6": net.IPv6loopback} {
-		sender, err := net.DialUDP(network, nil, &net.UDPAddr{IP: to, Port: port})
+	// Which of the two sockets of one group gets a packet is the kernel's choice, so both are heard throughout.
+	heard := make(chan Heard, 4)
+	for _, one := range []*Listener{listener, second} {
+		go func(one *Listener) {
+			for next, err := one.Next(); err == nil; next, err = one.Next() {
+				heard <- next
+			}
+		}(one)
+	}
+	for _, one := range []struct {
+		network string
+		to      net.IP
+	}{{"udp4", net.IPv4(127, 0, 0, 1)}, {"udp6", net.IPv6loopback}} {
+		sender, err := net.DialUDP(one.network, nil, &net.UDPAddr{IP: one.to, Port: port})
 		if err != nil {
 			t.Fatal(err)
 		}
@@ -97,24 +109,14 @@ func TestHearing(t *testing.T) {
 				t.Fatal(err)
 			}
 		}
-		expected := Heard{id, []string{net.JoinHostPort(to.String(), "4711")}}
-		heard := make(chan Heard, 2)
-		for _, one := range []*Listener{listener, second} {
-			go func(one *Listener) {
-				next, _ := one.Next()
-				heard <- next
-			}(one)
-			if network == "udp4" {
-				break
-			}
-		}
+		expected := Heard{id, []string{net.JoinHostPort(one.to.String(), "4711")}}
 		select {
 		case got := <-heard:
 			if !reflect.DeepEqual(got, expected) {
-				t.Errorf("%s: %v", network, got)
+				t.Errorf("%s: %v", one.network, got)
 			}
 		case <-time.After(20 * time.Second):
-			t.Errorf("%s: nothing is heard", network)
+			t.Errorf("%s: nothing is heard", one.network)
 		}
 	}
 }
