@@ -5,8 +5,6 @@ import (
 	"io"
 	"os"
 	"os/exec"
-	"path/filepath"
-	"strconv"
 	"strings"
 	"syscall"
 	"testing"
@@ -37,9 +35,9 @@ func TestWithinTheLimits(t *testing.T) {
 // Each limit ends a command that passes it, one that heeds no signal, and one whose child holds the output open.
 func TestEachLimit(t *testing.T) {
 	short := func(change func(limits *Limits)) Limits {
-		made := wide
-		change(&made)
-		return made
+		limits := wide
+		change(&limits)
+		return limits
 	}
 	quick := short(func(limits *Limits) { limits.Silence = 300 * time.Millisecond })
 	trickling := short(func(limits *Limits) { limits.Silence, limits.Whole = 4*time.Second, 1500*time.Millisecond })
@@ -56,8 +54,7 @@ func TestEachLimit(t *testing.T) {
 		{"one that closed its output", "exec sleep 600 >&- 2>&-", "wrote nothing for 300ms", quick},
 		{"one that trickles", "while :; do printf x; sleep 0.1; done", "wasn't done after 1.5s", trickling},
 	} {
-		path := filepath.Join(t.TempDir(), "pid")
-		command := exec.Command("sh", "-c", "echo $$ > '"+path+"'; "+test.script)
+		command := exec.Command("sh", "-c", test.script)
 		began := time.Now()
 		told, err := Run(command, io.Discard, test.limits)
 		var passed *Passed
@@ -67,19 +64,9 @@ func TestEachLimit(t *testing.T) {
 		if spent := time.Since(began); spent > 20*time.Second {
 			t.Errorf("%s took %v", test.why, spent)
 		}
-		checkEnded(t, test.why, path)
-	}
-}
-
-// checkEnded says whether the process of this number is still there.
-func checkEnded(t *testing.T, why, path string) {
-	text, err := os.ReadFile(path)
-	if err != nil {
-		t.Fatal(err)
-	}
-	number, err := strconv.Atoi(strings.TrimSpace(string(text)))
-	if err != nil || syscall.Kill(number, 0) != syscall.ESRCH {
-		t.Errorf("%s: process %d is still there: %v", why, number, err)
+		if number := command.Process.Pid; syscall.Kill(number, 0) != syscall.ESRCH {
+			t.Errorf("%s: process %d is still there", test.why, number)
+		}
 	}
 }
 

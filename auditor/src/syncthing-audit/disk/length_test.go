@@ -66,7 +66,12 @@ func TestAFileAsLongAsAnyNumber(t *testing.T) {
 	room, node := sparseFile(t, size)
 	file := File{Disk: adapt.Directory(fs.NewFilesystem(fs.FilesystemTypeBasic, room)), Name: "file", Stamp: Stamp(filepath.Join(room, "file")), Node: node,
 		BlockSizes: []int64{protocol.MinBlockSize, protocol.MaxBlockSize}, Longest: size}
-	time.AfterFunc(100*time.Millisecond, pool.Skip)
+	go func() {
+		for pool.Hashed() == 0 {
+			time.Sleep(time.Millisecond)
+		}
+		pool.Skip()
+	}()
 	job := pool.Begin(file)
 	if _, _, _, err := job.Wait(); err != nil {
 		t.Error(err)

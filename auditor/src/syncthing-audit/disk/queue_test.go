@@ -15,46 +15,54 @@ import (
 	"syncthing-audit/part"
 )
 
-// reserved tries to take room of a queue, and says whether that is given at once.
-func reserved(q *Queue, weight int) (isGiven bool, later chan bool) {
-	later = make(chan bool, 1)
-	go func() { later <- q.Reserve(weight) }()
+// reserving begins to take room of a queue.
+func reserving(q *Queue, weight int) chan bool {
+	given := make(chan bool, 1)
+	go func() { given <- q.Reserve(weight) }()
+	return given
+}
+
+// reserve takes room of a queue that has it.
+func reserve(t *testing.T, q *Queue, weight int) {
+	t.Helper()
 	select {
-	case is := <-later:
-		return is, nil
-	case <-time.After(50 * time.Millisecond):
-		return false, later
+	case <-reserving(q, weight):
+	case <-time.After(10 * time.Second): // on a busy machine it may not begin at once
+		t.Fatalf("no room for %d", weight)
 	}
+}
+
+// awaitRoom begins to take room of a queue that hasn't it.
+func awaitRoom(t *testing.T, q *Queue, weight int) chan bool {
+	t.Helper()
+	given := reserving(q, weight)
+	select {
+	case <-given:
+		t.Fatalf("room for %d, which is more than there is", weight)
+	case <-time.After(50 * time.Millisecond):
+	}
+	return given
 }
 
 // A queue has room for so much and no more, but one name that is heavier goes into an empty one. Who waits goes on once a name is taken.
 func TestTheRoomOfAQueue(t *testing.T) {
 	q := NewQueue()
 	for _, weight := range []int{5, MostWaiting - 7, 2} {
-		if is, _ := reserved(q, weight); !is {
-			t.Fatalf("no room for %d beside %d", weight, q.weight)
-		}
+		reserve(t, q, weight)
 		q.Put(&Pending{Weight: weight})
 	}
-	is, later := reserved(q, 5)
-	if is {
-		t.Fatalf("room for more than there is: %d", q.weight)
-	}
+	later := awaitRoom(t, q, 5)
 	if next, err := q.Next(); err != nil || next.Weight != 5 || !<-later || q.weight != MostWaiting {
 		t.Errorf("%+v, %v, %d", next, err, q.weight)
 	}
 	light := NewQueue()
 	light.Reserve(1)
-	if is, _ := reserved(light, MostWaiting); is {
-		t.Error("room for more than there is beside the lightest name")
-	}
+	awaitRoom(t, light, MostWaiting)
 	light.Put(&Pending{Weight: 1})
 	light.Next() // so whoever waits goes on
 	heavy := NewQueue()
-	if is, _ := reserved(heavy, 2*MostWaiting); !is {
-		t.Error("no room for a heavy name")
-	}
-	_, later = reserved(heavy, 1)
+	reserve(t, heavy, 2*MostWaiting)
+	later = awaitRoom(t, heavy, 1)
 	go heavy.End(nil)
 	heavy.Stop()
 	if <-later {

@@ -56,19 +56,19 @@ func (t *tellings) Write(text []byte) (int, error) {
 
 // Whoever is awaited is told again, after a longer time, and nobody who has answered.
 func TestWhoIsAwaited(t *testing.T) {
-	log := &tellings{twice: make(chan bool)}
+	log, ended, began := &tellings{twice: make(chan bool)}, make(chan int, 1), time.Now()
 	run := &running{places: []*place{{given: "quick:"}, {given: "slow:"}}, log: log, patience: 20 * time.Millisecond}
-	if err := run.all("first look", func(at int) error {
-		if at == 1 {
-			<-log.twice
-		}
-		return nil
-	}); err != nil {
+	ended <- 0
+	go func() {
+		<-log.twice
+		ended <- 1
+	}()
+	if err := run.await("first look", ended, make([]error, 2), 2); err != nil {
 		t.Fatal(err)
 	}
 	told := log.lines
-	if between := log.times[1].Sub(log.times[0]); between < 2*run.patience {
-		t.Errorf("told again after %v: %q", between, told)
+	if first, second := log.times[0].Sub(began), log.times[1].Sub(began); first < run.patience || second < 3*run.patience {
+		t.Errorf("told after %v and %v: %q", first, second, told)
 	}
 	for _, line := range told {
 		if !strings.HasPrefix(line, "syncthing-audit: first look: waiting for slow: for ") {
@@ -94,17 +94,11 @@ func TestWhoFails(t *testing.T) {
 		{1, []error{errors.New("off"), errors.New("lost")}, off, "lost", "both fail"},
 	} {
 		var log strings.Builder
-		isOver := make(chan bool)
+		ended := make(chan int, 2)
+		ended <- 1 - row.last
+		ended <- row.last
 		run := &running{places: []*place{{given: "off:"}, {given: "on:"}}, log: &log, patience: time.Hour}
-		err := run.all("first look", func(at int) error {
-			if at != row.last {
-				defer close(isOver)
-			} else {
-				<-isOver
-				time.Sleep(50 * time.Millisecond) // until the other one is heard of
-			}
-			return row.errs[at]
-		})
+		err := run.await("first look", ended, row.errs, 2)
 		if err == nil || err.Error() != row.told || log.String() != row.log {
 			t.Errorf("%s: %v, %q", row.why, err, log.String())
 		}

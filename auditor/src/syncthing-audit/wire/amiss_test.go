@@ -80,7 +80,9 @@ func TestAnswersThatAreAmiss(t *testing.T) {
 		}, BadMessage},
 	} {
 		limits := short()
-		limits.Answer = 300 * time.Millisecond
+		if row.want == TooLate {
+			limits.Answer = 300 * time.Millisecond
+		}
 		connection, err := dial(observer, newFake(t, serving(observer, row.then)), nil, limits)
 		if err != nil {
 			t.Fatal(why, err)
@@ -149,17 +151,27 @@ func TestWhoAsksMayStop(t *testing.T) {
 func TestPings(t *testing.T) {
 	observer, limits := newObserver(t), short()
 	limits.Ping = 20 * time.Millisecond
-	device := newFake(t, serving(observer, (*fake).serve))
+	device, began := newFake(t, serving(observer, (*fake).serve)), time.Now()
 	connection, err := dial(observer, device, nil, limits)
 	if err != nil {
 		t.Fatal(err)
 	}
-	time.Sleep(300 * time.Millisecond)
-	connection.Close()
-	device.mutex.Lock()
-	defer device.mutex.Unlock()
-	if count := len(device.heard); count < 3 || count > 17 || device.heard[0] != kindPing {
-		t.Errorf("%v", device.heard)
+	defer connection.Close()
+	pings := func() int {
+		device.mutex.Lock()
+		defer device.mutex.Unlock()
+		for _, what := range device.heard {
+			if what != kindPing {
+				t.Fatalf("%v", device.heard)
+			}
+		}
+		return len(device.heard)
+	}
+	for until := began.Add(20 * time.Second); pings() < 5 && time.Now().Before(until); {
+		time.Sleep(5 * time.Millisecond)
+	}
+	if count, most := pings(), time.Since(began)/limits.Ping; count < 5 || count > int(most) {
+		t.Errorf("%d pings in %v", count, time.Since(began))
 	}
 }
 

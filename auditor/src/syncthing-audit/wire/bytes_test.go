@@ -6,7 +6,6 @@ import (
 	"sort"
 	"strings"
 	"testing"
-	"time"
 
 	"github.com/syncthing/syncthing/lib/protocol"
 	entries "syncthing-audit/device"
@@ -40,7 +39,7 @@ func look(t *testing.T, recorded map[string]string, change func(*fake)) (map[str
 		f.serve()
 	}
 	limits := short()
-	limits.Message, limits.IndexQuiet = 16<<20, time.Minute
+	limits.Message = 16 << 20
 	connection, err := dial(observer, device, nil, limits)
 	if err != nil {
 		t.Fatal(err)

@@ -217,8 +217,11 @@ func TestRefusals(t *testing.T) {
 		{"an end before the index", Closed, then(kindClose, nil)},
 	}
 	for _, row := range cases {
-		device := newFake(t, row.script)
-		if got := refusalOf(observer, device, short()); got == nil || !errors.Is(got, row.want) {
+		device, limits := newFake(t, row.script), short()
+		if row.want == NotWhole {
+			limits.IndexQuiet = 300 * time.Millisecond
+		}
+		if got := refusalOf(observer, device, limits); got == nil || !errors.Is(got, row.want) {
 			t.Errorf("%s: %v in place of %v", row.why, got, row.want)
 		}
 	}

@@ -80,6 +80,7 @@ type fake struct {
 	ignored  map[string]bool
 	noWeak   bool              // it knows no weak hashes
 	after    func(request int) // called before each request is answered
+	slower   time.Duration     // how many times longer it pauses than it is asked for
 	lie      func(offset int64, request int) (code uint64)
 	script   func(*fake)
 	mutex    sync.Mutex
@@ -100,7 +101,7 @@ func newFake(t *testing.T, script func(*fake)) *fake {
 	if err != nil {
 		t.Fatal(err)
 	}
-	device := &fake{id: protocol.NewDeviceID(certificate.Certificate[0]), certificate: certificate, listener: listener, script: script}
+	device := &fake{id: protocol.NewDeviceID(certificate.Certificate[0]), certificate: certificate, listener: listener, script: script, slower: 1}
 	done := make(chan struct{})
 	go func() {
 		defer close(done)
@@ -159,6 +160,9 @@ func (f *fake) config(folder string, observer protocol.DeviceID, id, sequence ui
 	}
 	return message.AppendText(message.AppendText(nil, configFolder, message.AppendText(nil, folderID, []byte("other"))), configFolder, text)
 }
+
+// pause waits for a time.
+func (f *fake) pause(usual time.Duration) { time.Sleep(usual * f.slower) }
 
 // isThere says whether the connection isn't ended yet.
 func (f *fake) isThere() bool {
@@ -272,9 +276,9 @@ func newObserver(t *testing.T) *Observer {
 	return observer
 }
 
-// short are limits for tests.
+// short are limits for tests, with time enough on a busy machine.
 func short() Limits {
 	limits := Usual
-	limits.Message, limits.IndexQuiet, limits.Handshake = 1<<20, 300*time.Millisecond, 5*time.Second
+	limits.Message, limits.IndexQuiet, limits.Handshake = 1<<20, 20*time.Second, 20*time.Second
 	return limits
 }

@@ -6,6 +6,7 @@ import (
 	"fmt"
 	"math"
 	"strings"
+	"sync/atomic"
 	"testing"
 	"time"
 
@@ -16,7 +17,7 @@ import (
 // hurried are limits under which a test sees in a second what takes hours under the usual ones.
 func hurried(change func(*Limits)) Limits {
 	limits := short()
-	limits.Frame, limits.IndexQuiet, limits.Answer = 20*time.Second, 20*time.Second, 20*time.Second
+	limits.Frame, limits.Answer = 20*time.Second, 20*time.Second
 	limits.IndexWhole, limits.BytesWhole, limits.Grace, limits.LeastSteps, limits.LeastBytes = time.Minute, time.Minute, 400*time.Millisecond, 1000, 1e6
 	change(&limits)
 	return limits
@@ -25,24 +26,42 @@ func hurried(change func(*Limits)) Limits {
 // slowFiles are the files of a device that is asked for bytes.
 const slowFiles = 500
 
-// lookWithin looks at a device whose index goes up to a sequence, and gives how that ended.
-func lookWithin(t *testing.T, limits Limits, sequence uint64, index func(*fake), prepare func(*fake)) error {
+// slow is a device that says little, or without an end.
+type slow struct {
+	limits   Limits
+	sequence uint64      // to which its index goes
+	index    func(*fake) // says it; nothing where the observer has it
+	prepare  func(*fake)
+	slower   time.Duration // how many times longer it pauses
+}
+
+// look looks at such a device, and gives how that ended.
+func (s *slow) look(t *testing.T) error {
 	observer := newObserver(t)
 	device := newFake(t, func(f *fake) {
 		f.hello()
-		f.write(kindClusterConfig, f.config("docs", observer.ID, 42, sequence), false)
+		f.write(kindClusterConfig, f.config("docs", observer.ID, 42, s.sequence), false)
 		_, _, _ = readFrame(f.stream, 1<<20, func() {})
-		go index(f)
+		go s.index(f)
 		f.serve()
 	})
-	device.disk = map[string]string{}
+	device.slower, device.disk = s.slower, map[string]string{}
+	files := []file{}
 	for number := 0; number < slowFiles; number++ {
 		device.disk[fmt.Sprint(number)] = "text"
+		files = append(files, recordOf(number))
 	}
-	prepare(device)
+	var kept *Index
+	if s.index == nil {
+		s.index, kept = func(*fake) {}, NewIndex(42)
+		if err := take(kept, files...); err != nil {
+			t.Fatal(err)
+		}
+	}
+	s.prepare(device)
 	ended := make(chan error, 1)
 	go func() {
-		connection, err := dial(observer, device, nil, limits)
+		connection, err := dial(observer, device, kept, s.limits)
 		if err == nil {
 			defer connection.Close()
 			err = readAll(connection)
@@ -58,6 +77,11 @@ func lookWithin(t *testing.T, limits Limits, sequence uint64, index func(*fake),
 	}
 }
 
+// recordOf gives a record of such a file.
+func recordOf(number int) file {
+	return file{name: fmt.Sprint(number), data: "text", sequence: uint64(number + 1)}
+}
+
 // readAll asks for a device's index and its bytes.
 func readAll(connection *Connection) error {
 	folder := connection.Folders[0]
@@ -70,73 +94,96 @@ func readAll(connection *Connection) error {
 
 // A device that says a little now and then, or without an end, is waited for no longer than any device needs.
 func TestASlowDevice(t *testing.T) {
-	oneByOne := func(count int, pause time.Duration) func(*fake) {
-		return func(f *fake) {
-			for number := 0; number < count && f.isThere(); number++ {
-				f.write(kindIndexUpdate, indexOf("docs", file{name: fmt.Sprint(number), data: "text", sequence: uint64(number + 1)}), false)
-				time.Sleep(pause)
-			}
-		}
-	}
 	const all = math.MaxInt
-	pausing := func(pause time.Duration) func(*fake) {
-		return func(f *fake) { f.after = func(int) { time.Sleep(pause) } }
-	}
 	nothing := func(*fake) {}
-	for _, row := range []struct {
-		why      string
-		limits   Limits
-		sequence uint64
-		index    func(*fake)
-		prepare  func(*fake)
-		told     string // nothing where the device is quick enough
+	for why, row := range map[string]struct {
+		slow slow
+		told string
 	}{
-		{"a byte now and then", hurried(func(l *Limits) { l.Frame = 300 * time.Millisecond; l.Grace = time.Minute }), 2, func(f *fake) {
+		"a byte now and then": {slow{hurried(func(l *Limits) { l.Frame = 300 * time.Millisecond; l.Grace = time.Minute }), 2, func(f *fake) {
 			for _, letter := range frameOf(kindIndex, indexOf("docs", file{name: "a", sequence: 2})) {
 				f.stream.Write([]byte{letter})
-				time.Sleep(50 * time.Millisecond)
+				f.pause(50 * time.Millisecond)
 			}
-		}, nothing, "i/o timeout"},
-		{"a record now and then", hurried(func(*Limits) {}), math.MaxInt64, oneByOne(all, 20*time.Millisecond), nothing, " records, "},
-		{"an index without an end", hurried(func(l *Limits) { l.IndexWhole, l.LeastSteps = 700*time.Millisecond, 0.001 }), math.MaxInt64, oneByOne(all, time.Millisecond),
-			nothing, "not all of its records came in 700ms"},
-		{"another folder's index", hurried(func(*Limits) {}), 1, func(f *fake) {
+		}, nothing, 1}, "i/o timeout"},
+		"a record now and then": {slow{hurried(func(*Limits) {}), math.MaxInt64, records(all, 20*time.Millisecond), nothing, 1}, " records, "},
+		"an index without an end": {slow{hurried(func(l *Limits) { l.IndexWhole, l.LeastSteps = 700*time.Millisecond, 0.001 }), math.MaxInt64, records(all, time.Millisecond), nothing, 1},
+			"not all of its records came in 700ms"},
+		"another folder's index": {slow{hurried(func(*Limits) {}), 1, func(f *fake) {
 			for f.isThere() {
 				f.write(kindIndexUpdate, indexOf("other", file{name: "a", sequence: 1}), false)
-				time.Sleep(20 * time.Millisecond)
+				f.pause(20 * time.Millisecond)
 			}
-		}, nothing, "0 records, "},
-		{"an answer now and then", hurried(func(*Limits) {}), slowFiles, oneByOne(slowFiles, 0), pausing(20 * time.Millisecond), " answers, "},
-		{"answers that nobody asked for", hurried(func(*Limits) {}), slowFiles, func(f *fake) {
-			oneByOne(slowFiles, 0)(f)
-			for f.isThere() {
-				f.write(kindResponse, message.AppendText(message.AppendNumber(nil, responseID, 1<<30), responseData, make([]byte, 1<<16)), false)
-				time.Sleep(time.Millisecond)
+		}, nothing, 1}, "0 records, "},
+		"an answer now and then": {slow{hurried(func(*Limits) {}), slowFiles, nil, pausing(20 * time.Millisecond), 1}, " answers, "},
+		"answers that nobody asked for": {slow{hurried(func(*Limits) {}), slowFiles, nil, func(f *fake) {
+			f.after = func(request int) {
+				if request == 1 {
+					go answerMore(f)
+				}
+				f.pause(100 * time.Millisecond)
 			}
-		}, pausing(100 * time.Millisecond), " answers, "},
-		{"answers without an end", hurried(func(l *Limits) { l.BytesWhole, l.LeastSteps = 700*time.Millisecond, 0.001 }), slowFiles, oneByOne(slowFiles, 0),
-			pausing(5 * time.Millisecond), "not all of its answers came in 700ms"},
-		{"slow and steady", hurried(func(l *Limits) { l.Grace, l.LeastSteps = 200*time.Millisecond, 10 }), 100, oneByOne(100, 10*time.Millisecond),
-			pausing(3 * time.Millisecond), ""},
-		{"large records", hurried(func(l *Limits) { l.Grace, l.LeastBytes = 200*time.Millisecond, 1e4 }), 20, func(f *fake) {
-			for number := 0; number < 20; number++ {
-				f.write(kindIndexUpdate, indexOf("docs", file{name: strings.Repeat("n", 2000) + fmt.Sprint(number), deleted: true, sequence: uint64(number + 1)}), false)
-				time.Sleep(30 * time.Millisecond)
-			}
-		}, func(f *fake) { f.lie = func(int64, int) uint64 { return codeNoSuchFile } }, ""},
+		}, 1}, " answers, "},
+		"answers without an end": {slow{hurried(func(l *Limits) { l.BytesWhole, l.LeastSteps = 700*time.Millisecond, 0.001 }), slowFiles, nil, pausing(5 * time.Millisecond), 1},
+			"not all of its answers came in 700ms"},
 	} {
-		row := row // its own, as all run at once
-		t.Run(row.why, func(t *testing.T) {
+		why, row := why, row // its own, as all run at once
+		t.Run(why, func(t *testing.T) {
 			t.Parallel()
-			err := lookWithin(t, row.limits, row.sequence, row.index, row.prepare)
-			switch {
-			case row.told == "" && err != nil:
-				t.Error(err)
-			case row.told != "" && (!errors.Is(err, TooLate) || !strings.Contains(err.Error(), row.told)):
+			if err := row.slow.look(t); !errors.Is(err, TooLate) || !strings.Contains(err.Error(), row.told) {
 				t.Errorf("%v", err)
 			}
 		})
 	}
+}
+
+// A device that is slow and gives enough for the time is waited for. Where a busy machine holds it up, a slower one is waited for as well.
+func TestADeviceThatIsQuickEnough(t *testing.T) {
+	for why, device := range map[string]slow{
+		"slow and steady": {hurried(func(l *Limits) { l.Grace, l.LeastSteps = 200*time.Millisecond, 10 }), 100, records(100, 10*time.Millisecond), pausing(3 * time.Millisecond), 1},
+		"large records": {hurried(func(l *Limits) { l.Grace, l.LeastBytes = 200*time.Millisecond, 1e4 }), 20, func(f *fake) {
+			for number := 0; number < 20; number++ {
+				f.write(kindIndexUpdate, indexOf("docs", file{name: strings.Repeat("n", 2000) + fmt.Sprint(number), deleted: true, sequence: uint64(number + 1)}), false)
+				f.pause(30 * time.Millisecond)
+			}
+		}, func(f *fake) { f.lie = func(int64, int) uint64 { return codeNoSuchFile } }, 1},
+	} {
+		device := device
+		t.Run(why, func(t *testing.T) {
+			t.Parallel()
+			err := device.look(t)
+			for ; errors.Is(err, TooLate) && device.slower < 16; err = device.look(t) {
+				device.limits.Grace, device.limits.LeastSteps, device.limits.LeastBytes = 4*device.limits.Grace, device.limits.LeastSteps/4, device.limits.LeastBytes/4
+				device.slower *= 4
+			}
+			if err != nil {
+				t.Error(err)
+			}
+		})
+	}
+}
+
+// records has a device say the records of so many files, with a pause behind each.
+func records(count int, pause time.Duration) func(*fake) {
+	return func(f *fake) {
+		for number := 0; number < count && f.isThere(); number++ {
+			f.write(kindIndexUpdate, indexOf("docs", recordOf(number)), false)
+			f.pause(pause)
+		}
+	}
+}
+
+// answerMore answers what nobody asked for, again and again.
+func answerMore(f *fake) {
+	for f.isThere() {
+		f.write(kindResponse, message.AppendText(message.AppendNumber(nil, responseID, 1<<30), responseData, make([]byte, 1<<16)), false)
+		f.pause(time.Millisecond)
+	}
+}
+
+// pausing has a device pause before each answer.
+func pausing(pause time.Duration) func(*fake) {
+	return func(f *fake) { f.after = func(int) { f.pause(pause) } }
 }
 
 // With the usual limits a device has the time that real ones need, and no more than two days.
@@ -168,13 +215,18 @@ func TestWhenADeviceIsTooSlow(t *testing.T) {
 // Once a watch is ended, a device may be as slow as it is.
 func TestAWatchThatIsEnded(t *testing.T) {
 	connection := &Connection{limits: Limits{Grace: 20 * time.Millisecond, LeastSteps: 1, LeastBytes: 1}}
-	asked := make(chan bool, 1000)
-	end := connection.keepPace("records", time.Hour, func() gave { asked <- true; return gave{steps: 1 << 20} })
-	<-asked
+	var asked atomic.Int64
+	end := connection.keepPace("records", time.Hour, func() gave { asked.Add(1); return gave{steps: 1 << 20} })
+	for asked.Load() == 0 {
+		time.Sleep(time.Millisecond)
+	}
 	end()
-	time.Sleep(10 * time.Millisecond) // it may be asking for the last time
-	before := len(asked)
-	if time.Sleep(50 * time.Millisecond); len(asked) > before {
-		t.Errorf("it is watched %d times more", len(asked)-before)
+	until, before := time.Now().Add(10*time.Second), int64(0)
+	for asked.Load() > before { // it may be asking for the last time
+		if time.Now().After(until) {
+			t.Fatalf("it is watched still: %d times", before)
+		}
+		before = asked.Load()
+		time.Sleep(50 * time.Millisecond)
 	}
 }
