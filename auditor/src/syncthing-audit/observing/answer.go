@@ -46,17 +46,23 @@ func (o *observing) write() (map[string]string, error) {
 	return files, nil
 }
 
+// leavesOut gives what is left out of the answer: devices that failed on the way, too. What the next look is asked for stays as it is.
+func (o *observing) leavesOut() map[string]bool {
+	kinds := map[string]bool{part.Absent: len(o.failed) > 0}
+	for kind, is := range o.asked.LeaveOut {
+		kinds[kind] = kinds[kind] || is
+	}
+	return kinds
+}
+
 // answer joins what was seen of all devices, and tells the answer. A device that failed on the way is left out, which the answer says.
 func (o *observing) answer(program ask.Program, files map[string]string, output io.Writer) (int, error) {
-	read := commandline.Options{Folders: o.asked.Folders, Names: o.asked.Names, Strict: o.asked.Strict, LeaveOut: o.asked.LeaveOut, Lines: o.asked.Lines, JSON: o.asked.JSON, Jobs: o.asked.Jobs, Take: o.asked.Take, Script: o.asked.Script}
+	read := commandline.Options{Folders: o.asked.Folders, Names: o.asked.Names, Strict: o.asked.Strict, LeaveOut: o.leavesOut(), Lines: o.asked.Lines, JSON: o.asked.JSON, Jobs: o.asked.Jobs, Take: o.asked.Take, Script: o.asked.Script}
 	for path := range files {
 		read.Parts = append(read.Parts, path)
 	}
 	read.Parts = append(read.Parts, o.halves()...)
 	sort.Strings(read.Parts)
-	if len(o.failed) > 0 {
-		read.LeaveOut[part.Absent] = true
-	}
 	opened, err := inputs.Open(read)
 	if err != nil {
 		return 0, answering.Renamed(err, files)

@@ -12,8 +12,8 @@ import (
 	"syncthing-audit/wire"
 )
 
-// timeToAnnounce is how long a device's announcement is awaited: Syncthing makes one each 30 s.
-const timeToAnnounce = 45 * time.Second
+// timeToAnnounce is how long a device's announcement is awaited: Syncthing makes one each 30 s. Tests have less time.
+var timeToAnnounce = 45 * time.Second
 
 // discovering hears where devices are, once somebody asks for one.
 type discovering struct {
@@ -90,11 +90,10 @@ func isElsewhere(err error) bool {
 	return errors.Is(err, wire.Unreached) || errors.Is(err, wire.AnotherDevice) || errors.Is(err, wire.NotSyncthing)
 }
 
-// A busy device takes connections one after another, and may close one that was just made. So it is tried again, at most so often.
-const (
-	mostTries    = 3
-	pauseOfTries = 2 * time.Second
-)
+// mostTries is how often a busy device is tried: it takes connections one after another, and may close one that was just made.
+const mostTries = 3
+
+var pauseOfTries = 2 * time.Second
 
 // isBusy says whether an error may be that of a busy device.
 func isBusy(err error) bool {

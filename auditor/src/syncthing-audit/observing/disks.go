@@ -20,7 +20,7 @@ import (
 )
 
 // timeBetweenWaits is how often the observer looks whether a part of disks is there.
-const timeBetweenWaits = time.Second
+var timeBetweenWaits = time.Second
 
 // checkDisks refuses a file that is there before the first look: a walk before that look isn't what this run waits for.
 func checkDisks(o *commandline.Options) error {

@@ -13,7 +13,7 @@ import (
 )
 
 // timeToConnect is how long a device that connects by itself is awaited: Syncthing tries each 60 s.
-const timeToConnect = 3 * time.Minute
+var timeToConnect = 3 * time.Minute
 
 // listen begins to take connections that devices open, if that is asked for.
 func (o *observing) listen() error {

@@ -164,7 +164,7 @@ func lookOverWire(asked commandline.Options, observer *wire.Observer, program as
 		defer leftover.Remove(room)
 	}
 	observing := &observing{asked: asked, observer: observer, addresses: addresses, room: room, news: news, log: log, progress: terminal.ProgressOf(log)}
-	observing.discovering.port = discover.UsualPort
+	observing.discovering.port = portOfAnnouncements
 	if err := observing.listen(); err != nil {
 		return 0, err
 	}
@@ -187,6 +187,9 @@ func lookOverWire(asked commandline.Options, observer *wire.Observer, program as
 	}
 	return status, err
 }
+
+// portOfAnnouncements is where devices announce themselves. Tests have another one.
+var portOfAnnouncements = discover.UsualPort
 
 // errNothingSeen says that no device was looked at twice.
 var errNothingSeen = errors.New("refused: no device could be looked at")
