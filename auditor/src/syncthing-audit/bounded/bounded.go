@@ -8,6 +8,7 @@ import (
 	"io"
 	"os"
 	"os/exec"
+	"sync/atomic"
 	"syscall"
 	"time"
 )
@@ -34,16 +35,17 @@ const secondsOfGrace = 5
 type running struct {
 	command *exec.Cmd
 	limits  Limits
-	pipes   []*os.File    // from which its output is read
-	beats   chan struct{} // one for bytes that came
-	flows   chan error    // one for each pipe that is at its end
-	failed  error         // why it is ended
+	pipes   []*os.File // from which its output is read
+	began   time.Time
+	heard   atomic.Int64 // how long after that a byte came last, in nanoseconds
+	flows   chan error   // one for each pipe that is at its end
+	failed  error        // why it is ended
 }
 
 // Run runs a command, has what it writes go to a writer, and gives what it says on standard error. The command has ended when Run has, and
 // so has all that reads from it, even if children of the command still hold its output open.
 func Run(command *exec.Cmd, output io.Writer, limits Limits) (string, error) {
-	run := &running{command: command, limits: limits, beats: make(chan struct{}, 1), flows: make(chan error, 2)}
+	run := &running{command: command, limits: limits, began: time.Now(), flows: make(chan error)}
 	var told bytes.Buffer
 	if err := run.start(output, &told); err != nil {
 		return "", err
@@ -72,8 +74,8 @@ func (r *running) start(output, told io.Writer) error {
 		closeAll(r.pipes)
 		return err
 	}
-	go r.flow(r.pipes[0], &sink{to: output, whole: r.limits.Output, left: r.limits.Output, called: "output"})
-	go r.flow(r.pipes[1], &sink{to: told, whole: r.limits.Told, left: r.limits.Told, called: "standard error", step: r.limits.Step})
+	go r.flow(r.pipes[0], &sink{to: output, whole: r.limits.Output, left: r.limits.Output, called: "output", hear: r.hear})
+	go r.flow(r.pipes[1], &sink{to: told, whole: r.limits.Told, left: r.limits.Told, called: "standard error", hear: r.hear, step: r.limits.Step})
 	return nil
 }
 
@@ -88,6 +90,7 @@ type sink struct {
 	to          io.Writer
 	left, whole int64 // bytes that may come
 	called      string
+	hear        func()                 // is called whenever bytes come
 	step        func(line string) bool // nothing where no line is looked at
 	line        []byte                 // the beginning of one that isn't whole yet
 }
@@ -95,7 +98,12 @@ type sink struct {
 // mostOfStep is how many bytes of a line wait at most for its end: one that tells how far a command is has less.
 const mostOfStep = 256
 
-// take takes bytes as they come.
+// Write takes bytes as they come.
+func (s *sink) Write(data []byte) (int, error) {
+	s.hear()
+	return len(data), s.take(data)
+}
+
 func (s *sink) take(data []byte) error {
 	if s.step == nil {
 		return s.keep(data)
@@ -133,32 +141,16 @@ func (s *sink) keep(data []byte) error {
 	return err
 }
 
+// hear notes that something came.
+func (r *running) hear() { r.heard.Store(int64(time.Since(r.began))) }
+
 // flow takes what comes out of a pipe.
 func (r *running) flow(from *os.File, to *sink) {
-	buffer := make([]byte, 1<<16)
-	for {
-		count, err := from.Read(buffer)
-		if count > 0 {
-			select {
-			case r.beats <- struct{}{}:
-			default:
-			}
-			if err := to.take(buffer[:count]); err != nil {
-				r.flows <- err
-				return
-			}
-		}
-		if err == io.EOF {
-			err = nil
-		}
-		if err == nil && count == 0 {
-			err = to.end()
-		}
-		if err != nil || count == 0 {
-			r.flows <- err
-			return
-		}
+	_, err := io.Copy(to, from)
+	if err == nil {
+		err = to.end()
 	}
+	r.flows <- err
 }
 
 // await waits for the end of the command and of its output, and ends it where a limit is passed. It gives how the command ended.
@@ -170,7 +162,6 @@ func (r *running) await() error {
 	defer silence.Stop()
 	defer whole.Stop()
 	var ended error
-	last := time.Now()
 	for left := 1 + len(r.pipes); left > 0; {
 		select {
 		case ended = <-waited:
@@ -178,10 +169,8 @@ func (r *running) await() error {
 		case err := <-r.flows:
 			left--
 			r.stop(err)
-		case <-r.beats:
-			last = time.Now()
 		case <-silence.C:
-			if rest := r.limits.Silence - time.Since(last); rest > 0 {
+			if rest := r.limits.Silence - time.Since(r.began) + time.Duration(r.heard.Load()); rest > 0 {
 				silence.Reset(rest)
 			} else {
 				r.stop(&Passed{fmt.Sprintf("wrote nothing for %v", r.limits.Silence)})

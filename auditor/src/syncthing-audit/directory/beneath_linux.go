@@ -3,6 +3,7 @@ package directory
 import (
 	"errors"
 	"fmt"
+	"io"
 	"os"
 	"path/filepath"
 	"strings"
@@ -29,8 +30,14 @@ func insideOf(root string) inside { return NewBeneath(root) }
 // NewBeneath gives what opens directories below the one at a path.
 func NewBeneath(path string) *Beneath { return &Beneath{path: path} }
 
+// What the kernel has, which another one may lack.
+var (
+	descriptors = "/proc/self/fd"
+	openat2     = unix.Openat2
+)
+
 // Proc gives the path of an open file, by which the kernel goes to the very same one.
-func Proc(file *os.File) string { return fmt.Sprintf("/proc/self/fd/%d", file.Fd()) }
+func Proc(file *os.File) string { return fmt.Sprintf("%s/%d", descriptors, file.Fd()) }
 
 // Within does something in a directory while that is open. An error that names a path by which the kernel went names this one.
 func (b *Beneath) Within(name, what, of string, do func(opened *os.File) error) error {
@@ -56,10 +63,9 @@ func (b *Beneath) Above(name, what string, do func(opened *os.File, base string)
 // DirNames gives the names in a directory.
 func (b *Beneath) DirNames(name string) (names []string, err error) {
 	err = b.Within(name, "readdirent", name, func(opened *os.File) error {
-		if _, err := opened.Seek(0, 0); err != nil {
-			return err
+		if _, err = opened.Seek(0, io.SeekStart); err == nil {
+			names, err = opened.Readdirnames(0)
 		}
-		names, err = opened.Readdirnames(-1)
 		return err
 	})
 	return names, err
@@ -70,9 +76,9 @@ func (b *Beneath) About(name string) (about os.FileInfo, err error) {
 	err = b.Above(name, "lstat", func(opened *os.File, base string) error {
 		if base == "." {
 			about, err = opened.Stat()
-			return err
+		} else {
+			about, err = os.Lstat(filepath.Join(Proc(opened), base))
 		}
-		about, err = os.Lstat(filepath.Join(Proc(opened), base))
 		return err
 	})
 	return about, err
@@ -128,17 +134,18 @@ func (b *Beneath) openRoot() error {
 func (b *Beneath) open(name string) (*os.File, error) {
 	how := unix.OpenHow{Flags: unix.O_RDONLY | unix.O_DIRECTORY | unix.O_CLOEXEC, Resolve: unix.RESOLVE_BENEATH | unix.RESOLVE_NO_SYMLINKS}
 	if !b.lacks {
-		number, err := unix.Openat2(int(b.root.Fd()), name, &how)
-		for errors.Is(err, unix.EAGAIN) || errors.Is(err, unix.EINTR) { // something was renamed meanwhile
-			number, err = unix.Openat2(int(b.root.Fd()), name, &how)
+		number, err := openat2(int(b.root.Fd()), name, &how)
+		for err == unix.EAGAIN || err == unix.EINTR { // something was renamed meanwhile
+			number, err = openat2(int(b.root.Fd()), name, &how)
 		}
-		if err == nil {
+		switch err {
+		case nil:
 			return os.NewFile(uintptr(number), name), nil
-		}
-		if !errors.Is(err, unix.ENOSYS) && !errors.Is(err, unix.EPERM) {
+		case unix.ENOSYS, unix.EPERM:
+			b.lacks = true
+		default:
 			return nil, err
 		}
-		b.lacks = true
 	}
 	return b.openStepwise(name)
 }

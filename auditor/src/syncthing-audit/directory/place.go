@@ -12,9 +12,12 @@ func placeOf(told string) string {
 	return hex.EncodeToString(sum[:])
 }
 
+// machineID is the file in which a machine says what it is told apart by.
+var machineID = "/etc/machine-id"
+
 // machine gives what the machine is told apart by.
 func machine() string {
-	if id, err := os.ReadFile("/etc/machine-id"); err == nil && len(id) > 1 {
+	if id, err := os.ReadFile(machineID); err == nil && len(id) > 1 {
 		return string(id)
 	}
 	name, _ := os.Hostname()

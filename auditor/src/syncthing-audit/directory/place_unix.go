@@ -14,9 +14,6 @@ func Place(path string) (string, error) {
 	if err != nil {
 		return "", err
 	}
-	said, is := info.Sys().(*syscall.Stat_t)
-	if !is {
-		return "", fmt.Errorf("%s: the system doesn't tell its directory's number", path)
-	}
+	said := info.Sys().(*syscall.Stat_t)
 	return placeOf(fmt.Sprintf("%d %d", said.Dev, said.Ino)), nil
 }
