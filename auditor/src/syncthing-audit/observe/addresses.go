@@ -87,13 +87,5 @@ func (a *Addresses) Keep() error {
 	if err != nil {
 		return err
 	}
-	file, err := leftover.NewWhole(filepath.Dir(a.path))
-	if err != nil {
-		return err
-	}
-	defer file.Drop()
-	if _, err = file.Write(append(text, '\n')); err != nil {
-		return err
-	}
-	return file.Put(a.path)
+	return leftover.Write(a.path, append(text, '\n'))
 }

@@ -98,15 +98,7 @@ func putKey(from, path string) error {
 	if err != nil {
 		return err
 	}
-	file, err := leftover.NewWhole(filepath.Dir(path))
-	if err != nil {
-		return err
-	}
-	defer file.Drop()
-	if _, err := file.Write(secret); err != nil {
-		return err
-	}
-	return file.PutNew(path)
+	return leftover.WriteNew(path, secret)
 }
 
 // lineOf gives the line of allowed_signers for a device's public key.

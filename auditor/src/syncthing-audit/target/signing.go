@@ -3,7 +3,6 @@ package target
 import (
 	"io"
 	"os"
-	"path/filepath"
 
 	"github.com/syncthing/syncthing/lib/config"
 	"syncthing-audit/commandline"
@@ -89,19 +88,6 @@ func (s *signing) sign(written *os.File) (func() error, error) {
 		if err := checkSignaturePlace(s.path); err != nil {
 			return err
 		}
-		return fault.Of(fault.NamedAs(s.path, writeWholeFile(s.path, text)))
+		return fault.Of(fault.NamedAs(s.path, leftover.Write(s.path, text)))
 	}, nil
-}
-
-// writeWholeFile writes a file that is there whole or not at all.
-func writeWholeFile(path string, text []byte) error {
-	file, err := leftover.NewWhole(filepath.Dir(path))
-	if err != nil {
-		return err
-	}
-	defer file.Drop()
-	if _, err := file.Write(text); err != nil {
-		return err
-	}
-	return file.Put(path)
 }

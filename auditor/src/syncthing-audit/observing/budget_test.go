@@ -1,0 +1,66 @@
+package observing
+
+import (
+	"path/filepath"
+	"strings"
+	"testing"
+
+	"syncthing-audit/exit"
+	"syncthing-audit/fixture/stranger"
+)
+
+// asksFor takes of which files the devices were asked for bytes since it was called last, and in which look.
+func (w *world) asksFor() string {
+	names := map[string]bool{}
+	for _, device := range w.devices {
+		device.Change(func(state *stranger.State) {
+			for place := range state.Asked {
+				names[strings.TrimPrefix(place, "docs/")] = true
+			}
+			state.Asked = map[string]int{}
+		})
+	}
+	told := []string{}
+	for _, name := range []string{"a", "b", "c"} {
+		if names[name] {
+			told = append(told, name)
+		}
+	}
+	return strings.Join(told, " ")
+}
+
+// With a budget the looks ask for files by turns. What waits is told of each device, by a history in the observer's home; a person is told it alone.
+func TestLooksByTurns(t *testing.T) {
+	here := newWorld(t, 2, map[string]string{"a": strings.Repeat("a", 1000), "b": strings.Repeat("b", 1000), "c": strings.Repeat("c", 1000)})
+	here.asked.Budget = 2000 // of both devices together
+	for place, due := range []string{"a", "b", "c", "a"} {
+		words := []string{"not read this time: docs on device a (", "not read this time: docs on device b ("}
+		if place < 2 {
+			words = append(words, "never yet")
+		}
+		here.expect(due, exit.Partial, words...)
+		if found := here.asksFor(); found != due {
+			t.Errorf("look %d asks for %q, not %q", place, found, due)
+		}
+	}
+	if told := here.expect("what waits longest", exit.Partial); strings.Contains(told, "never yet") || !strings.Contains(told, "the one that waits longest was read ") {
+		t.Error(told)
+	}
+	here.asked.Lines = true
+	if told := here.expect("lines", exit.Partial); strings.Contains(told, "not read this time") {
+		t.Error(told)
+	}
+	here.asked.Lines, here.asked.JSON = false, true
+	if told := here.expect("JSON", exit.Partial, `"not_read_yet":[{"folder":"docs"`); strings.Contains(told, "not read this time") {
+		t.Error(told)
+	}
+	here.asked.JSON, here.asked.Budget = false, 1<<20
+	if told := here.expect("all", exit.Partial, "all files were read this time"); strings.Contains(told, "not read this time") {
+		t.Error(told)
+	}
+	here.devices[1].Change(func(state *stranger.State) { state.Hidden["docs"] = true })
+	here.asked.Budget = 1000
+	here.expect("a device that isn't looked at", exit.Partial, "not read this time: docs on device a (")
+	here.asked.History = filepath.Join(here.asked.Homes[0], "cert.pem")
+	here.expect("a history that is none", exit.Refused, "cert.pem")
+}
