@@ -60,11 +60,12 @@ func run(words []string, output, log io.Writer) int {
 		err = &diskhalf.Usage{Reason: "-o FILE is missing: where the part goes"}
 	}
 	switch {
-	case errors.Is(err, flag.ErrHelp):
+	case err == flag.ErrHelp:
 		outside.Print(output, usage)
 		return statusDone
 	case err != nil:
-		outside.Printf(log, "syncthing-audit-disk: %v\n%s", err, usage)
+		outside.Printf(log, "syncthing-audit-disk: %v\n", err)
+		outside.Print(log, usage)
 		return statusUsage
 	}
 	return write(asked, log)
@@ -113,18 +114,27 @@ func put(path string, write func(io.Writer) error) (bool, error) {
 	faults := &faulting{to: file}
 	err = write(faults)
 	if err == nil { // else a machine that goes down may have a part of it in the file's place
-		if synced := file.Sync(); synced != nil && !errors.Is(synced, syscall.EINVAL) && !errors.Is(synced, syscall.ENOTSUP) {
-			file.Close()
-			return true, synced
-		}
+		err = faults.note(synced(file))
 	}
-	if closed := file.Close(); err == nil && closed != nil {
-		return true, closed
+	if closed := file.Close(); err == nil {
+		err = faults.note(closed)
 	}
-	if err != nil {
-		return faults.failed, err
+	if err == nil {
+		err = faults.note(os.Rename(file.Name(), path))
 	}
-	return true, os.Rename(file.Name(), path)
+	return faults.failed, err
+}
+
+// sync has the system write a file to its disk.
+var sync = (*os.File).Sync
+
+// synced does so, where the file's system can.
+func synced(file *os.File) error {
+	err := sync(file)
+	if errors.Is(err, syscall.EINVAL) || errors.Is(err, syscall.ENOTSUP) {
+		return nil
+	}
+	return err
 }
 
 // faulting notes whether what is written can't be.
@@ -135,28 +145,34 @@ type faulting struct {
 
 func (f *faulting) Write(data []byte) (int, error) {
 	count, err := f.to.Write(data)
+	return count, f.note(err)
+}
+
+// note notes an error of the file.
+func (f *faulting) note(err error) error {
 	f.failed = f.failed || err != nil
-	return count, err
+	return err
 }
 
 // timeBetween is how often progress is told.
-const timeBetween = 30 * time.Second
+var timeBetween = 30 * time.Second
 
 // tellProgress says now and then how much was hashed. What it gives ends that.
 func tellProgress(pool *disk.Pool, log io.Writer) func() {
-	ticks, stopped := time.NewTicker(timeBetween), make(chan struct{})
+	stopped, ended := make(chan struct{}), make(chan struct{})
 	go func() {
+		defer close(ended)
 		for {
 			select {
 			case <-stopped:
 				return
-			case <-ticks.C:
+			case <-time.After(timeBetween):
 				outside.Printf(log, "syncthing-audit-disk: hashed %.1f GB\n", float64(pool.Hashed())/1e9)
 			}
 		}
 	}()
 	return func() {
-		ticks.Stop()
 		close(stopped)
+		<-ended // before anybody takes the log
 	}
 }
