@@ -156,11 +156,9 @@ func (r *running) flow(from *os.File, to *sink) {
 // await waits for the end of the command and of its output, and ends it where a limit is passed. It gives how the command ended.
 func (r *running) await() error {
 	defer closeAll(r.pipes)
-	waited := make(chan error, 1)
+	waited := make(chan error)
 	go func() { waited <- r.command.Wait() }()
-	silence, whole := time.NewTimer(r.limits.Silence), time.NewTimer(r.limits.Whole)
-	defer silence.Stop()
-	defer whole.Stop()
+	silence, whole := time.NewTimer(r.limits.Silence), time.After(r.limits.Whole)
 	var ended error
 	for left := 1 + len(r.pipes); left > 0; {
 		select {
@@ -175,7 +173,7 @@ func (r *running) await() error {
 			} else {
 				r.stop(&Passed{fmt.Sprintf("wrote nothing for %v", r.limits.Silence)})
 			}
-		case <-whole.C:
+		case <-whole:
 			r.stop(&Passed{fmt.Sprintf("wasn't done after %v", r.limits.Whole)})
 		}
 	}

@@ -73,7 +73,7 @@ func TestWantOfDescriptors(t *testing.T) {
 		t.Fatal(err)
 	}
 	refused, before := 0, fixture.CountOpened(t, fixture.Any)
-	for most := uint64(before); ; most++ {
+	for most := uint64(3); ; most++ {
 		if err := syscall.Setrlimit(syscall.RLIMIT_NOFILE, &syscall.Rlimit{Cur: most, Max: limit.Max}); err != nil {
 			t.Fatal(err)
 		}

@@ -2,7 +2,6 @@ package commandline
 
 import (
 	"errors"
-	"math"
 	"regexp"
 	"strconv"
 	"time"
@@ -21,11 +20,8 @@ func (b bytesOf) Set(value string) error {
 	if found == nil {
 		return errors.New("it is a number with kB, MB, GB or TB, as 20GB")
 	}
-	number, err := strconv.ParseFloat(found[1], 64)
-	if err != nil {
-		return err
-	}
-	if number *= map[string]float64{"kB": 1e3, "MB": 1e6, "GB": 1e9, "TB": 1e12}[found[2]]; number < 1 || number > math.MaxInt64/2 {
+	number, _ := strconv.ParseFloat(found[1], 64) // its form is that of a number
+	if number *= map[string]float64{"kB": 1e3, "MB": 1e6, "GB": 1e9, "TB": 1e12}[found[2]]; number == 0 || number > 4e18 {
 		return errors.New("it is at least one byte, and at most 4000000TB")
 	}
 	b.read.Budget = int64(number)
@@ -48,10 +44,7 @@ func (e everyOf) Set(value string) error {
 	if found == nil {
 		return errors.New("it is a number with s, m, h, d or w, as 1d")
 	}
-	number, err := strconv.Atoi(found[1])
-	if err != nil {
-		return err
-	}
+	number, _ := strconv.Atoi(found[1]) // its form is that of a number
 	day := 24 * time.Hour
 	unit := map[string]time.Duration{"s": time.Second, "m": time.Minute, "h": time.Hour, "d": day, "w": 7 * day}[found[2]]
 	if number == 0 || time.Duration(number) > 366*day/unit {

@@ -66,7 +66,7 @@ func (w *WantsHelp) Error() string { return "help" }
 
 // HelpOf gives the help of a command: how it is called, what it does, and its flags alone.
 func HelpOf(command string) string {
-	texts := strings.SplitN(Usage, "\n\n", 5)
+	texts := strings.Split(Usage, "\n\n")
 	calls := strings.Join(linesThat(texts[0], func(line string) bool {
 		return strings.HasPrefix(line[len("usage: "):], "syncthing-audit "+command+" ")
 	}), "\n")
@@ -87,7 +87,7 @@ func linesThat(text string, is func(line string) bool) []string {
 
 // blocksOf gives the lines of a list whose first word is chosen, with those that go on with them, which are indented deeper.
 func blocksOf(text string, is func(word string) bool) []string {
-	isIn := false
+	var isIn bool
 	return linesThat(text, func(line string) bool {
 		if !strings.HasPrefix(line, "   ") {
 			isIn = is(strings.Fields(line)[0])

@@ -2,7 +2,6 @@
 package commandline
 
 import (
-	"errors"
 	"flag"
 	"io"
 	"os"
@@ -93,7 +92,6 @@ func Read(name string, words []string, flagsOf func(*flag.FlagSet, *Options)) (O
 	read := Options{LeaveOut: map[string]bool{}, Data: map[int]string{}, Maps: map[int]device.Maps{}, Disks: map[int]string{}}
 	flags := flag.NewFlagSet(name, flag.ContinueOnError)
 	flags.SetOutput(io.Discard)
-	flags.Usage = func() {}
 	flags.Var((*List)(&read.Homes), "home", "")
 	flags.Var((*List)(&read.Folders), "folder", "")
 	flags.StringVar(&read.Names.Prefix, "names", "", "")
@@ -101,7 +99,7 @@ func Read(name string, words []string, flagsOf func(*flag.FlagSet, *Options)) (O
 	flags.IntVar(&read.Jobs, "jobs", runtime.NumCPU(), "")
 	flagsOf(flags, &read)
 	for {
-		if err := flags.Parse(words); errors.Is(err, flag.ErrHelp) {
+		if err := flags.Parse(words); err == flag.ErrHelp {
 			return Options{}, &WantsHelp{name}
 		} else if err != nil {
 			return Options{}, WrongFlag(name, err)

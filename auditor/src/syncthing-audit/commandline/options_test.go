@@ -23,6 +23,7 @@ import (
 // allFlags has the flags of several commands.
 func allFlags(flags *flag.FlagSet, read *Options) {
 	InputFlags(flags, read)
+	flags.StringVar(&read.Output, "o", "", "")
 	StillFlag(flags, read)
 	ProgramFlag(flags, read)
 	ObserverFlag(flags, read)
@@ -85,6 +86,7 @@ func TestWrongWords(t *testing.T) {
 		"check --data x":            `invalid value "x" for flag --data: it stands behind the --home whose database is there`,
 		"check --home=":             `invalid value "" for flag --home: empty`,
 		"check --allowed-signers=":  `invalid value "" for flag --allowed-signers: empty`,
+		"check -o x":                "check has no flag -o",
 		"check --leave-out odd":     `invalid value "odd" for flag --leave-out: "odd" is none of ` + strings.Join(part.Kinds, ", "),
 	} {
 		command := strings.Fields(words)
@@ -94,12 +96,52 @@ func TestWrongWords(t *testing.T) {
 			t.Errorf("%s: %v, not %s", words, err, told)
 		}
 	}
+	if read, err := Read("part", []string{"-o", "x"}, allFlags); err != nil || read.Output != "x" {
+		t.Errorf("%q, %v", read.Output, err)
+	}
 	for _, word := range []string{"--help", "-h", "-help"} {
 		_, err := Read("check", []string{"x", word}, allFlags)
 		var wants *WantsHelp
 		if !errors.As(err, &wants) || wants.Command != "check" || err.Error() != "help" {
 			t.Errorf("%s: %v", word, err)
 		}
+	}
+}
+
+// Nothing is told by what reads the words: whoever calls it does.
+func TestWordsAreReadInSilence(t *testing.T) {
+	had := os.Stderr
+	defer func() { os.Stderr = had }()
+	file, err := os.Create(filepath.Join(t.TempDir(), "told"))
+	if err != nil {
+		t.Fatal(err)
+	}
+	defer file.Close()
+	os.Stderr = file
+	Read("check", []string{"--odd"}, allFlags)
+	Read("check", []string{"--help"}, allFlags)
+	if told, err := os.ReadFile(file.Name()); err != nil || len(told) > 0 {
+		t.Errorf("%s, %v", told, err)
+	}
+}
+
+// What an observer is asked for stands in its flags, and bytes are read of homes.
+func TestFlagsOfSomeCommands(t *testing.T) {
+	path := func(name, text string) string {
+		path := filepath.Join(t.TempDir(), name)
+		if err := os.WriteFile(path, []byte(text), 0o600); err != nil {
+			t.Fatal(err)
+		}
+		return path
+	}
+	device := protocol.DeviceID{1: 1}
+	words := []string{"x", "--budget", "20GB", "--every", "1d", "--passwords", path("passwords", "docs secret\n"), "--rest", path("apis", device.String()+" http://localhost:1 KEY\n")}
+	read, err := Read("observe", words, ObserveFlags)
+	if err != nil || read.Budget != 20e9 || read.Every != 24*time.Hour || read.Passwords["docs"] != "secret" || read.APIs[device] == nil || read.APIs[device].Key != "KEY" {
+		t.Errorf("%+v, %v", read, err)
+	}
+	if read, err := Read("check", []string{"--home", "x", "--bytes"}, allFlags); err != nil || !read.Bytes {
+		t.Errorf("%+v, %v", read, err)
 	}
 }
 
@@ -147,15 +189,15 @@ func TestKinds(t *testing.T) {
 
 // Homes and parts that don't go together are refused, and those that do aren't.
 func TestInputs(t *testing.T) {
-	home, one := []string{"a"}, []string{"b"}
+	home, part := []string{"a"}, []string{"b"}
 	for _, row := range []struct {
 		given Options
 		told  string
 	}{
 		{Options{}, "no home and no part is given"},
-		{Options{Homes: home}, ""}, {Options{Parts: one}, ""}, {Options{Homes: home, Parts: one}, ""},
-		{Options{Homes: home, Bytes: true}, ""}, {Options{Parts: one, Signers: "s"}, ""}, {Options{Homes: home, Parts: one, Signers: "s"}, ""},
-		{Options{Homes: home, Parts: one, Bytes: true}, "--bytes reads homes; parts have no bytes"},
+		{Options{Homes: home}, ""}, {Options{Parts: part}, ""}, {Options{Homes: home, Parts: part}, ""},
+		{Options{Homes: home, Bytes: true}, ""}, {Options{Parts: part, Signers: "s"}, ""}, {Options{Homes: home, Parts: part, Signers: "s"}, ""},
+		{Options{Homes: home, Parts: part, Bytes: true}, "--bytes reads homes; parts have no bytes"},
 		{Options{Homes: home, Signers: "s"}, "--allowed-signers is for parts: a home has no signature"},
 	} {
 		if err := row.given.CheckInputs(); (err == nil) != (row.told == "") || err != nil && err.Error() != row.told {
@@ -180,11 +222,11 @@ func TestObservers(t *testing.T) {
 	if err := os.Mkdir(filepath.Dir(home), 0o700); err != nil {
 		t.Fatal(err)
 	}
-	made, err := wire.Create(home)
+	observer, err := wire.Create(home)
 	if err != nil {
 		t.Fatal(err)
 	}
-	if known := read.KnownObservers(); !reflect.DeepEqual(known, []string{named, made.ID.String()}) || len(read.Observers) != 1 {
+	if known := read.KnownObservers(); !reflect.DeepEqual(known, []string{named, observer.ID.String()}) || len(read.Observers) != 1 {
 		t.Errorf("%v", known)
 	}
 	for _, word := range []string{"", "x", named[1:]} {

@@ -11,7 +11,7 @@ import (
 // Passwords are read from a file that nobody else reads, each to its line's end; what is no such file is refused.
 func TestPasswords(t *testing.T) {
 	path := filepath.Join(t.TempDir(), "passwords")
-	for _, one := range []struct {
+	for _, row := range []struct {
 		text string
 		mode os.FileMode
 		told string
@@ -23,16 +23,16 @@ func TestPasswords(t *testing.T) {
 		{"docs x\nphotos y\ndocs z\n", 0o600, "line 3 has the password of folder \"docs\" once more", nil},
 	} {
 		os.Remove(path)
-		if err := os.WriteFile(path, []byte(one.text), 0o600); err != nil {
+		if err := os.WriteFile(path, []byte(row.text), 0o600); err != nil {
 			t.Fatal(err)
 		}
-		if err := os.Chmod(path, one.mode); err != nil {
+		if err := os.Chmod(path, row.mode); err != nil {
 			t.Fatal(err)
 		}
 		read := &Options{}
 		err := (passwordsOf{read}).Set(path)
-		if (err == nil) != (one.told == "") || err != nil && !strings.Contains(err.Error(), one.told) || err == nil && !reflect.DeepEqual(read.Passwords, one.read) {
-			t.Errorf("%q: %v, %v", one.text, read.Passwords, err)
+		if (err == nil) != (row.told == "") || err != nil && !strings.Contains(err.Error(), row.told) || err == nil && !reflect.DeepEqual(read.Passwords, row.read) {
+			t.Errorf("%q: %v, %v", row.text, read.Passwords, err)
 		}
 	}
 	if err := (passwordsOf{&Options{}}).Set(filepath.Join(t.TempDir(), "none")); err == nil {
