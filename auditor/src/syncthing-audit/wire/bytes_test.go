@@ -44,7 +44,7 @@ func look(t *testing.T, recorded map[string]string, change func(*fake)) (map[str
 	if err != nil {
 		t.Fatal(err)
 	}
-	defer connection.Close()
+	defer func() { connection.Close(); <-device.over }()
 	index, err := connection.Folders[0].Index(context.Background())
 	if err != nil {
 		t.Fatal(err)

@@ -87,7 +87,8 @@ type fake struct {
 	rescans  []string // names that were asked for with a recorded hash
 	requests int
 	heard    []kind
-	isOver   bool // the connection is ended
+	isOver   bool          // the connection is ended
+	over     chan struct{} // closed once the script is over
 }
 
 // newFake makes a device that runs a script on the first connection.
@@ -101,21 +102,27 @@ func newFake(t *testing.T, script func(*fake)) *fake {
 	if err != nil {
 		t.Fatal(err)
 	}
-	device := &fake{id: protocol.NewDeviceID(certificate.Certificate[0]), certificate: certificate, listener: listener, script: script, slower: 1}
-	done := make(chan struct{})
+	device := &fake{id: protocol.NewDeviceID(certificate.Certificate[0]), certificate: certificate, listener: listener, script: script, slower: 1, over: make(chan struct{})}
 	go func() {
-		defer close(done)
+		defer close(device.over)
 		raw, err := listener.Accept()
 		if err != nil {
 			return
 		}
 		defer raw.Close()
+		device.settle()
 		device.stream = tls.Server(raw, &tls.Config{Certificates: []tls.Certificate{certificate}, ClientAuth: tls.RequireAnyClientCert,
 			NextProtos: []string{"bep/1.0"}, InsecureSkipVerify: true})
 		device.script(device)
 	}()
-	t.Cleanup(func() { listener.Close(); <-done })
+	t.Cleanup(func() { listener.Close(); <-device.over })
 	return device
+}
+
+// settle has all that a test did with the device before it calls this be done for whoever calls it later: Go knows of no connection in between.
+func (f *fake) settle() {
+	f.mutex.Lock()
+	defer f.mutex.Unlock()
 }
 
 // hello exchanges Hellos.

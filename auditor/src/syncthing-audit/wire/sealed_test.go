@@ -102,6 +102,7 @@ func (v *vault) open(passwords map[string]string) (*Connection, *Observer, *fake
 		f.serve()
 	})
 	device.disk = v.disk
+	device.settle()
 	limits := short()
 	limits.Message = 16 << 20
 	connection, err := observer.Dial(context.Background(), device.listener.Addr().String(), device.id, Look{Folders: []string{"docs"}, Passwords: passwords}, limits)
@@ -175,6 +176,7 @@ func TestSealedFolder(t *testing.T) {
 			t.Errorf("%s: %q", name, outs[name])
 		}
 	}
+	device.settle()
 	if len(outs) != 4 || !recordIn(t, index, "invalid").Invalid || len(device.rescans) > 0 {
 		t.Errorf("%v, %v", outs, device.rescans)
 	}
