@@ -3,7 +3,7 @@ package shell
 import "testing"
 
 func TestQuoted(t *testing.T) {
-	for name, quoted := range map[string]string{"a/b-c.txt": "a/b-c.txt", "-rf": "'-rf'", "it's": `'it'\''s'`, "über": "'über'", `a\b'`: `'a'\\'b'\'`, "a^b": "'a^b'", "%self": "'%self'", "a\nb": `'[not-for-typing:a\x0ab]'`,
+	for name, quoted := range map[string]string{"a/b-c.txt": "a/b-c.txt", "-rf": "'-rf'", "it's": `'it'\''s'`, "über": "'über'", `a\b'`: `'a'\\'b'\'`, `'\`: `\'\\`, "a^b": "'a^b'", "%self": "'%self'", "a\nb": `'[not-for-typing:a\x0ab]'`,
 		"odd\xff'": `'[not-for-typing:odd\xff\x27]'`, "~": "'~'", "$HOME": "'$HOME'", "": "''", "\u202e": `'[not-for-typing:\xe2\x80\xae]'`} {
 		if Quoted(name) != quoted {
 			t.Errorf("%q is quoted as %s, not %s", name, Quoted(name), quoted)
@@ -27,15 +27,18 @@ func TestPath(t *testing.T) {
 
 func TestWords(t *testing.T) {
 	for text, word := range map[string]string{"--home": "--home", "-": "-", "a b": "'a b'", "--a b": "'--a b'", "": "''", "$x": "'$x'"} {
-		if made := Word(text); made != word {
-			t.Errorf("%q: %s, not %s", text, made, word)
+		if told := Word(text); told != word {
+			t.Errorf("%q: %s, not %s", text, told, word)
 		}
+	}
+	if told := Words([]string{"--home", "a b", "-x y"}); told != "--home 'a b' '-x y'" {
+		t.Error(told)
 	}
 }
 
 // A word for a shell alone is as typed where that can be.
 func TestExactWords(t *testing.T) {
-	if made := ExactWords([]string{"--home", "a\n'b", "it's", "c"}); made != "--home 'a\n'\\''b' 'it'\\''s' c" {
-		t.Errorf("%q", made)
+	if told := ExactWords([]string{"--home", "a\n'b", "it's", "c"}); told != "--home 'a\n'\\''b' 'it'\\''s' c" {
+		t.Errorf("%q", told)
 	}
 }

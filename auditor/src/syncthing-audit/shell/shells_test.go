@@ -24,8 +24,8 @@ var hostilePieces = []string{"'", "''", `\`, `\\`, `\'`, `'\''`, "\"", "\n", "\r
 // oddNames gives names as another device may have them: of such pieces, and of bytes as they come.
 func oddNames(count int) []string {
 	random := rand.New(rand.NewSource(1))
-	made := append([]string{}, hostilePieces...)
-	for len(made) < count {
+	names := append([]string{}, hostilePieces...)
+	for len(names) < count {
 		var name strings.Builder
 		for pieces := 1 + random.Intn(6); pieces > 0; pieces-- {
 			if random.Intn(4) == 0 {
@@ -34,18 +34,18 @@ func oddNames(count int) []string {
 				name.WriteString(hostilePieces[random.Intn(len(hostilePieces))])
 			}
 		}
-		made = append(made, name.String())
+		names = append(names, name.String())
 	}
-	return made
+	return names
 }
 
 // inBatches has a shell print words, hundreds at once, and gives what each of them was to it.
 func inBatches(t *testing.T, shell, words, locale []string) []string {
-	const batch = 3000
+	const most = 3000
 	path := filepath.Join(t.TempDir(), "script")
-	made := []string{}
+	read := []string{}
 	for len(words) > 0 {
-		count := batch
+		count := most
 		if count > len(words) {
 			count = len(words)
 		}
@@ -57,13 +57,13 @@ func inBatches(t *testing.T, shell, words, locale []string) []string {
 		var told bytes.Buffer
 		command.Dir, command.Stderr, command.Env = t.TempDir(), &told, append(append(os.Environ(), "HOME="+t.TempDir()), locale...)
 		output, err := command.Output()
-		read := strings.Split(string(output), "\x00")
-		if err != nil || told.Len() > 0 || len(read) != count+2 || read[count] != "end" {
-			t.Fatalf("%v: of %d words %d were read: %v: %.300s", shell, count, len(read)-2, err, told.String())
+		batch := strings.Split(string(output), "\x00")
+		if err != nil || told.Len() > 0 || len(batch) != count+2 || batch[count] != "end" {
+			t.Fatalf("%v: of %d words %d were read: %v: %.300s", shell, count, len(batch)-2, err, told.String())
 		}
-		made, words = append(made, read[:count]...), words[count:]
+		read, words = append(read, batch[:count]...), words[count:]
 	}
-	return made
+	return read
 }
 
 // eachShell does something with each shell that is installed, in two locales.
@@ -142,7 +142,7 @@ func TestWordsOfOddNames(t *testing.T) {
 			t.Errorf("%q and %q have one word: %s", name, other, word)
 		}
 		had[word] = name
-		if !CanBeTyped(word) || !utf8.ValidString(word) {
+		if !CanBeTyped(word) || !utf8.ValidString(word) || HasOneForReading(word) == CanBeTyped(name) {
 			t.Errorf("%q has the word %q", name, word)
 		}
 	}
