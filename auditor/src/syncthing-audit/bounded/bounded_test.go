@@ -5,6 +5,7 @@ import (
 	"io"
 	"os"
 	"os/exec"
+	"path/filepath"
 	"strings"
 	"syscall"
 	"testing"
@@ -67,6 +68,18 @@ func TestEachLimit(t *testing.T) {
 		if number := command.Process.Pid; syscall.Kill(number, 0) != syscall.ESRCH {
 			t.Errorf("%s: process %d is still there", test.why, number)
 		}
+	}
+}
+
+// A command that heeds the signal may end itself, as ssh does.
+func TestACommandIsToldToEnd(t *testing.T) {
+	path, limits := filepath.Join(t.TempDir(), "told"), wide
+	limits.Output = 1
+	if _, err := Run(exec.Command("sh", "-c", "trap 'echo > "+path+"; exit' TERM; echo begun; while :; do sleep 0.1; done"), io.Discard, limits); err == nil {
+		t.Error("it isn't ended")
+	}
+	if _, err := os.Stat(path); err != nil {
+		t.Error(err)
 	}
 }
 

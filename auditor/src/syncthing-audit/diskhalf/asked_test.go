@@ -2,6 +2,7 @@ package diskhalf
 
 import (
 	"encoding/pem"
+	"fmt"
 	"io"
 	"net"
 	"net/http"
@@ -9,9 +10,11 @@ import (
 	"os"
 	"path/filepath"
 	"strings"
+	"syscall"
 	"testing"
 	"time"
 
+	"syncthing-audit/fixture"
 	"syncthing-audit/part"
 )
 
@@ -20,7 +23,7 @@ func TestWhetherSyncthingIsIdle(t *testing.T) {
 	had, each := timeToBeIdle, askedEach
 	defer func() { timeToBeIdle, askedEach = had, each }()
 	askedEach = 10 * time.Millisecond
-	for _, one := range []struct {
+	for _, row := range []struct {
 		status int
 		texts  []string // the last one each time again
 		due    part.Rest
@@ -38,26 +41,77 @@ func TestWhetherSyncthingIsIdle(t *testing.T) {
 		asked := 0
 		server := httptest.NewServer(http.HandlerFunc(func(to http.ResponseWriter, _ *http.Request) {
 			to.Header().Set("Location", "/elsewhere")
-			to.WriteHeader(one.status)
+			to.WriteHeader(row.status)
 			place := asked
-			if asked++; place >= len(one.texts) {
-				place = len(one.texts) - 1
+			if asked++; place >= len(row.texts) {
+				place = len(row.texts) - 1
 			}
-			io.WriteString(to, one.texts[place])
+			io.WriteString(to, row.texts[place])
 		}))
 		read, err := readConfiguration(configWith(t, "/docs", "sendreceive", server.Listener.Addr().String(), false))
 		if err != nil {
 			t.Fatal(err)
 		}
-		if timeToBeIdle = had; one.due.State == "scanning" { // it never is
+		if timeToBeIdle = had; row.due.State == "scanning" { // it never is
 			timeToBeIdle = 3 * time.Second
 		}
-		if rest := read.rest("docs"); *rest != one.due || asked < one.least || one.least == 1 && asked > 1 {
-			t.Errorf("%d, %.40q: %+v, asked %d times", one.status, one.texts, rest, asked)
+		began := time.Now()
+		if rest := read.rest("docs"); *rest != row.due || asked < row.least || row.least == 1 && asked > 1 || asked > 1+int(time.Since(began)/askedEach) {
+			t.Errorf("%d, %.40q: %+v, asked %d times", row.status, row.texts, rest, asked)
 		}
 		server.Close()
-		if rest := read.rest("docs"); rest.State != part.RestUnasked || rest.Why == "" {
-			t.Errorf("nobody answers: %+v", rest)
+	}
+}
+
+// deaf gives an address of this machine at which nobody listens, and at which nobody can as long as the test goes on.
+func deaf(t *testing.T) string {
+	socket, err := syscall.Socket(syscall.AF_INET, syscall.SOCK_STREAM, 0)
+	if err != nil {
+		t.Fatal(err)
+	}
+	t.Cleanup(func() { syscall.Close(socket) })
+	if err := syscall.Bind(socket, &syscall.SockaddrInet4{Addr: [4]byte{127, 0, 0, 1}}); err != nil {
+		t.Fatal(err)
+	}
+	at, err := syscall.Getsockname(socket)
+	if err != nil {
+		t.Fatal(err)
+	}
+	return fmt.Sprintf("127.0.0.1:%d", at.(*syscall.SockaddrInet4).Port)
+}
+
+// isSocket says whether an open file is a socket.
+func isSocket(path string) bool { return strings.HasPrefix(path, "socket:") }
+
+// Whatever is asked and answered, no connection stays open; and where nobody listens, or it isn't seen who does, that is told.
+func TestNoConnectionStaysOpen(t *testing.T) {
+	more := strings.Repeat(" ", 1<<20)
+	answering := func(to http.ResponseWriter, _ *http.Request) { io.WriteString(to, `{"state":"idle"}`+more) }
+	plain, secret := httptest.NewServer(http.HandlerFunc(answering)), httptest.NewTLSServer(http.HandlerFunc(answering))
+	defer plain.Close()
+	defer secret.Close()
+	gone, alone := configWith(t, "/docs", "sendreceive", plain.Listener.Addr().String(), false), deaf(t)
+	before := fixture.CountOpened(t, isSocket)
+	for _, row := range []struct{ path, address, told string }{
+		{"", plain.Listener.Addr().String(), ""}, {"", alone, "connection refused"}, {gone + ".none", plain.Listener.Addr().String(), "it isn't seen whose page it is"},
+		{"https", secret.Listener.Addr().String(), ""}, {"https", alone, "connection refused"},
+	} {
+		read := &configuration{path: row.path}
+		read.GUI.Address, read.GUI.TLS = row.address, row.path == "https"
+		if row.path == "" || row.path == "https" {
+			read.path = configWith(t, "/docs", "sendreceive", "", false)
+		}
+		certificate := pem.EncodeToMemory(&pem.Block{Type: "CERTIFICATE", Bytes: secret.Certificate().Raw})
+		if err := os.WriteFile(filepath.Join(filepath.Dir(read.path), "https-cert.pem"), certificate, 0o600); err != nil {
+			t.Fatal(err)
+		}
+		if _, err := read.state("docs"); (err == nil) != (row.told == "") || err != nil && !strings.Contains(err.Error(), row.told) {
+			t.Errorf("%v: %v", row, err)
+		}
+		for until := time.Now().Add(10 * time.Second); fixture.CountOpened(t, isSocket) > before; time.Sleep(time.Millisecond) {
+			if time.Now().After(until) {
+				t.Fatalf("%v: %d sockets are open, and %d were", row, fixture.CountOpened(t, isSocket), before)
+			}
 		}
 	}
 }
@@ -79,7 +133,8 @@ func TestWhereThePageIs(t *testing.T) {
 	}
 	right := pem.EncodeToMemory(&pem.Block{Type: "CERTIFICATE", Bytes: secret.Certificate().Raw})
 	other := pem.EncodeToMemory(&pem.Block{Type: "CERTIFICATE", Bytes: []byte("other")})
-	for text, told := range map[string]string{string(right): "", string(other): "another certificate than that of its page", "none": "its page's certificate is none"} {
+	for text, told := range map[string]string{string(right): "", string(other): "another certificate than that of its page", "none": "its page's certificate is none",
+		strings.Repeat("\n", 1<<20-len(right)) + string(right): "", strings.Repeat("\n", 1<<20-len(right)+1) + string(right): "its page's certificate can't be read"} {
 		read := &configuration{path: configWith(t, "/docs", "sendreceive", "", true)}
 		read.GUI.TLS, read.GUI.Address = true, secret.Listener.Addr().String()
 		if err := os.WriteFile(filepath.Join(filepath.Dir(read.path), "https-cert.pem"), []byte(text), 0o600); err != nil {
@@ -127,14 +182,14 @@ func TestWhoIsNotSeen(t *testing.T) {
 func TestFoldersOfAConfiguration(t *testing.T) {
 	home := t.TempDir()
 	t.Setenv("HOME", home)
-	for path, due := range map[string]string{"~": home, "~/docs": home + "/docs", "/~": "/~", "~docs": "~docs", "": "", "a": "a", "~/": home} {
-		if made := withHome(path); made != due {
-			t.Errorf("%s: %s, not %s", path, made, due)
+	for path, due := range map[string]string{"~": home, "~/docs": home + "/docs", "/~": "/~", "~docs": "~docs", "": "", "a": "a", "~/": home, "~d/x": "~d/x"} {
+		if whole := withHome(path); whole != due {
+			t.Errorf("%s: %s, not %s", path, whole, due)
 		}
 	}
 	t.Setenv("HOME", "")
-	if made := withHome("~/docs"); made != "~/docs" {
-		t.Errorf("without a home: %s", made)
+	if whole := withHome("~/docs"); whole != "~/docs" {
+		t.Errorf("without a home: %s", whole)
 	}
 	room := roomWith(t, "a")
 	path := configWith(t, room, "receiveonly", "", false)
@@ -168,20 +223,32 @@ func TestWhereAPartIsWritten(t *testing.T) {
 	if err := os.WriteFile(filepath.Join(outside, "file"), nil, 0o600); err != nil {
 		t.Fatal(err)
 	}
-	for output, told := range map[string]string{"into/part": "would be in a folder of Syncthing", "part": "", "none/part": "", "file/part": "not a directory", "loop/part": "too many levels"} {
+	marker := filepath.Join(room, ".stfolder")
+	for output, told := range map[string]string{"into/part": "into/part would be in a folder of Syncthing (" + marker + " is there), whose", "part": "", "none/part": "", "file/part": "not a directory", "loop/part": "too many levels"} {
 		command := &Command{Asked: Asked{Marker: ".stfolder"}, Output: filepath.Join(outside, output)}
 		if err := command.CheckOutput(); (err == nil) != (told == "") || err != nil && !strings.Contains(err.Error(), told) {
 			t.Errorf("%s: %v", output, err)
 		}
 	}
+	here, err := os.Getwd()
+	if err != nil {
+		t.Fatal(err)
+	}
+	defer os.Chdir(here)
+	gone := t.TempDir()
+	os.Chdir(gone)
+	os.Remove(gone)
+	if err := (&Command{Asked: Asked{Marker: ".stfolder"}, Output: "part"}).CheckOutput(); err == nil {
+		t.Error("it isn't known where a part would be")
+	}
 }
 
 // What a person is told of a part has what was counted, and of nothing it says nothing.
 func TestWhatIsToldOfAPart(t *testing.T) {
-	for told, made := range map[string]Told{"2 names, 5 bytes hashed": {Names: 2, Bytes: 5}, "1 names, 0 bytes hashed; 1 names changed meanwhile": {Names: 1, Moved: 1},
+	for line, told := range map[string]Told{"2 names, 5 bytes hashed": {Names: 2, Bytes: 5}, "1 names, 0 bytes hashed; 1 names changed meanwhile": {Names: 1, Moved: 1},
 		"0 names, 0 bytes hashed; 3 names changed meanwhile; the disk fails to give what it has of 1 names: see the system's log": {Moved: 3, Damaged: 1}} {
-		if line := made.Line(); line != told {
-			t.Errorf("%q, not %q", line, told)
+		if told.Line() != line {
+			t.Errorf("%q, not %q", told.Line(), line)
 		}
 	}
 }

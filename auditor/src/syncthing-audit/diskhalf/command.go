@@ -37,7 +37,6 @@ func ReadCommand(words []string, more func(*flag.FlagSet, *Command)) (*Command, 
 	command := &Command{Asked: Asked{Marker: ".stfolder"}}
 	flags := flag.NewFlagSet("disk", flag.ContinueOnError)
 	flags.SetOutput(io.Discard)
-	flags.Usage = func() {}
 	flags.Var((*after)(&command.Asked), "after", "")
 	flags.Var((*blockSizes)(&command.BlockSizes), "block-size", "")
 	flags.StringVar(&command.Names.Prefix, "names", "", "")

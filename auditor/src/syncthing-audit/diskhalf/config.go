@@ -107,15 +107,11 @@ func (c *configuration) state(folder string) (string, error) {
 	if err != nil {
 		return "", err
 	}
-	asked, err := http.NewRequest(http.MethodGet, "http://localhost/rest/db/status?"+url.Values{"folder": {folder}}.Encode(), nil)
-	if err != nil {
-		return "", err
-	}
+	at := &url.URL{Scheme: "http", Host: "localhost", Path: "/rest/db/status", RawQuery: url.Values{"folder": {folder}}.Encode()}
 	if c.GUI.TLS {
-		asked.URL.Scheme = "https"
+		at.Scheme = "https"
 	}
-	asked.Header.Set("X-API-Key", c.GUI.Key)
-	answer, err := client.Do(asked)
+	answer, err := client.Do(&http.Request{Method: http.MethodGet, URL: at, Header: http.Header{"X-Api-Key": {c.GUI.Key}}})
 	if err != nil {
 		return "", err
 	}

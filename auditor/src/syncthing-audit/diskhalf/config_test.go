@@ -47,7 +47,7 @@ func headBy(t *testing.T, config, room string) (*part.Head, error) {
 	return reader.Head(), nil
 }
 
-// A part has what is configured of a folder, and whether Syncthing is idle with it. The API key goes to that Syncthing alone.
+// A part has what is configured of a folder, and whether Syncthing is idle with it. The API key goes to that Syncthing alfolder.
 func TestWhatIsConfigured(t *testing.T) {
 	room, asked := roomWith(t, "a"), []string{}
 	answering := func(w http.ResponseWriter, r *http.Request) {
@@ -74,10 +74,10 @@ func TestWhatIsConfigured(t *testing.T) {
 		if err != nil {
 			t.Fatal(err)
 		}
-		one := head.Folders[0]
-		if one.Kind != "receive-only" || !one.IgnoresPermissions || one.TimeWindow != 2 || !one.ScansAttributes || *one.Options != (part.Options{MaxConflicts: -1, IgnoresDeletions: true}) ||
-			len(one.PausedDevices) != 1 || one.PausedDevices[0] != "one" || *one.Rest != due {
-			t.Errorf("%+v, %+v, %+v", one, one.Options, one.Rest)
+		folder := head.Folders[0]
+		if folder.Kind != "receive-only" || !folder.IgnoresPermissions || folder.TimeWindow != 2 || !folder.ScansAttributes || *folder.Options != (part.Options{MaxConflicts: -1, IgnoresDeletions: true}) ||
+			len(folder.PausedDevices) != 1 || folder.PausedDevices[0] != "one" || *folder.Rest != due {
+			t.Errorf("%+v, %+v, %+v", folder, folder.Options, folder.Rest)
 		}
 	}
 	if len(asked) != 2 || asked[0] != "/rest/db/status?folder=docs secret" {
@@ -88,7 +88,7 @@ func TestWhatIsConfigured(t *testing.T) {
 // A config.xml that isn't of the directory that is walked, or of a folder that this program doesn't read, is refused.
 func TestWhatIsNoConfiguration(t *testing.T) {
 	room, other := roomWith(t, "a"), t.TempDir()
-	none := filepath.Join(other, "none.xml")
+	none := filepath.Join(other, "nfolder.xml")
 	if err := os.WriteFile(none, []byte("none"), 0o600); err != nil {
 		t.Fatal(err)
 	}

@@ -94,9 +94,9 @@ func TestWhatIsWritten(t *testing.T) {
 	if end.Temporary.Names != 1 || end.Linked == nil || end.Linked.Names != 1 || told.Names != 5 || told.Bytes != end.Bytes {
 		t.Errorf("%+v, %+v", end, told)
 	}
-	for name, one := range names {
-		if strings.Contains(name, room) || len(one.Out) > 0 && strings.Contains(one.Out[0].Why, room) || shell.IsBehindNames(name) != (name == hidden) {
-			t.Errorf("%q: %+v", name, one)
+	for name, line := range names {
+		if strings.Contains(name, room) || len(line.Out) > 0 && strings.Contains(line.Out[0].Why, room) || shell.IsBehindNames(name) != (name == hidden) {
+			t.Errorf("%q: %+v", name, line)
 		}
 	}
 }
@@ -104,11 +104,11 @@ func TestWhatIsWritten(t *testing.T) {
 // Each part has another id; only names that are asked for are in it.
 func TestTwoWalks(t *testing.T) {
 	asked := askedFor(roomWith(t, "a", "b/c", "b/d"))
-	one, _, _, _ := walked(t, asked)
+	first, _, _, _ := walked(t, asked)
 	asked.Prefix = "b/"
-	other, names, end, _ := walked(t, asked)
-	if one.Half.ID == other.Half.ID || len(names) != 2 || end.Linked != nil {
-		t.Errorf("%v, %v, %+v", one.Half, names, end)
+	second, names, end, _ := walked(t, asked)
+	if first.Half.ID == second.Half.ID || len(names) != 2 || end.Linked != nil {
+		t.Errorf("%v, %v, %+v", first.Half, names, end)
 	}
 }
 
@@ -125,13 +125,13 @@ func TestWhatIsRefusedAndWhatMoves(t *testing.T) {
 			t.Errorf("%s: %v", told, err)
 		}
 	}
-	made := &maker{asked: askedFor(room), pool: pool}
-	opened, err := made.open(made.asked.Folders[0])
+	maker := &maker{asked: askedFor(room), pool: pool}
+	opened, err := maker.open(maker.asked.Folders[0])
 	if err != nil {
 		t.Fatal(err)
 	}
-	made.folders = []*folder{opened}
-	glanced, drop, err := made.glance()
+	maker.folders = []*folder{opened}
+	glanced, drop, err := maker.glance()
 	defer drop()
 	if err != nil {
 		t.Fatal(err)
@@ -141,12 +141,12 @@ func TestWhatIsRefusedAndWhatMoves(t *testing.T) {
 		t.Fatal(err)
 	}
 	moved := []string{}
-	if err := made.write(glanced.Compare(made.count(func(line part.Line) error {
+	if err := maker.write(glanced.Compare(maker.count(func(line part.Line) error {
 		if line.Name != nil {
 			moved = append(moved, line.Name.Moved...)
 		}
 		return nil
-	}))); err != nil || strings.Join(moved, " ") != part.MovedDisk || made.told.Moved != 1 {
+	}))); err != nil || strings.Join(moved, " ") != part.MovedDisk || maker.told.Moved != 1 {
 		t.Errorf("%v, %v", moved, err)
 	}
 }
@@ -202,9 +202,9 @@ func TestCommands(t *testing.T) {
 			t.Errorf("%s: %v", words, err)
 		}
 	}
-	read, err := ReadCommand(strings.Fields("docs=/x -o part --after "+strings.ToLower(token)+" more=C:\\y --slice 1/3 --block-size 262144"), nil)
+	read, err := ReadCommand(strings.Fields("docs=/x -o part --after "+strings.ToLower(token)+" more=C:\\y --slice 1/3 --block-size 262144 --names a --paths --config c --jobs 1"), nil)
 	if err != nil || read.Device != (bep.ID{7: 1}).String() || read.After != look || len(read.Folders) != 2 || read.Folders[1].Directory != `C:\y` ||
-		read.Slices != 3 || read.BlockSizes[0] != 262144 {
+		read.Slices != 3 || read.BlockSizes[0] != 262144 || read.Prefix != "a" || !read.Paths || read.Config != "c" || read.Jobs != 1 || read.Output != "part" {
 		t.Fatal(read, err)
 	}
 	room := roomWith(t, "below/a")

@@ -71,8 +71,8 @@ func TestEachFolderOfAPart(t *testing.T) {
 		t.Errorf("%+v", odd)
 	}
 	for _, hash := range hashes {
-		if one := names[hash]; one.Disk.Size != 5 || one.Out[0].Bytes != 5 || one.Out[0].Kind != part.Ignored {
-			t.Errorf("%+v", one)
+		if line := names[hash]; line.Disk.Size != 5 || line.Out[0].Bytes != 5 || line.Out[0].Kind != part.Ignored {
+			t.Errorf("%+v", line)
 		}
 	}
 	if len(hashes) != 3 {
@@ -82,13 +82,13 @@ func TestEachFolderOfAPart(t *testing.T) {
 
 // A name that is too long to be told has a hash of its own in its place, whatever .stignore says, and one that isn't has none.
 func TestNamesThatAreTooLong(t *testing.T) {
-	made := &maker{asked: askedFor(roomWith(t))}
-	opened, err := made.open(made.asked.Folders[0])
+	maker := &maker{asked: askedFor(roomWith(t))}
+	opened, err := maker.open(maker.asked.Folders[0])
 	if err != nil {
 		t.Fatal(err)
 	}
 	for length := part.MostNameBytes - 1; length < part.MostNameBytes+3; length++ {
-		walking := &walking{maker: made, folder: opened, walker: made.walker(opened), to: disk.NewQueue()}
+		walking := &walking{maker: maker, folder: opened, walker: maker.walker(opened), to: disk.NewQueue()}
 		name := strings.Repeat("n", length)
 		if err := walking.take(disk.Found{Name: name, Node: &part.Node{}, Out: &part.LeftOut{Kind: part.Unreadable}}); err != nil {
 			t.Fatal(err)
@@ -111,14 +111,14 @@ func TestEachLineThatIsNotTaken(t *testing.T) {
 	defer pool.Close()
 	full := errors.New("no room")
 	for lines := 0; ; lines++ {
-		made := &maker{asked: askedFor(oddRoom(t)), pool: pool}
-		opened, err := made.open(made.asked.Folders[0])
+		maker := &maker{asked: askedFor(oddRoom(t)), pool: pool}
+		opened, err := maker.open(maker.asked.Folders[0])
 		if err != nil {
 			t.Fatal(err)
 		}
-		made.folders = []*folder{opened}
+		maker.folders = []*folder{opened}
 		left := lines
-		err = made.write(func(part.Line) error {
+		err = maker.write(func(part.Line) error {
 			if left--; left < 0 {
 				return full
 			}
@@ -138,9 +138,9 @@ func TestEachLineThatIsNotTaken(t *testing.T) {
 
 // What is counted is told: names that moved, that a disk fails to give, and the bytes that were read. No stamp is in a part.
 func TestWhatIsCounted(t *testing.T) {
-	made := &maker{}
+	maker := &maker{}
 	var taken []*part.Name
-	take := made.count(func(line part.Line) error { taken = append(taken, line.Name); return nil })
+	take := maker.count(func(line part.Line) error { taken = append(taken, line.Name); return nil })
 	contents := []part.Content{{}}
 	stamped := &part.Name{Name: "a", Disk: &part.Node{Size: 9, Unread: 2, Stamp: "s", Contents: contents}}
 	for _, line := range []part.Line{{Begin: &part.Begin{}}, {Name: stamped}, {Name: &part.Name{Name: "b", Disk: &part.Node{Size: 5}}}, {Name: &part.Name{Name: "c", Moved: []string{part.MovedDisk}}},
@@ -149,7 +149,7 @@ func TestWhatIsCounted(t *testing.T) {
 			t.Fatal(err)
 		}
 	}
-	if told := made.told; told.Names != 5 || told.Bytes != 7 || told.Moved != 1 || told.Damaged != 1 {
+	if told := maker.told; told.Names != 5 || told.Bytes != 7 || told.Moved != 1 || told.Damaged != 1 {
 		t.Errorf("%+v", told)
 	}
 	if taken[0] != nil || taken[1].Disk.Stamp != "" || stamped.Disk.Stamp != "s" || taken[1].Disk.Size != 9 || len(taken) != 7 {
@@ -199,6 +199,23 @@ func TestWhatIsNotWalked(t *testing.T) {
 type unwritable struct{}
 
 func (unwritable) Write([]byte) (int, error) { return 0, errors.New("no room") }
+
+// Nothing is told by what reads a command line: whoever calls it does.
+func TestCommandsAreReadInSilence(t *testing.T) {
+	had := os.Stderr
+	defer func() { os.Stderr = had }()
+	file, err := os.Create(filepath.Join(t.TempDir(), "told"))
+	if err != nil {
+		t.Fatal(err)
+	}
+	defer file.Close()
+	os.Stderr = file
+	ReadCommand([]string{"--odd"}, nil)
+	ReadCommand([]string{"--help"}, nil)
+	if told, err := os.ReadFile(file.Name()); err != nil || len(told) > 0 {
+		t.Errorf("%s, %v", told, err)
+	}
+}
 
 // A program may have flags of its own beside those that each has.
 func TestMoreFlags(t *testing.T) {
