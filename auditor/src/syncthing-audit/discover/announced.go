@@ -51,7 +51,7 @@ func read(packet []byte, from netip.Addr) (protocol.DeviceID, []string, error) {
 			hasID = true
 			return err
 		case announceAddress:
-			if address, is := addressOf(string(field.Text), from); is && len(addresses) < mostAddresses {
+			if address := addressOf(string(field.Text), from); address != "" && len(addresses) < mostAddresses {
 				addresses = append(addresses, address)
 			}
 		}
@@ -63,23 +63,23 @@ func read(packet []byte, from netip.Addr) (protocol.DeviceID, []string, error) {
 	return id, addresses, err
 }
 
-// addressOf gives an announced address as HOST:PORT, where it is one of TCP.
-func addressOf(announced string, from netip.Addr) (string, bool) {
+// addressOf gives an announced address as HOST:PORT, where it is one of TCP; nothing of others.
+func addressOf(announced string, from netip.Addr) string {
 	read, err := url.Parse(announced)
 	if err != nil || read.Scheme != "tcp" && read.Scheme != "tcp4" && read.Scheme != "tcp6" {
-		return "", false
+		return ""
 	}
 	host, port, err := net.SplitHostPort(read.Host)
 	if err != nil {
-		return "", false
+		return ""
 	}
 	if number, err := strconv.ParseUint(port, 10, 16); err != nil || number == 0 {
-		return "", false
+		return ""
 	}
 	at := from
 	if host != "" {
 		if at, err = netip.ParseAddr(host); err != nil {
-			return "", false
+			return ""
 		}
 		if at.IsUnspecified() {
 			at = from
@@ -87,7 +87,7 @@ func addressOf(announced string, from netip.Addr) (string, bool) {
 	}
 	at = at.Unmap()
 	if at.IsMulticast() || read.Scheme == "tcp4" && !at.Is4() || read.Scheme == "tcp6" && at.Is4() {
-		return "", false
+		return ""
 	}
-	return net.JoinHostPort(at.String(), port), true
+	return net.JoinHostPort(at.String(), port)
 }

@@ -1,13 +1,10 @@
 package discover
 
 import (
-	"context"
 	"errors"
 	"fmt"
 	"net"
-	"net/netip"
 	"strconv"
-	"syscall"
 
 	"github.com/syncthing/syncthing/lib/protocol"
 	"golang.org/x/net/ipv6"
@@ -28,54 +25,41 @@ type Listener struct {
 
 // Listen begins to hear announcements at a port. Where a Syncthing on this machine has the port of broadcasts, multicasts are heard.
 func Listen(port int) (*Listener, error) {
-	made := &Listener{heard: make(chan Heard, 64), ended: make(chan struct{})}
+	listener := &Listener{heard: make(chan Heard, 64), ended: make(chan struct{})}
 	broadcasts, errOfBroadcasts := net.ListenPacket("udp4", ":"+strconv.Itoa(port))
 	if errOfBroadcasts == nil {
-		made.sockets = append(made.sockets, broadcasts)
+		listener.sockets = append(listener.sockets, broadcasts)
 	}
-	multicasts, err := listenToGroup(port)
+	networks, _ := net.Interfaces() // none where they aren't known
+	multicasts, err := listenToGroup(port, networks)
 	if err == nil {
-		made.sockets = append(made.sockets, multicasts)
+		listener.sockets = append(listener.sockets, multicasts)
 	}
-	if len(made.sockets) == 0 {
+	if len(listener.sockets) == 0 {
 		return nil, fmt.Errorf("no announcements can be heard: %v; %w", errOfBroadcasts, err)
 	}
-	for _, one := range made.sockets {
-		go made.hear(one)
+	for _, socket := range listener.sockets {
+		go listener.hear(socket)
 	}
-	return made, nil
+	return listener, nil
 }
 
-// listenToGroup joins the group on each network that takes part in such.
-func listenToGroup(port int) (net.PacketConn, error) {
-	sharing := net.ListenConfig{Control: func(_, _ string, raw syscall.RawConn) error {
-		var err error
-		if control := raw.Control(func(socket uintptr) {
-			err = syscall.SetsockoptInt(int(socket), syscall.SOL_SOCKET, syscall.SO_REUSEADDR, 1)
-		}); control != nil {
-			return control
-		}
-		return err
-	}}
-	made, err := sharing.ListenPacket(context.Background(), "udp6", net.JoinHostPort(usualGroup, strconv.Itoa(port)))
+// listenToGroup joins the group on each of these networks that takes part in such. Others may listen to it at the same port: Go lets them.
+func listenToGroup(port int, networks []net.Interface) (net.PacketConn, error) {
+	socket, err := net.ListenPacket("udp6", net.JoinHostPort(usualGroup, strconv.Itoa(port)))
 	if err != nil {
 		return nil, err
 	}
-	networks, err := net.Interfaces()
-	joined := 0
+	isJoined := false
 	for at := range networks {
-		if ipv6.NewPacketConn(made).JoinGroup(&networks[at], &net.UDPAddr{IP: net.ParseIP(usualGroup)}) == nil {
-			joined++
-		}
+		err := ipv6.NewPacketConn(socket).JoinGroup(&networks[at], &net.UDPAddr{IP: net.ParseIP(usualGroup)})
+		isJoined = isJoined || err == nil
 	}
-	if err == nil && joined == 0 {
-		err = errors.New("no network has multicasts")
+	if !isJoined {
+		socket.Close()
+		return nil, errors.New("no network has multicasts")
 	}
-	if err != nil {
-		made.Close()
-		return nil, err
-	}
-	return made, nil
+	return socket, nil
 }
 
 // longestPacket is that of UDP.
@@ -89,11 +73,11 @@ func (l *Listener) hear(socket net.PacketConn) {
 		if errors.Is(err, net.ErrClosed) {
 			return
 		}
-		at, is := addrOf(from)
+		at, is := from.(*net.UDPAddr)
 		if err != nil || !is {
 			continue
 		}
-		id, addresses, err := read(packet[:length], at)
+		id, addresses, err := read(packet[:length], at.AddrPort().Addr())
 		if err != nil || len(addresses) == 0 {
 			continue
 		}
@@ -104,18 +88,11 @@ func (l *Listener) hear(socket net.PacketConn) {
 	}
 }
 
-func addrOf(from net.Addr) (netip.Addr, bool) {
-	if udp, is := from.(*net.UDPAddr); is {
-		return udp.AddrPort().Addr(), true
-	}
-	return netip.Addr{}, false
-}
-
 // Next gives what is heard next, until the listener is closed.
 func (l *Listener) Next() (Heard, error) {
 	select {
-	case one := <-l.heard:
-		return one, nil
+	case heard := <-l.heard:
+		return heard, nil
 	case <-l.ended:
 		return Heard{}, net.ErrClosed
 	}
@@ -124,7 +101,7 @@ func (l *Listener) Next() (Heard, error) {
 // Close ends the hearing.
 func (l *Listener) Close() {
 	close(l.ended)
-	for _, one := range l.sockets {
-		one.Close()
+	for _, socket := range l.sockets {
+		socket.Close()
 	}
 }

@@ -26,7 +26,7 @@ func meet(t *testing.T, records map[string][]protocol.FileInfo, disk map[string]
 	if err != nil {
 		t.Fatal(err)
 	}
-	return &far{stranger.New(t, observer.ID, stranger.State{Name: "far", IndexID: 42, Records: records, Disk: disk, Hidden: map[string]bool{}}), observer}
+	return &far{stranger.New(t, observer.ID, stranger.State{Name: "far", IndexID: 42, Records: records, Disk: disk, Hidden: map[string]bool{}, Sealed: map[string]bool{}}), observer}
 }
 
 // dial connects to the device.
@@ -187,10 +187,13 @@ func TestAnIndexThatWentBack(t *testing.T) {
 func TestAFolderThatIsEncryptedThere(t *testing.T) {
 	gone := stranger.Record("gone", "", 3)
 	gone.Deleted, gone.Blocks = true, nil
-	met := meet(t, map[string][]protocol.FileInfo{"docs": {stranger.Record("a", "text", 1), stranger.Record("b", "more", 2), gone}, "pics": {stranger.Record("p", "pic", 9)}}, nil)
+	directory := stranger.Record("directory", "", 4)
+	directory.Type = protocol.FileInfoTypeDirectory
+	odd := stranger.Record("/odd", "some", 5) // a name that no document has
+	met := meet(t, map[string][]protocol.FileInfo{"docs": {stranger.Record("a", "text", 1), stranger.Record("b", "more", 2), gone, directory, odd}, "pics": {stranger.Record("p", "pic", 9)}}, nil)
 	met.Change(func(state *stranger.State) { state.Sealed = map[string]bool{"docs": true} })
 	device, _, _ := met.first(t, t.TempDir(), "docs", "pics")
-	if out := device.Out["docs"]; len(device.Folders) != 1 || device.Folders[0].ID() != "pics" || !errors.Is(out, wire.EncryptedFolder) || !strings.HasSuffix(out.Error(), ": 2 names, 8 bytes") {
+	if out := device.Out["docs"]; len(device.Folders) != 1 || device.Folders[0].ID() != "pics" || !errors.Is(out, wire.EncryptedFolder) || !strings.HasSuffix(out.Error(), ": 4 names, 12 bytes") {
 		t.Errorf("%d folders, %v", len(device.Folders), out)
 	}
 	alone := met.dial(t, nil, "docs")

@@ -160,7 +160,7 @@ func (d *Device) End(ctx context.Context, connection *wire.Connection) error {
 	if connection.Device != d.ID {
 		return fmt.Errorf("another device, %s", connection.Device)
 	}
-	kept := d.Folders[:0:0]
+	kept := []*Folder{}
 	for _, folder := range d.Folders {
 		id := folder.ID()
 		again := connection.Shared(id)

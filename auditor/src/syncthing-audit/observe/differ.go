@@ -28,8 +28,8 @@ func (w *Walked) Walk(of *Folder, name *part.Name) error {
 	if name.Disk == nil || len(name.Disk.Contents) == 0 || len(name.Out)+len(name.Moved) > 0 || len(w.found) == mostDiffering {
 		return nil
 	}
-	entry, is, err := of.index.Get(string(name.Name))
-	if err != nil || !is || entry.Record == nil || entry.Record.Content == nil || entry.Record.Content.Size != name.Disk.Size || entry.Record.ModifiedS != name.Disk.ModifiedS {
+	entry, _, err := of.index.Get(string(name.Name))
+	if entry.Record == nil || entry.Record.Content == nil || entry.Record.Content.Size != name.Disk.Size || entry.Record.ModifiedS != name.Disk.ModifiedS {
 		return err
 	}
 	for _, found := range name.Disk.Contents {
