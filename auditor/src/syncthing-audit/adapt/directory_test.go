@@ -95,6 +95,32 @@ func TestWhatTheSystemSays(t *testing.T) {
 	}
 }
 
+// growing are files of which each grows once it was looked at.
+type growing struct{ fs.Filesystem }
+
+func (g growing) Lstat(name string) (fs.FileInfo, error) {
+	info, err := g.Filesystem.Lstat(name)
+	if err == nil {
+		err = os.Truncate(filepath.Join(g.URI(), name), info.Size()+1)
+	}
+	return info, err
+}
+
+// What the system said is of the same look as the rest, also where the index has another time: the system isn't asked again.
+func TestTheSystemIsAskedOnce(t *testing.T) {
+	room := t.TempDir()
+	if err := os.WriteFile(filepath.Join(room, "a"), []byte("text"), 0o600); err != nil {
+		t.Fatal(err)
+	}
+	basic := NewBeneath(fs.NewFilesystem(fs.FilesystemTypeBasic, room))
+	for _, files := range []fs.Filesystem{growing{basic}, growing{earlier{basic}}} {
+		info, err := Directory(files).Lstat("a")
+		if err != nil || info.Size() != info.About().Size() {
+			t.Errorf("%v, %v", info, err)
+		}
+	}
+}
+
 // A folder's directory that is taken away is told, also where it was open before.
 func TestADirectoryThatIsTakenAway(t *testing.T) {
 	room := filepath.Join(t.TempDir(), "room")
