@@ -5,25 +5,22 @@ import (
 	"sort"
 	"strings"
 
+	"golang.org/x/exp/slices"
 	"syncthing-audit/forecast"
 )
 
 // Texts gives ends as texts to compare, each once, rising.
 func Texts(ends []End) []string {
-	all := map[string]bool{}
+	texts := make([]string, 0, len(ends))
 	for _, end := range ends {
 		text, err := json.Marshal(end.spread())
 		if err != nil {
 			panic(err)
 		}
-		all[string(text)] = true
-	}
-	texts := make([]string, 0, len(all))
-	for text := range all {
-		texts = append(texts, text)
+		texts = append(texts, string(text))
 	}
 	sort.Strings(texts)
-	return texts
+	return slices.Compact(texts)
 }
 
 // spread gives an end with an entry for each device.
@@ -63,40 +60,22 @@ func (w *World) Foretold(release forecast.Release) ([]End, bool, error) {
 // namesOf gives what stands on a disk.
 func namesOf(places []forecast.Place) map[string]interface{} {
 	names := map[string]interface{}{}
-	copies := map[string]map[string]bool{}
+	copies := map[string][]string{}
 	for _, place := range places {
-		root, isCopy := place.Name, place.IsCopy
-		if strings.Contains(root, ".sync-conflict-") {
-			root, isCopy = rootOf(root), true
+		switch root := forecast.RootOfCopy(place.Name); {
+		case root != "":
+			copies[root] = append(copies[root], wordsOf(&place.Node))
+		case place.IsCopy:
+			copies[place.Name] = append(copies[place.Name], wordsOf(&place.Node))
+		default:
+			names[place.Name] = wordsOf(&place.Node)
 		}
-		if !isCopy {
-			names[root] = wordsOf(&place.Node)
-			continue
-		}
-		if copies[root] == nil {
-			copies[root] = map[string]bool{}
-		}
-		copies[root][wordsOf(&place.Node)] = true
 	}
-	for root, all := range copies {
-		var words []string
-		for word := range all {
-			words = append(words, word)
-		}
+	for root, words := range copies {
 		sort.Strings(words)
-		names["copies of "+root] = words
+		names["copies of "+root] = slices.Compact(words)
 	}
 	return names
-}
-
-// rootOf gives what a conflict copy is a copy of.
-func rootOf(name string) string {
-	at := strings.LastIndex(name, ".sync-conflict-")
-	rest := name[at+1:]
-	if dot := strings.IndexByte(rest, '.'); dot >= 0 {
-		return name[:at] + rest[dot:]
-	}
-	return name[:at]
 }
 
 func wordsOf(what *forecast.Node) string {

@@ -172,11 +172,9 @@ func alter(d disk, verb, name string, more []string) error {
 	case "touch":
 		changed.Time = timeOf(more)
 	case "mode":
-		mode, err := strconv.ParseInt(more[0], 8, 32)
-		if err != nil {
+		if _, err := fmt.Sscanf(more[0], "%o", &changed.Mode); err != nil {
 			return err
 		}
-		changed.Mode = int(mode)
 	}
 	d.put(name, changed)
 	return nil
@@ -186,6 +184,7 @@ func timeOf(words []string) int64 {
 	if len(words) == 0 {
 		return 0
 	}
-	seconds, _ := strconv.ParseFloat(words[0], 64)
+	var seconds float64
+	fmt.Sscan(words[0], &seconds)
 	return int64(seconds) * second
 }

@@ -1,7 +1,10 @@
 package worlds
 
 import (
+	"errors"
 	"fmt"
+	"os"
+	"path/filepath"
 	"reflect"
 	"sort"
 	"strings"
@@ -38,35 +41,36 @@ func standing(world forecast.World, device int) string {
 // Each step changes a disk as it says. A directory in which something came or went has the time of that: half a step behind when devices ran last.
 func TestStepsOnADisk(t *testing.T) {
 	for history, due := range map[string]string{
-		"alpha write a text":                                                         "a: file text 0 644",
-		"alpha write a text 5":                                                       "a: file text 5 644",
-		"alpha write a text 5.5":                                                     "a: file text 5 644",
-		"alpha write d/e/a text 5":                                                   "d/e/a: file text 5 644, d/e: directory 1.0005e+06 755, d: directory 1.0005e+06 755",
-		"alpha write a text 5; alpha rot a rot":                                      "a: file rot 5 644",
-		"alpha write a text 5; alpha touch a 7":                                      "a: file text 7 644",
-		"alpha write a text 5; alpha touch a":                                        "a: file text 0 644",
-		"alpha write a text 5; alpha mode a 0600":                                    "a: file text 5 600",
-		"alpha write a text 5; alpha write a other 6":                                "a: file other 6 644",
-		"alpha write a text 5; alpha directory a":                                    "a: directory 1.0005e+06 755",
-		"alpha write a text 5; alpha link a to":                                      "a: symlink to 0 -1",
-		"alpha write a text 5; alpha delete a":                                       "",
-		"alpha delete a":                                                             "",
-		"alpha write d/a text 5; alpha delete d":                                     "",
-		"alpha write da text 5; alpha delete d":                                      "da: file text 5 644",
-		"alpha write d/a text 5; alpha move d e":                                     "e/a: file text 5 644, e: directory 1.0005e+06 755",
-		"alpha write d/a text 5; alpha move d/a b":                                   "b: file text 5 644, d: directory 1.0005e+06 755",
-		"alpha write d/a text 5; alpha write d text 6":                               "d: file text 6 644",
-		"beta write a text 5; beta mode a 0600; alpha copy a beta":                   "a: file text 5 600",
-		"alpha write a old 4; beta write a text 5; alpha copy a beta":                "a: file text 5 644",
-		"alpha directory d; up alpha; alpha write d/a text 5":                        "d/a: file text 5 644, d: directory 1.0015e+06 755",
-		"alpha write d/a text 5; up alpha; alpha write d/a other 6":                  "d/a: file other 6 644, d: directory 1.0015e+06 755",
-		"alpha write d/a text 5; up alpha; alpha delete d/a":                         "d: directory 1.0015e+06 755",
-		"alpha write d/a text 5; up alpha; alpha delete d/b":                         "d/a: file text 5 644, d: directory 1.0005e+06 755",
-		"alpha write d/a text 5; up alpha; alpha rot d/a rot":                        "d/a: file rot 5 644, d: directory 1.0005e+06 755",
-		"alpha write d/a text 5; up alpha; alpha move d/a d/b":                       "d/b: file text 5 644, d: directory 1.0015e+06 755",
-		"alpha link l to; alpha write l/a text 5; up alpha; alpha delete l/a":        "l: symlink to 0 -1",
-		"alpha write a text 5; up alpha beta; beta delete a; up beta; up alpha beta": "",
-		"alpha write a text 5; up alpha beta":                                        "a: file text 5 644",
+		"alpha write a text":                                                          "a: file text 0 644",
+		"alpha write a text 5":                                                        "a: file text 5 644",
+		"alpha write a text 5.5":                                                      "a: file text 5 644",
+		"alpha write d/e/a text 5":                                                    "d/e/a: file text 5 644, d/e: directory 1.0005e+06 755, d: directory 1.0005e+06 755",
+		"alpha write a text 5; alpha rot a rot":                                       "a: file rot 5 644",
+		"alpha write a text 5; alpha touch a 7":                                       "a: file text 7 644",
+		"alpha write a text 5; alpha touch a":                                         "a: file text 0 644",
+		"alpha write a text 5; alpha mode a 0600":                                     "a: file text 5 600",
+		"alpha write a text 5; alpha write a other 6":                                 "a: file other 6 644",
+		"alpha write a text 5; alpha directory a":                                     "a: directory 1.0005e+06 755",
+		"alpha write a text 5; alpha link a to":                                       "a: symlink to 0 -1",
+		"alpha write a text 5; alpha delete a":                                        "",
+		"alpha delete a":                                                              "",
+		"alpha write d/a text 5; alpha delete d":                                      "",
+		"alpha write da text 5; alpha delete d":                                       "da: file text 5 644",
+		"alpha write d/a text 5; alpha move d e":                                      "e/a: file text 5 644, e: directory 1.0005e+06 755",
+		"alpha write d/a text 5; alpha move d/a b":                                    "b: file text 5 644, d: directory 1.0005e+06 755",
+		"alpha write d/a text 5; alpha write d text 6":                                "d: file text 6 644",
+		"beta write a text 5; beta mode a 0600; alpha copy a beta":                    "a: file text 5 600",
+		"alpha write a old 4; beta write a text 5; alpha copy a beta":                 "a: file text 5 644",
+		"alpha directory d; up alpha; alpha write d/a text 5":                         "d/a: file text 5 644, d: directory 1.0015e+06 755",
+		"alpha write d/a text 5; up alpha; alpha write d/a other 6":                   "d/a: file other 6 644, d: directory 1.0015e+06 755",
+		"alpha write d/a text 5; up alpha; alpha delete d/a":                          "d: directory 1.0015e+06 755",
+		"alpha write d/a text 5; up alpha; alpha delete d/b":                          "d/a: file text 5 644, d: directory 1.0005e+06 755",
+		"alpha write d/a text 5; up alpha; alpha rot d/a rot":                         "d/a: file rot 5 644, d: directory 1.0005e+06 755",
+		"alpha write d/a text 5; up alpha; alpha move d/a d/b":                        "d/b: file text 5 644, d: directory 1.0015e+06 755",
+		"alpha write d/a old 4; beta write d/a text 5; up alpha; alpha copy d/a beta": "d/a: file text 5 644, d: directory 1.0015e+06 755",
+		"alpha link l to; alpha write l/a text 5; up alpha; alpha delete l/a":         "l: symlink to 0 -1",
+		"alpha write a text 5; up alpha beta; beta delete a; up beta; up alpha beta":  "",
+		"alpha write a text 5; up alpha beta":                                         "a: file text 5 644",
 	} {
 		world := &World{Devices: map[string]string{"alpha": "sendreceive", "beta": "sendonly"}, History: steps(history)}
 		played, err := world.Play(forecast.V1_29)
@@ -77,6 +81,21 @@ func TestStepsOnADisk(t *testing.T) {
 		if found := standing(played, 0); found != due {
 			t.Errorf("%s: %q, not %q", history, found, due)
 		}
+	}
+}
+
+// A file that isn't there, or has no world, isn't read.
+func TestFilesWithoutAWorld(t *testing.T) {
+	room := t.TempDir()
+	if _, err := Read(filepath.Join(room, "none")); !errors.Is(err, os.ErrNotExist) {
+		t.Error(err)
+	}
+	path := filepath.Join(room, "odd")
+	if err := os.WriteFile(path, []byte("a world"), 0o600); err != nil {
+		t.Fatal(err)
+	}
+	if _, err := Read(path); err == nil {
+		t.Error("it is read")
 	}
 }
 
