@@ -10,7 +10,7 @@ type noted struct {
 func (s *state) apart(count int) []noted {
 	var found []noted
 	for i := range s.devices {
-		for n := 0; n < count; n++ {
+		for n := range s.names[:count] {
 			if why := s.whyApart(i, n); why != NoReason {
 				found = append(found, noted{i, n, why})
 			}

@@ -44,7 +44,7 @@ func (c Command) on(s *state) {
 func (s *state) rested() *state {
 	state := s.copied()
 	state.draw = func(int) int { return 0 }
-	for step := 0; step < mostSteps; step++ {
+	for range [mostSteps]struct{}{} {
 		if !state.takesOne(state.actions()) && !state.takesOne(state.rescans()) {
 			break
 		}
@@ -73,8 +73,8 @@ func (l *loader) back(s *state, names []Name, clock int64) []Name {
 	for counter, rank := range l.counters {
 		b.values[Counter{l.numbers[counter.Device], rank}] = counter.Value
 	}
-	next := make([]Name, 0, s.count())
-	for n := 0; n < s.count(); n++ {
+	next := make([]Name, 0, len(s.names))
+	for n := range s.names {
 		next = append(next, b.name(s, n, names))
 	}
 	return next

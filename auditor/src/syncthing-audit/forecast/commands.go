@@ -3,7 +3,7 @@ package forecast
 // revert is Syncthing's 'Revert Local Changes' on a device that only receives.
 func (s *state) revert(i int) {
 	p := s.newPull(i)
-	for n := 0; n < p.old.count(); n++ {
+	for n := range p.names {
 		own := p.recorded(n)
 		global := p.wanted(n)
 		if own.flag != LocalChange || !global.isThere() {
@@ -39,7 +39,7 @@ func (s *state) revert(i int) {
 
 // override is Syncthing's 'Override Changes' on a device that only sends.
 func (s *state) override(i int) {
-	for n := 0; n < s.count(); n++ {
+	for n := range s.names {
 		entry, own := *s.need(i, n), *s.own(i, n)
 		switch {
 		case !entry.isThere() || own.isThere() && own.isInvalid():

@@ -20,7 +20,7 @@ func (p *pull) dropOldest(n, place int) {
 		return
 	}
 	var copies []int
-	for other := 0; other < p.count(); other++ {
+	for other := range p.names {
 		if p.names[other].isCopy && p.names[other].root == n && other != place && p.disk(p.i, other).isThere() {
 			copies = append(copies, other)
 		}

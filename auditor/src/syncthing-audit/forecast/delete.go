@@ -39,7 +39,7 @@ func (p *pull) deleteFile(n int) Why {
 
 // deleteRest deletes the files that nothing was renamed from, and then directories, the lowest first.
 func (p *pull) deleteRest() {
-	for n := 0; n < p.count(); n++ {
+	for n := range p.names {
 		if p.due[n] {
 			p.note(n, p.deleteFile(n))
 		}

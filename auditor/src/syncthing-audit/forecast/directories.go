@@ -75,7 +75,7 @@ func (p *pull) removeDirectory(n int) Why {
 		return BelowNoDirectory
 	}
 	why := NoReason
-	for below := 0; below < p.count(); below++ {
+	for below := range p.names {
 		if !p.isBelow(below, n) || !p.at(p.i, below).isThere() {
 			continue
 		}

@@ -59,7 +59,7 @@ type placed struct {
 func (s *state) numberedEnd(count int) numbered {
 	end := numbered{disks: make([][]placed, len(s.devices)), apart: s.apart(count)}
 	for i := range s.devices {
-		for n := 0; n < s.count(); n++ {
+		for n := range s.names {
 			if what := s.at(i, n); what.isThere() {
 				end.disks[i] = append(end.disks[i], s.placedAt(n, what, count))
 			}
@@ -71,7 +71,7 @@ func (s *state) numberedEnd(count int) numbered {
 	last.draw = func(int) int { return 0 }
 	for i := range s.devices {
 		errors := last.copied().pullOn(i)
-		for n := 0; n < s.count(); n++ {
+		for n := range s.names {
 			if s.need(i, n).isThere() && !(s.need(i, n).deleted && s.devices[i].IgnoreDelete) {
 				end.stuck = append(end.stuck, Stuck{Device: i, Why: errors[n]})
 				end.names = append(end.names, s.rootAmong(n, count))

@@ -14,7 +14,7 @@ func (s *state) told(i, n int) record {
 
 // isBehind says whether device j lacks something that device i has to tell.
 func (s *state) isBehind(i, j int) bool {
-	for n := 0; n < s.count(); n++ {
+	for n := range s.names {
 		if s.lacks(i, j, n) {
 			return true
 		}
@@ -32,7 +32,7 @@ func (s *state) lacks(i, j, n int) bool {
 
 // send has device i tell device j all that it has to tell.
 func (s *state) send(i, j int) {
-	for n := 0; n < s.count(); n++ {
+	for n := range s.names {
 		if s.lacks(i, j, n) {
 			s.put(j, i, n, s.told(i, n))
 		}

@@ -43,7 +43,7 @@ func (s *state) start(i int) {
 }
 
 func (s *state) needsSomething(i int) bool {
-	for n := 0; n < s.count(); n++ {
+	for n := range s.names {
 		if s.need(i, n).isThere() {
 			return true
 		}

@@ -56,7 +56,7 @@ func (s *state) newPull(i int) *pull {
 // pullOn has a device take what it needs. It gives what it failed to take.
 func (s *state) pullOn(i int) map[int]Why {
 	var needed []int
-	for n := 0; n < s.count(); n++ {
+	for n := range s.names {
 		if entry := s.need(i, n); entry.isThere() && !(entry.deleted && s.devices[i].IgnoreDelete) {
 			needed = append(needed, n)
 		}

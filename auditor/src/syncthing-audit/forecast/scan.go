@@ -35,7 +35,7 @@ func (s *state) isScanned(n int, names map[int]bool) bool {
 // byContent gives the files that a device recorded, by their bytes.
 func (s *state) byContent(i int) map[int32][]int {
 	places := map[int32][]int{}
-	for n := 0; n < s.count(); n++ {
+	for n := range s.names {
 		if own := s.own(i, n); own.kind == File && !own.deleted && own.flag == Valid && own.content != 0 {
 			places[own.content] = append(places[own.content], n)
 		}
@@ -57,7 +57,7 @@ func (s *state) globals(i int) globals {
 // scanFound takes what stands on the disk.
 func (s *state) scanFound(i int, names map[int]bool) bool {
 	var found []int
-	for n := 0; n < s.count(); n++ {
+	for n := range s.names {
 		if what := s.at(i, n); what.isThere() && s.isScanned(n, names) && !s.isUnchanged(i, n, what) {
 			found = append(found, n)
 		}
@@ -171,7 +171,7 @@ func (s *state) gone(i, n int, own *record) record {
 func (s *state) scanMissing(i int, names map[int]bool) bool {
 	var before globals
 	changed := false
-	for n := 0; n < s.count(); n++ {
+	for n := range s.names {
 		own := s.own(i, n)
 		if !own.isThere() || !s.isScanned(n, names) || own.deleted && own.flag != LocalChange || s.at(i, n).isThere() {
 			continue

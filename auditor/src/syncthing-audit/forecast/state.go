@@ -88,6 +88,3 @@ func (s *state) recordAt(i, j, n int) *record {
 	}
 	return &s.records[s.get(s.viewCell(i, j, n))]
 }
-
-// count gives how many names a state may have something of.
-func (s *state) count() int { return len(s.names) }

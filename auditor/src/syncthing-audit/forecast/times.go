@@ -19,7 +19,7 @@ func (s *state) now(n int) int64 {
 // rankPresent gives the times of what was done since the world began their ranks, for each name. States that differ in nothing that is
 // compared are equal then.
 func (s *state) rankPresent() {
-	for n := 0; n < s.count(); n++ {
+	for n := range s.names {
 		var times []int64
 		for i := range s.devices {
 			for j := range s.devices {

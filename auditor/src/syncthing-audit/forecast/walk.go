@@ -11,7 +11,7 @@ func walk(from *state, random *rand.Rand) *state {
 	s.draw = random.Intn
 	staged := random.Intn(2) == 0
 	order := random.Perm(len(s.devices))
-	for step := 0; step < mostSteps; step++ {
+	for range [mostSteps]struct{}{} {
 		if s.areAllOn() || staged && s.on != 0 {
 			if s.moves(random, s.exchanges()) {
 				continue

@@ -13,17 +13,17 @@ import (
 type linear struct {
 	pattern string
 	once    sync.Once
-	made    *regexp.Regexp // nothing of a pattern that is none
+	means   *regexp.Regexp // nothing of a pattern that is none
 }
 
 // fits says whether the pattern fits a name. Of one whose braces aren't closed, which Syncthing's package takes, nobody knows it.
 func (l *linear) fits(name string) bool {
 	l.once.Do(func() {
 		if text, rest, err := expression(l.pattern, 0); err == nil && rest == "" {
-			l.made, _ = regexp.Compile(`(?s)\A(?:` + text + `)\z`)
+			l.means, _ = regexp.Compile(`(?s)\A(?:` + text + `)\z`)
 		}
 	})
-	return l.made != nil && l.made.MatchString(name)
+	return l.means != nil && l.means.MatchString(name)
 }
 
 // expression translates a pattern up to the end of the braces it stands in, and gives what comes behind that.

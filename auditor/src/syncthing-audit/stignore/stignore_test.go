@@ -18,19 +18,19 @@ var (
 )
 
 func drawLine(random *rand.Rand) string {
-	made := ""
+	line := ""
 	for count := random.Intn(5); count >= 0; count-- {
-		made += pieces[random.Intn(len(pieces))]
+		line += pieces[random.Intn(len(pieces))]
 	}
-	return made
+	return line
 }
 
 func drawName(random *rand.Rand) string {
-	made := []string{}
+	name := []string{}
 	for count := random.Intn(4); count >= 0; count-- {
-		made = append(made, parts[random.Intn(len(parts))])
+		name = append(name, parts[random.Intn(len(parts))])
 	}
-	return strings.Join(made, "/")
+	return strings.Join(name, "/")
 }
 
 // isIgnored says what Syncthing says of a name, or else this, where its package panics.
@@ -43,11 +43,22 @@ func isIgnored(by *ignore.Matcher, name string, otherwise bool) (is bool) {
 	return by.Match(name).IsIgnored()
 }
 
+// quickRoom gives a directory in memory, where there is one.
+func quickRoom(t *testing.T) string {
+	room, err := os.MkdirTemp("/dev/shm", "syncthing-audit-test-")
+	if err != nil {
+		return t.TempDir()
+	}
+	t.Cleanup(func() { os.RemoveAll(room) })
+	return room
+}
+
 // Which names a .stignore keeps out is what Syncthing's own package says, with files that are included and lines that are none.
 func TestAsSyncthing(t *testing.T) {
 	random, fitted, refused, takes := rand.New(rand.NewSource(1)), 0, 0, 0
+	room := quickRoom(t)
 	for round := 0; round < 1500; round++ {
-		room, lines := t.TempDir(), [2][]string{}
+		lines := [2][]string{}
 		for place := range lines {
 			for count := random.Intn(4); count >= 0; count-- {
 				lines[place] = append(lines[place], drawLine(random))
@@ -132,7 +143,7 @@ func TestWhatSyncthingHasNoTestOf(t *testing.T) {
 // Nothing outside the folder is read, whatever names it: its bytes would go into the part. What is in the folder is, also by a symlink.
 func TestNothingOutsideTheFolderIsRead(t *testing.T) {
 	isRoot := os.Geteuid() == 0
-	for why, one := range map[string]struct {
+	for why, row := range map[string]struct {
 		links   map[string]string
 		ignores string // nothing where a link makes it
 		isRead  bool
@@ -154,15 +165,15 @@ func TestNothingOutsideTheFolderIsRead(t *testing.T) {
 			t.Fatal(err)
 		}
 		texts := map[string]string{"../secret": "BEGIN KEY", "below/lines": "BEGIN KEY", "below/out": "#include ../secret"}
-		if one.ignores != "" {
-			texts[File] = strings.ReplaceAll(one.ignores, "ROOM", room)
+		if row.ignores != "" {
+			texts[File] = strings.ReplaceAll(row.ignores, "ROOM", room)
 		}
 		for name, text := range texts {
 			if err := os.WriteFile(filepath.Join(folder, name), []byte(text), 0o600); err != nil {
 				t.Fatal(err)
 			}
 		}
-		for name, target := range one.links {
+		for name, target := range row.links {
 			if err := os.Symlink(target, filepath.Join(folder, name)); err != nil {
 				t.Fatal(err)
 			}
@@ -174,7 +185,7 @@ func TestNothingOutsideTheFolderIsRead(t *testing.T) {
 				}
 			}
 			lines, err := Read(path)
-			if (err == nil) != one.isRead || (len(lines) == 1) != one.isRead || err != nil && strings.Contains(err.Error(), room) {
+			if (err == nil) != row.isRead || (len(lines) == 1) != row.isRead || err != nil && strings.Contains(err.Error(), room) {
 				t.Errorf("%s: %q, %v", why, lines, err)
 			}
 		}

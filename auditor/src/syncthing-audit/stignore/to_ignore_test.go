@@ -4,7 +4,7 @@ import "testing"
 
 // A directory is ignored at the next scan unless a name below it is taken, with no other name between.
 func TestDirectoriesThatTheNextScanIgnores(t *testing.T) {
-	for why, one := range map[string]struct {
+	for why, row := range map[string]struct {
 		names    []string // a directory that is ignored has a slash behind it
 		toIgnore int64
 	}{
@@ -19,7 +19,7 @@ func TestDirectoriesThatTheNextScanIgnores(t *testing.T) {
 		"a directory that isn't ignored": {[]string{"b", "b/c/"}, 1},
 	} {
 		counted := ToIgnore{}
-		for _, name := range one.names {
+		for _, name := range row.names {
 			if last := len(name) - 1; name[last] == '/' {
 				counted.TakeDirectory(name[:last])
 			} else {
@@ -27,8 +27,8 @@ func TestDirectoriesThatTheNextScanIgnores(t *testing.T) {
 			}
 		}
 		counted.End()
-		if counted.Names != one.toIgnore {
-			t.Errorf("%s: %d, not %d", why, counted.Names, one.toIgnore)
+		if counted.Names != row.toIgnore {
+			t.Errorf("%s: %d, not %d", why, counted.Names, row.toIgnore)
 		}
 	}
 }

@@ -49,7 +49,7 @@ func TestLinesThatTakeLong(t *testing.T) {
 // Where a pattern is compared in the way that takes no long time, it fits what it means.
 func TestWhatAPatternMeans(t *testing.T) {
 	many := strings.Repeat("a", 4000)
-	for _, one := range []struct {
+	for _, row := range []struct {
 		pattern, name string
 		is            bool
 	}{
@@ -59,8 +59,8 @@ func TestWhatAPatternMeans(t *testing.T) {
 		{"\\*x", "*x", true}, {"\\*x", "ax", false}, {"a.c", "abc", false}, {"a,b", "a,b", true}, {"{a,{b,c}d}", "cd", true}, {"{a,{b,c}d}", "c", false}, {"?", "é", true},
 		{"?", "/", false}, {"*", "a\nb", true}, {"{a", "a", false}, {"[a", "a", false}, {"a\\", "a", false}, {"é*", "éa", true}, {"a}", "a}", true},
 	} {
-		if is := (&linear{pattern: one.pattern}).fits(one.name); is != one.is {
-			t.Errorf("%q fits %.40q: %v", one.pattern, one.name, is)
+		if is := (&linear{pattern: row.pattern}).fits(row.name); is != row.is {
+			t.Errorf("%q fits %.40q: %v", row.pattern, row.name, is)
 		}
 	}
 	patterns, err := Parse([]string{"*a*a*a*a*b"}, false)
