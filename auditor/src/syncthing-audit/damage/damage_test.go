@@ -13,15 +13,15 @@ const block = 131072
 
 // blocksOf gives the hash of each block of a file.
 func blocksOf(data []byte) []part.Hash {
-	made := []part.Hash{}
+	hashes := []part.Hash{}
 	for place := 0; place == 0 || place < len(data); place += block {
 		end := place + block
 		if end > len(data) {
 			end = len(data)
 		}
-		made = append(made, sha256.Sum256(data[place:end]))
+		hashes = append(hashes, sha256.Sum256(data[place:end]))
 	}
-	return made
+	return hashes
 }
 
 func contentOf(data []byte) part.Content {
@@ -62,8 +62,7 @@ func kindOf(recorded, found []byte, isAtItsTime bool) Kind {
 	isZero := func(data []byte) bool { return len(data) > 0 && len(bytes.Trim(data, "\x00")) == 0 }
 	first := func(data []byte) []byte { // of the first block that differs
 		for place := 0; place < len(recorded) || place < len(found); place += block {
-			one, other := cut(recorded, place), cut(found, place)
-			if !bytes.Equal(one, other) {
+			if !bytes.Equal(cut(recorded, place), cut(found, place)) {
 				return cut(data, place)
 			}
 		}
@@ -100,25 +99,25 @@ func cut(data []byte, place int) []byte {
 
 // random gives a file of up to four blocks, some of them zeros.
 func random(from *rand.Rand, like []byte) []byte {
-	made := append([]byte{}, like...)
+	file := append([]byte{}, like...)
 	for change := from.Intn(4); change >= 0; change-- {
 		switch from.Intn(5) {
 		case 0:
-			made = made[:from.Intn(2)*from.Intn(len(made)+1)]
+			file = file[:from.Intn(2)*from.Intn(len(file)+1)]
 		case 1:
-			made = append(made, byte(from.Intn(2)))
+			file = append(file, byte(from.Intn(2)))
 		case 2:
-			made = make([]byte, len(made))
+			file = make([]byte, len(file))
 		case 3:
-			zeros := cut(made, block*from.Intn(4))
+			zeros := cut(file, block*from.Intn(4))
 			copy(zeros, make([]byte, len(zeros)))
 		default:
-			if len(made) > 0 {
-				made[from.Intn(len(made))] = 1
+			if len(file) > 0 {
+				file[from.Intn(len(file))] = 1
 			}
 		}
 	}
-	return made
+	return file
 }
 
 // What is judged from hashes, sizes and times is what the bytes say.

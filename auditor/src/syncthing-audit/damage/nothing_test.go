@@ -91,7 +91,7 @@ func TestContentsOfZeros(t *testing.T) {
 // without bytes.
 func TestBlocksOfZeros(t *testing.T) {
 	pair := func(recorded, found *part.Hash, place int64) *part.Node {
-		return &part.Node{Differ: &part.Differ{Count: 1, First: part.Pair{Recorded: recorded, Found: found}, Ranges: [][2]int64{{place, place}}}}
+		return &part.Node{Differ: &part.Differ{Count: 1, First: part.Pair{Recorded: recorded, Found: found}, Ranges: [][2]int64{{place, place + 2}, {place + 5, place + 5}}}}
 	}
 	whole, one, none, other := hashOfZeros(protocol.MinBlockSize), hashOfZeros(1), hashOfZeros(0), part.Hash{7}
 	for place, row := range []struct {

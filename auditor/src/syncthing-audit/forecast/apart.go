@@ -24,7 +24,7 @@ func (s *state) whyApart(i, n int) Why {
 	switch {
 	case own.flag == LocalChange:
 		return KeepsLocalChange
-	case own.kind == File && !own.deleted && what.kind == File && what.content != own.content:
+	case what.kind == File && what.content != own.content:
 		return NotSeen
 	case due.isThere() && due.deleted && s.devices[i].IgnoreDelete:
 		return IgnoresDeletions

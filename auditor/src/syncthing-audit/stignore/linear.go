@@ -19,7 +19,7 @@ type linear struct {
 // fits says whether the pattern fits a name. Of one whose braces aren't closed, which Syncthing's package takes, nobody knows it.
 func (l *linear) fits(name string) bool {
 	l.once.Do(func() {
-		if text, rest, err := expression(l.pattern, 0); err == nil && rest == "" {
+		if text, _, err := expression(l.pattern, 0); err == nil {
 			l.means, _ = regexp.Compile(`(?s)\A(?:` + text + `)\z`)
 		}
 	})

@@ -188,6 +188,63 @@ func TestNothingOutsideTheFolderIsRead(t *testing.T) {
 			if (err == nil) != row.isRead || (len(lines) == 1) != row.isRead || err != nil && strings.Contains(err.Error(), room) {
 				t.Errorf("%s: %q, %v", why, lines, err)
 			}
+			if err != nil && !strings.HasSuffix(err.Error(), " can't be read: it is outside the folder, where this program reads nothing") {
+				t.Errorf("%s: %v", why, err)
+			}
 		}
+	}
+}
+
+// A folder may be named from where the program was begun; what it includes is in it all the same.
+func TestAFolderThatIsNamedFromHere(t *testing.T) {
+	room := t.TempDir()
+	for name, text := range map[string]string{File: "a\n#include more", "more": "b"} {
+		if err := os.WriteFile(filepath.Join(room, name), []byte(text), 0o600); err != nil {
+			t.Fatal(err)
+		}
+	}
+	here, err := os.Getwd()
+	if err != nil {
+		t.Fatal(err)
+	}
+	if err := os.Chdir(room); err != nil {
+		t.Fatal(err)
+	}
+	defer os.Chdir(here)
+	if lines, err := Read("."); err != nil || strings.Join(lines, " ") != "a b" {
+		t.Errorf("%q, %v", lines, err)
+	}
+}
+
+// Whether a directory that is kept out may be the folder's all the same is what Syncthing's own package says, line by line.
+func TestWhatTakesWhatIsIgnored(t *testing.T) {
+	lines := []string{"!/**", "!/**/**", "/**", "!/a", "!/a/**", "!/a/b", "!a", "!**/a", "a", "/a", "*", "!/a**", "!/*a", "(?d)!/a", "!/a/", "!*"}
+	takes := 0
+	for _, first := range lines {
+		for _, second := range lines {
+			for _, third := range []string{"", "!/**/**", "!/a/**", "!/a/**/**"} {
+				all := []string{first, second}
+				if third != "" {
+					all = append(all, third)
+				}
+				due := ignore.New(fs.NewFilesystem(fs.FilesystemTypeFake, "room"))
+				if err := due.Parse(strings.NewReader(strings.Join(all, "\n")), File); err != nil {
+					t.Fatal(err)
+				}
+				patterns, err := Parse(all, false)
+				if err != nil {
+					t.Fatal(err)
+				}
+				if patterns.TakesIgnored() {
+					takes++
+				}
+				if asked, is := any(due).(interface{ SkipIgnoredDirs() bool }); is && asked.SkipIgnoredDirs() == patterns.TakesIgnored() && first != second {
+					t.Errorf("%q: a directory that is ignored may be taken: %v", all, patterns.TakesIgnored())
+				}
+			}
+		}
+	}
+	if takes < 300 {
+		t.Errorf("%d take what is ignored", takes)
 	}
 }

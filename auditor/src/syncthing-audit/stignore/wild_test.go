@@ -2,6 +2,7 @@ package stignore
 
 import (
 	"errors"
+	"math"
 	"strings"
 	"testing"
 	"time"
@@ -43,6 +44,57 @@ func TestLinesThatTakeLong(t *testing.T) {
 	}
 	if _, err := Parse(append(lines, lines...), false); !errors.Is(err, errTooWild) {
 		t.Error(err)
+	}
+}
+
+// As many ways are counted to place stars as there are: what stands between them takes that many places of a name or fewer, in order.
+func TestWaysToPlaceStars(t *testing.T) {
+	ways := func(stars, length int) float64 { return 0 }
+	ways = func(stars, length int) float64 {
+		if stars == 0 {
+			return 1
+		}
+		sum := 0.0
+		for first := 0; first <= length; first++ {
+			sum += ways(stars-1, first)
+		}
+		return sum
+	}
+	for stars := 0; stars < 5; stars++ {
+		for length := 0; length < 9; length++ {
+			if found, due := (&pattern{stars: stars}).steps(strings.Repeat("x", length)), ways(stars, length); math.Abs(found-due) > 1e-6*due {
+				t.Errorf("%d stars in %d letters: %g, not %g", stars, length, found, due)
+			}
+		}
+	}
+	if many := (&pattern{stars: 1 << 40}).steps("x"); many < mostSteps || many > 2*mostSteps {
+		t.Errorf("%g", many)
+	}
+}
+
+// Lines are as wild as they may be, and no wilder: each by itself, and all together. It is told what is too much.
+func TestHowWildLinesMayBe(t *testing.T) {
+	all := strings.Split(strings.Repeat(strings.Repeat("?", mostWild/2)+"\n", mostWildOfAll/(mostWild/2)), "\n")
+	for why, row := range map[string]struct {
+		lines     []string
+		isTooWild bool
+	}{
+		"none":                         {nil, false},
+		"as many as a line may have":   {[]string{"ab" + strings.Repeat("*?[{,", mostWild/5) + "***?"[:mostWild%5]}, false},
+		"one more":                     {[]string{"ab" + strings.Repeat("*?[{,", mostWild/5) + "***?*"[:mostWild%5+1]}, true},
+		"as many as all may have":      {all, false},
+		"one more of all":              {append(all[:len(all):len(all)], "?"), true},
+		"as long as a line may be":     {[]string{strings.Repeat("]", mostPattern)}, false},
+		"a byte more":                  {[]string{strings.Repeat("]", mostPattern+1)}, true},
+		"as long as one may be, twice": {[]string{strings.Repeat("}", mostPattern), strings.Repeat("a", mostPattern)}, false},
+	} {
+		err := checkWild(row.lines)
+		if errors.Is(err, errTooWild) != row.isTooWild {
+			t.Errorf("%s: %v", why, err)
+		}
+		if err != nil && !strings.HasPrefix(err.Error(), "it has over 4096 bytes or 64 of the characters '*?[{,' on a line, or over 20000 of these: ") {
+			t.Errorf("%s: %v", why, err)
+		}
 	}
 }
 
