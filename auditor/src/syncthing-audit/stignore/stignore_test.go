@@ -218,7 +218,7 @@ func TestAFolderThatIsNamedFromHere(t *testing.T) {
 
 // Whether a directory that is kept out may be the folder's all the same is what Syncthing's own package says, line by line.
 func TestWhatTakesWhatIsIgnored(t *testing.T) {
-	lines := []string{"!/**", "!/**/**", "/**", "!/a", "!/a/**", "!/a/b", "!a", "!**/a", "a", "/a", "*", "!/a**", "!/*a", "(?d)!/a", "!/a/", "!*"}
+	lines := []string{"!/**", "!/**/**", "/**", "!/a", "!/a/**", "!/a/b", "!a", "!**/a", "a", "/a", "*", "!/a**", "!/*a", "(?d)!/a", "!/a/", "!*", "!//a"}
 	takes := 0
 	for _, first := range lines {
 		for _, second := range lines {
@@ -246,5 +246,14 @@ func TestWhatTakesWhatIsIgnored(t *testing.T) {
 	}
 	if takes < 300 {
 		t.Errorf("%d take what is ignored", takes)
+	}
+}
+
+// Patterns don't heed case where disks don't.
+func TestSystemsThatDoNotHeedCase(t *testing.T) {
+	for system, is := range map[string]bool{"linux": false, "windows": true, "darwin": true, "freebsd": false, "": false} {
+		if FoldsCase(system) != is {
+			t.Errorf("%s: %v", system, !is)
+		}
 	}
 }

@@ -11,6 +11,7 @@ func TestDirectoriesThatTheNextScanIgnores(t *testing.T) {
 		"none":                           {[]string{"a", "b"}, 0},
 		"an empty one":                   {[]string{"a", "b/", "c"}, 1},
 		"the last one":                   {[]string{"a", "b/"}, 1},
+		"two, both empty":                {[]string{"b/", "c/"}, 2},
 		"one with a file in it":          {[]string{"b/", "b/c", "d"}, 0},
 		"one in one, both empty":         {[]string{"b/", "b/c/", "d"}, 2},
 		"one in one, with a file":        {[]string{"b/", "b/c/", "b/c/d"}, 0},
