@@ -126,7 +126,7 @@ func chosenPlainly(places []drawnPlace, bytes int64, isFault func(folder, name s
 
 // A plan asks for the names that a plain reading chooses, tells what waits beside them, and keeps in the history what was asked for of whom.
 func TestPlansByAPlainReading(t *testing.T) {
-	for seed := int64(0); seed < 60; seed++ {
+	for seed := int64(0); seed < 30; seed++ {
 		random := rand.New(rand.NewSource(seed))
 		kept, err := history.Open(filepath.Join(t.TempDir(), "history"))
 		if err != nil {

@@ -114,7 +114,7 @@ func (o *observing) dialAt(address *address, where string, look wire.Look) (*wir
 // dial connects to a device where it was reached before, or else where it announces that it is.
 func (o *observing) dial(at int) (*wire.Connection, error) {
 	address := &o.addresses[at]
-	look, _ := o.wanted(address.id)
+	look := o.lookAt(address.id)
 	var first error
 	if address.where != "" {
 		connection, err := o.dialAt(address, address.where, look)

@@ -19,7 +19,7 @@ var timeToConnect = 3 * time.Minute
 func (o *observing) listen() error {
 	o.failed, o.devices, o.walked = map[int]error{}, make([]*observe.Device, len(o.addresses)), map[int][]*observe.Walked{}
 	o.awaited, o.looks = map[protocol.DeviceID]chan *wire.Connection{}, map[protocol.DeviceID]wire.Look{}
-	o.isWaited, o.kept = map[protocol.DeviceID]bool{}, map[protocol.DeviceID]map[string]*observe.Kept{}
+	o.isWaited, o.isBegun, o.kept = map[protocol.DeviceID]bool{}, map[protocol.DeviceID]bool{}, map[protocol.DeviceID]map[string]*observe.Kept{}
 	if o.asked.Listen == "" {
 		return nil
 	}
@@ -65,31 +65,46 @@ func (o *observing) accept() {
 
 // takeIncoming takes the connection of a device that is awaited, and closes each other one before anything is said.
 func (o *observing) takeIncoming(raw net.Conn) {
-	connection, err := o.observer.Accept(context.Background(), raw, wire.Usual, o.wanted)
+	begun := protocol.EmptyDeviceID
+	connection, err := o.observer.Accept(context.Background(), raw, wire.Usual, func(id protocol.DeviceID) (wire.Look, bool) {
+		if !o.begin(id) {
+			return wire.Look{}, false
+		}
+		begun = id
+		return o.lookAt(id), true
+	})
 	if err != nil {
 		raw.Close()
+		o.mutex.Lock()
+		defer o.mutex.Unlock()
+		delete(o.isBegun, begun)
 		return
 	}
-	select {
-	case o.awaited[connection.Device] <- connection:
-	default:
-		connection.Close()
-	}
+	o.awaited[connection.Device] <- connection
 }
 
-// wanted gives what a look asks of a device, and whether the device is awaited at this moment: one that came back before the second looks begin would
-// say what it had then.
-func (o *observing) wanted(id protocol.DeviceID) (wire.Look, bool) {
+// lookAt gives what a look asks of a device.
+func (o *observing) lookAt(id protocol.DeviceID) wire.Look {
 	o.mutex.Lock()
 	defer o.mutex.Unlock()
-	return o.looks[id], o.isWaited[id]
+	return o.looks[id]
+}
+
+// begin says whether a device is awaited at this moment: one that came back before the second looks begin would say what it had then. One connection of it
+// is begun alone, as that writes the indexes of the look.
+func (o *observing) begin(id protocol.DeviceID) bool {
+	o.mutex.Lock()
+	defer o.mutex.Unlock()
+	is := o.isWaited[id] && !o.isBegun[id]
+	o.isBegun[id] = o.isBegun[id] || is
+	return is
 }
 
 // await says whether a device is awaited from now on.
 func (o *observing) await(id protocol.DeviceID, is bool) {
 	o.mutex.Lock()
 	defer o.mutex.Unlock()
-	o.isWaited[id] = is
+	o.isWaited[id], o.isBegun[id] = is, false
 }
 
 // connect connects to a device, or waits until it connects.

@@ -14,6 +14,7 @@ import (
 	"github.com/syncthing/syncthing/lib/protocol"
 	"syncthing-audit/discover"
 	"syncthing-audit/exit"
+	"syncthing-audit/fixture/stranger"
 	"syncthing-audit/message"
 	"syncthing-audit/wire"
 )
@@ -136,6 +137,13 @@ func (w *world) meeting(listen string) *observing {
 	return meeting
 }
 
+// isAwaited says whether a look waits for a device.
+func (o *observing) isAwaited(id protocol.DeviceID) bool {
+	o.mutex.Lock()
+	defer o.mutex.Unlock()
+	return o.isWaited[id]
+}
+
 // Devices connect by themselves where that is asked for: those alone that are awaited at that moment are taken.
 func TestDevicesThatConnectByThemselves(t *testing.T) {
 	hurry(t)
@@ -152,7 +160,7 @@ func TestDevicesThatConnectByThemselves(t *testing.T) {
 	if _, err := meeting.connect(0); !errors.Is(err, wire.Unreached) || !strings.HasSuffix(err.Error(), fmt.Sprintf("it didn't connect within %v", timeToConnect)) {
 		t.Errorf("%v", err)
 	}
-	if _, is := meeting.wanted(here.devices[0].ID); is {
+	if meeting.isAwaited(here.devices[0].ID) {
 		t.Error("a device is awaited that nobody waits for")
 	}
 	timeToConnect = 20 * time.Second
@@ -165,7 +173,7 @@ func TestDevicesThatConnectByThemselves(t *testing.T) {
 			}
 			met <- connection
 		}()
-		for is := false; !is; _, is = meeting.wanted(device.ID) {
+		for !meeting.isAwaited(device.ID) {
 			time.Sleep(time.Millisecond)
 		}
 		here.devices[1-place].Connect(t, at) // nobody waits for that one
@@ -176,7 +184,7 @@ func TestDevicesThatConnectByThemselves(t *testing.T) {
 			}
 			connection.Close()
 		}
-		if _, is := meeting.wanted(device.ID); is || len(meeting.awaited[here.devices[1-place].ID]) > 0 {
+		if meeting.isAwaited(device.ID) || len(meeting.awaited[here.devices[1-place].ID]) > 0 {
 			t.Errorf("device %d: it is still awaited, or the other one is taken", place)
 		}
 	}
@@ -191,44 +199,48 @@ func TestDevicesThatConnectByThemselves(t *testing.T) {
 	quiet.close()
 }
 
-// A device that connects once more than it is waited for isn't kept: the connection is closed.
+// Of a device that is awaited one connection is begun at a time, and none once one was taken: both would write its indexes. The end closes what nobody took.
 func TestAConnectionTooMany(t *testing.T) {
 	here := newWorld(t, 1, map[string]string{"a": "text"})
-	meeting := here.meeting("tcp://127.0.0.1:0")
+	meeting, device := here.meeting("tcp://127.0.0.1:0"), here.devices[0]
 	meeting.addresses = append(meeting.addresses, address{id: protocol.DeviceID{9}, where: "elsewhere:1"})
 	if err := meeting.listen(); err != nil {
 		t.Fatal(err)
 	}
-	defer meeting.close()
 	if err := meeting.open(); err != nil {
 		t.Fatal(err)
 	}
 	if len(meeting.awaited) != 1 {
 		t.Errorf("%d may connect", len(meeting.awaited))
 	}
-	device := here.devices[0]
-	meeting.await(device.ID, true)
 	listener, err := net.Listen("tcp", "127.0.0.1:0")
 	if err != nil {
 		t.Fatal(err)
 	}
 	defer listener.Close()
-	var ended [2]chan struct{}
-	for place := range ended {
-		ended[place] = device.Connect(t, listener.Addr().String())
+	connect := func() chan struct{} {
+		ended := device.Connect(t, listener.Addr().String())
 		raw, err := listener.Accept()
 		if err != nil {
 			t.Fatal(err)
 		}
 		meeting.takeIncoming(raw)
+		return ended
 	}
-	<-ended[1]
+	<-connect() // nobody waits yet
+	meeting.await(device.ID, true)
+	device.Change(func(state *stranger.State) { state.Hidden["docs"] = true })
+	<-connect() // it shares nothing
+	device.Change(func(state *stranger.State) { state.Hidden["docs"] = false })
+	first := connect()
+	<-connect() // one is there
 	select {
-	case <-ended[0]:
+	case <-first:
 		t.Error("the first one is closed")
-	case connection := <-meeting.awaited[device.ID]:
-		connection.Close()
+	default:
 	}
+	meeting.close()
+	<-first
 	raw := &closing{closed: make(chan struct{})}
 	meeting.takeIncoming(raw)
 	<-raw.closed

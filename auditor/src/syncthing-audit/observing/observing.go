@@ -41,6 +41,7 @@ type observing struct {
 	since     []*wire.Index                                  // of the second looks
 	found     string                                         // a directory for what is found
 	isWaited  map[protocol.DeviceID]bool                     // whether a look waits for the device now
+	isBegun   map[protocol.DeviceID]bool                     // whether a connection of it is taken, or is at its begin
 	read      atomic.Int64
 	first     time.Time // when the last first look was over
 	second    time.Time // when the first second look began
@@ -62,6 +63,13 @@ func (o *observing) wants(at int) observe.Asked {
 func (o *observing) close() {
 	if o.incoming != nil {
 		o.incoming.Close()
+	}
+	for _, awaited := range o.awaited {
+		select {
+		case connection := <-awaited: // it came when nobody waited any more
+			connection.Close()
+		default:
+		}
 	}
 	for _, index := range o.since {
 		index.Close()
