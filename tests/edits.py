@@ -4,7 +4,6 @@ An edit has a line 'file: PATH' of its crate, and pairs of lines 'old: TEXT' and
 that file. Where several lines 'old:' follow one another, they are the lines of one text.
 """
 
-import subprocess
 from pathlib import Path
 
 HERE = Path(__file__).resolve().parent
@@ -82,22 +81,6 @@ def turns():
             turn = []
         turn = turn + piece
     return made + [turn]
-
-
-def git(*words):
-    """What git says, empty where it has nothing to say."""
-    try:
-        return subprocess.run(["git", "-C", TOP, *words], capture_output=True, text=True).stdout.strip()
-    except OSError:
-        return ""
-
-
-def commits():
-    """The number of commits, by which a turn is chosen. A shallow clone doesn't know it: the commit's own id stands in its
-    place."""
-    if git("rev-parse", "--is-shallow-repository") == "true":
-        return int(git("rev-parse", "HEAD")[:8], 16)
-    return int(git("rev-list", "--count", "HEAD") or 0)
 
 
 def place_of(edit):

@@ -16,8 +16,8 @@ from concurrent.futures import ThreadPoolExecutor
 from itertools import islice
 from pathlib import Path
 
+from commits import commits
 from counting import Count
-from edits import commits
 
 SECONDS, LONGEST, AT_ONCE = 40, 5, 2
 # The statuses of each command where memory is there and nothing stands in the way of reading and writing.

@@ -17,8 +17,9 @@ import tempfile
 import time
 from pathlib import Path
 
+from commits import commits
 from counting import Count
-from edits import HERE, TOP, applied, commits, name_of
+from edits import HERE, TOP, applied, name_of
 
 # The crate whose tests must refuse them, the seconds after which a turn begins no other, and those after which one counts as hung.
 TESTS, SECONDS_OF_A_TURN, SECONDS_OF_ONE = "run_tests", 60, 1800

@@ -18,8 +18,9 @@ import sys
 import tempfile
 from pathlib import Path
 
+from commits import commits, git
 from counting import Count
-from edits import HERE, LENT, TOP, applied, commits, crates, edits_of, git, lent, name_of, place_of, turns
+from edits import HERE, LENT, TOP, applied, crates, edits_of, lent, name_of, place_of, turns
 
 
 def misfit(edit):

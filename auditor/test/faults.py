@@ -23,6 +23,7 @@ from pathlib import Path
 
 from exporting import PROGRAM, SAMPLE, auditor, go_environment, is_over, main, run
 from large_folders import rot
+from turn import turn
 
 ERRORS = {"openat": "EIO", "openat2": "EIO", "read": "EIO", "pread64": "EIO", "write": "ENOSPC", "pwrite64": "ENOSPC", "fsync": "EIO", "fdatasync": "EIO",
           "ftruncate": "ENOSPC", "linkat": "EIO", "renameat": "EIO", "unlinkat": "EIO", "mkdirat": "ENOSPC", "getdents64": "EIO", "newfstatat": "EIO",
@@ -34,12 +35,6 @@ SECONDS_OF_A_TRY = 60
 WORKERS = 2
 SETTLED, NOT_SETTLED, REFUSED, FAULT, PARTIAL, CRASHED, NOT_FOUND = 0, 1, 2, 5, 6, (134, -6), 127
 SIGNALS, KILLS = (270, 195) if ALL else (24, 16)
-
-
-def turn():
-    """Which slice is due: of the number of commits, so that the next test run has the next one."""
-    counted = subprocess.run(["git", "rev-list", "--count", "HEAD"], cwd=Path(__file__).parent, capture_output=True, text=True)
-    return int(counted.stdout or 0)
 
 
 def in_turn(places):

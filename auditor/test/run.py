@@ -151,8 +151,8 @@ def look(module, name, environment, deadline):
 
 def in_turn():
     """The classes, from the one on whose turn it is by the number of commits; from the first one without git."""
-    counted = subprocess.run(["git", "rev-list", "--count", "HEAD"], cwd=HERE, capture_output=True, text=True)
-    first = int(counted.stdout or 0) * COMMITS_APART % len(CLASSES)
+    from turn import turn
+    first = turn() * COMMITS_APART % len(CLASSES)
     return CLASSES[first:] + CLASSES[:first]
 
 

@@ -76,7 +76,7 @@ expect "a crate is proved that the program doesn't stand on" [ ! -e "$place/crat
 expect "the script loses what was built before" [ -e "$place/crates/low/out/kept" ]
 expect "the script loses what a run has left that was ended" [ -e "$place/crates/syncaudit/out/left" ]
 expect "the script leaves a copy of the crates" [ ! -e "$place/out/program" ]
-expect "the times of what was proved from nothing aren't kept" says 'seconds low 0' "$place/out/built/manifest"
+expect "the times of what was proved from nothing aren't kept" grep -qE '^seconds low [0-9]+$' "$place/out/built/manifest"
 script --version
 expect "--version doesn't tell that it was built here: $(cat "$work/error")" tells 'built here of these sources (a kit)'
 outdate
@@ -132,7 +132,7 @@ start() {
 
 # Of two runs one builds, which here ends once the other one waits for it.
 outdate
-export MEANWHILE="left=50; until grep -q waiting $work/one.error $work/two.error || [ \$left = 0 ]; do sleep 0.1; left=\$((left - 1)); done"
+export MEANWHILE="left=600; until grep -q waiting $work/one.error $work/two.error || [ \$left = 0 ]; do sleep 0.1; left=\$((left - 1)); done"
 start one
 first=$started
 start two
@@ -154,7 +154,7 @@ kill "$(cat "$work/outliving")"
 outdate
 MEANWHILE="trap '' PIPE; trap 'sleep 0.3; mkdir -p out; touch out/late; exit 1' TERM; touch $work/proving; sleep 5"
 start ended
-for _ in {1..50}; do
+for _ in {1..600}; do
   [ ! -e "$work/proving" ] || break
   sleep 0.1
 done
