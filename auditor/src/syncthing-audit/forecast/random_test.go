@@ -6,7 +6,8 @@ import (
 )
 
 // namesOfWorlds are names that hang together in one way or another.
-var namesOfWorlds = [][]string{{"a"}, {"d", "d/a"}, {"a", "b"}, {"d/a"}, {"a.sync-conflict-20240102-030405-ABCDEFG.txt", "a.txt"}, {"a", "b", "c"}, {"d", "d/a", "d/e", "d/e/b"}}
+var namesOfWorlds = [][]string{{"a"}, {"d", "d/a"}, {"a", "b"}, {"d/a"}, {"a.sync-conflict-20240102-030405-ABCDEFG.txt", "a.txt"}, {"a", "b", "c"}, {"d", "d/a", "d/e", "d/e/b"},
+	{"d", "d/a"}, {"d", "d/e", "d/e/a"}}
 
 // randomWorld draws a world of two or three devices: what they recorded and heard of each other, and what stands on their disks, agrees here and there.
 func randomWorld(random *rand.Rand) World {
