@@ -187,7 +187,7 @@ func (p *Patterns) takesIgnored() bool {
 	before := ""
 	for place := range p.patterns {
 		pattern := &p.patterns[place]
-		if before != "" && strings.TrimSuffix(pattern.text, "/**") == before {
+		if before != "" && pattern.text == before+"/**" {
 			continue
 		}
 		if !pattern.allowsSkipping() {
