@@ -1,7 +1,6 @@
 package command
 
 import (
-	"bytes"
 	"crypto/sha256"
 	"errors"
 	"fmt"
@@ -12,73 +11,19 @@ import (
 	"strings"
 	"testing"
 
-	"github.com/syncthing/syncthing/lib/config"
-	"github.com/syncthing/syncthing/lib/db"
-	"github.com/syncthing/syncthing/lib/db/backend"
-	"github.com/syncthing/syncthing/lib/events"
 	"github.com/syncthing/syncthing/lib/protocol"
-	"github.com/syncthing/syncthing/lib/tlsutil"
 	"syncthing-audit/adapt"
+	"syncthing-audit/fixture"
 	"syncthing-audit/part"
 	"syncthing-audit/shell"
 )
 
-// other is the device whose index is hostile.
-var other = protocol.DeviceID{7: 9}
-
-// homeOf makes a home with the folder docs, in whose index these are the other device's entries.
+// homeOf makes a home with the folder docs, in whose index these are the other device's entries, and one of its own.
 func homeOf(t *testing.T, name string, entries []protocol.FileInfo) string {
-	room := t.TempDir()
-	home, files := filepath.Join(room, "home"), filepath.Join(room, "files")
-	for _, path := range []string{home, filepath.Join(files, ".stfolder")} {
-		if err := os.MkdirAll(path, 0o755); err != nil {
-			t.Fatal(err)
-		}
-	}
-	certificate, err := tlsutil.NewCertificate(filepath.Join(home, "cert.pem"), filepath.Join(home, "key.pem"), "syncthing", 1)
-	if err != nil {
-		t.Fatal(err)
-	}
-	id := protocol.NewDeviceID(certificate.Certificate[0])
-	about := config.New(id)
-	about.SetDevice(config.DeviceConfiguration{DeviceID: id, Name: "one"})
-	about.SetDevice(config.DeviceConfiguration{DeviceID: other, Name: name})
-	folder := config.FolderConfiguration{ID: "docs", Path: files, MarkerName: ".stfolder", Label: name}
-	folder.Devices = []config.FolderDeviceConfiguration{{DeviceID: id}, {DeviceID: other}}
-	about.SetFolder(folder)
-	var text bytes.Buffer
-	if err := about.WriteXML(&text); err != nil {
-		t.Fatal(err)
-	}
-	if err := os.WriteFile(filepath.Join(home, "config.xml"), text.Bytes(), 0o600); err != nil {
-		t.Fatal(err)
-	}
-	fillIndex(t, filepath.Join(home, "index-v0.14.0.db"), entries)
-	return home
-}
-
-// fillIndex makes an index with these entries of the other device, and one of its own.
-func fillIndex(t *testing.T, path string, entries []protocol.FileInfo) {
-	opened, err := backend.Open(path, backend.TuningAuto)
-	if err != nil {
-		t.Fatal(err)
-	}
-	defer opened.Close()
-	index, err := db.NewLowlevel(opened, events.NoopLogger)
-	if err == nil {
-		err = db.UpdateSchema(index)
-	}
-	if err != nil {
-		t.Fatal(err)
-	}
-	set, err := db.NewFileSet("docs", index)
-	if err != nil {
-		t.Fatal(err)
-	}
-	set.SetIndexID(other, 7)
-	set.Update(other, entries)
-	set.Update(protocol.LocalDeviceID, []protocol.FileInfo{{Name: "own", Type: protocol.FileInfoTypeDirectory, ModifiedBy: 1,
-		Version: protocol.Vector{Counters: []protocol.Counter{{ID: 1, Value: 1}}}}})
+	home := fixture.NewHome(t, name)
+	home.Fill(t, home.Dir, []protocol.FileInfo{{Name: "own", Type: protocol.FileInfoTypeDirectory, ModifiedBy: 1,
+		Version: protocol.Vector{Counters: []protocol.Counter{{ID: 1, Value: 1}}}}}, entries)
+	return home.Dir
 }
 
 // partOf makes the part of a home, and reads it back: what is written is read.

@@ -182,7 +182,7 @@ func parse(text []byte) (*Config, error) {
 
 // check says what is wrong with what was read.
 func (c *Config) check() error {
-	for _, err := range []error{c.checkKnown(), c.checkCounts(), c.checkDevices(), c.checkNumbers()} {
+	for _, err := range []error{c.checkCounts(), c.checkDevices(), c.checkNumbers()} {
 		if err != nil {
 			return err
 		}
@@ -231,35 +231,15 @@ func (c *Config) checkCounts() error {
 	return nil
 }
 
-// checkDevices says what is wrong with the devices and folders, and which word is empty.
+// checkDevices says what is wrong with the devices and folders, and which word isn't given.
 func (c *Config) checkDevices() error {
-	empty := map[string]bool{}
 	for _, device := range c.Devices {
-		empty["device place"] = empty["device place"] || device.Place == ""
 		if _, err := device.Maps(); err != nil {
 			return err
 		}
 	}
-	for _, observed := range c.Observed {
-		empty["observed id"] = empty["observed id"] || observed.ID == ""
-		empty["observed address"] = empty["observed address"] || observed.Address == ""
-	}
-	for _, folder := range c.Folders {
-		empty["folder id"] = empty["folder id"] || folder.ID == ""
-	}
-	for _, parts := range c.Parts {
-		empty["parts directory"] = parts.Directory == ""
-	}
-	for _, budget := range c.Budget {
-		empty["budget bytes"] = budget.Bytes == ""
-	}
-	for _, mail := range c.Mail {
-		empty["mail to"] = mail.To == "" || strings.ContainsAny(mail.To, "\r\n")
-	}
-	for word, is := range empty {
-		if is {
-			return fmt.Errorf("<%s=\"..\"> isn't given", word)
-		}
+	if word := c.lacking(); word != "" {
+		return fmt.Errorf("<%s=\"..\"> isn't given", word)
 	}
 	switch {
 	case len(c.Devices)+len(c.Parts)+len(c.Observed) == 0:
@@ -270,6 +250,35 @@ func (c *Config) checkDevices() error {
 		return errors.New("of <observed> devices each <folder> is to be named")
 	}
 	return nil
+}
+
+// lacking gives the element and the word that it lacks; nothing where none does. An element without any word, and a word that is empty, are refused before
+// (checkText), so an element that has one word alone has it.
+func (c *Config) lacking() string {
+	for _, device := range c.Devices {
+		if device.Place == "" {
+			return "device place"
+		}
+	}
+	for _, parts := range c.Parts {
+		if parts.Directory == "" {
+			return "parts directory"
+		}
+	}
+	for _, observed := range c.Observed {
+		switch {
+		case observed.ID == "":
+			return "observed id"
+		case observed.Address == "":
+			return "observed address"
+		}
+	}
+	for _, mail := range c.Mail {
+		if strings.ContainsAny(mail.To, "\r\n") { // what stands behind would be a head of the mail
+			return "mail to"
+		}
+	}
+	return ""
 }
 
 // checkNumbers says which number isn't taken, and puts those that aren't given in place.

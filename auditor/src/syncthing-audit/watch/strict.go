@@ -21,16 +21,16 @@ func checkText(text []byte) error {
 		if err != nil {
 			return err
 		}
-		switch one := token.(type) {
+		switch token := token.(type) {
 		case xml.StartElement:
-			if err := checkElement(one, depth); err != nil {
+			if err := checkElement(token, depth); err != nil {
 				return err
 			}
 			depth++
 		case xml.EndElement:
 			depth--
 		case xml.CharData:
-			if said := bytes.TrimSpace(one); len(said) > 0 {
+			if said := bytes.TrimSpace(token); len(said) > 0 {
 				return fmt.Errorf("text stands between elements: %s", shell.Printable(string(said)))
 			}
 		}
