@@ -3,6 +3,7 @@ package page
 import (
 	"time"
 
+	"golang.org/x/exp/slices"
 	"syncthing-audit/finding"
 	"syncthing-audit/outside"
 	"syncthing-audit/shell"
@@ -100,12 +101,12 @@ func folderOf(told *summary.Summary, folder *summary.Folder) Folder {
 func wrongAt(folder *summary.Folder) (map[string]int64, int64) {
 	counts, listed := map[string]int64{}, int64(0)
 	for _, file := range folder.Files {
-		at := map[string]bool{}
+		at := []string{}
 		for _, fault := range file.Faults {
-			at[fault.Device] = true
-		}
-		for device := range at {
-			counts[device]++
+			if !slices.Contains(at, fault.Device) {
+				at = append(at, fault.Device)
+				counts[fault.Device]++
+			}
 		}
 		if len(at) > 0 {
 			listed++

@@ -82,6 +82,57 @@ func TestDaysOfTheStrip(t *testing.T) {
 	}
 }
 
+// Nights stay up to the last ones of a limit, and in their order.
+func TestHowManyNightsAreKept(t *testing.T) {
+	kept := &Kept{}
+	for count := 1; count <= MostNights+3; count++ {
+		kept.Add(Night{Wrong: int64(count)}, nil)
+		first := count - MostNights + 1
+		if first < 1 {
+			first = 1
+		}
+		if nights := kept.Nights; len(nights) != count-first+1 || nights[0].Wrong != int64(first) || nights[len(nights)-1].Wrong != int64(count) {
+			t.Fatalf("of %d nights there are %d, from %d to %d", count, len(nights), nights[0].Wrong, nights[len(nights)-1].Wrong)
+		}
+	}
+}
+
+// Of two nights of a day that went alike the later one stands in the strip, and of others the worse one.
+func TestTwoNightsOfADay(t *testing.T) {
+	worse := map[int]int{0: 0, 6: 1, 1: 2, 2: 3}
+	for first := range worse {
+		for second := range worse {
+			days := daysOf([]Night{{At: at.Add(-time.Minute), Status: first, Wrong: 1}, {At: at, Status: second, Wrong: 2}}, at, 1)
+			due := 1
+			if worse[second] >= worse[first] {
+				due = 2
+			}
+			if len(days) != 1 || !strings.HasSuffix(days[0].Words, fmt.Sprintf(", %d wrong", due)) {
+				t.Errorf("%d and %d: %+v", first, second, days)
+			}
+		}
+	}
+}
+
+// The head of a page says how the last night went and when, or of an answer without nights when that was.
+func TestTheHeadOfAPage(t *testing.T) {
+	for _, status := range []int{0, 1, 2, 6} {
+		nights := []Night{{At: at.Add(-26 * time.Hour), Status: 0, Words: "before"}, {At: at.Add(-3 * time.Hour), Status: status, Words: "last"}}
+		for _, last := range [][]Night{nights[1:], nights} {
+			shown := view{}
+			shown.addHead(&Kept{Nights: last, Answers: []Answer{{Status: 6, At: at}}}, at)
+			if shown.Kind != signOf(status).Kind || shown.Sign != signOf(status).Sign || shown.Words != "last" || shown.When != "The last night was 2026-11-29 04:30 CET, 3 hours ago." || len(shown.Warnings) > 0 {
+				t.Errorf("status %d: %+v", status, shown)
+			}
+		}
+		shown := view{}
+		shown.addHead(&Kept{Answers: []Answer{{Status: status, At: at.Add(-48 * time.Hour)}, {Status: 6, At: at}}}, at)
+		if shown.sign != signOf(status) || shown.When != "Audited 2026-11-27 07:30 CET." {
+			t.Errorf("an answer of status %d: %+v", status, shown)
+		}
+	}
+}
+
 // What is kept is read again. The last nights stay, and of an audit without an answer what it saw before.
 func TestWhatNightsLeave(t *testing.T) {
 	directory := t.TempDir()
@@ -123,12 +174,13 @@ func TestWhatNightsLeave(t *testing.T) {
 // The grid has each folder on each device: what is wrong there, what was left out, and how old its readings are.
 func TestTheGridOfAnAnswer(t *testing.T) {
 	told := &summary.Summary{Devices: []summary.Device{{ID: "A", Name: "lap\x1b", Read: at}, {ID: "B", Name: "nas"}},
-		LeftOut: []summary.LeftOut{{Folder: "docs", Device: "nas", Why: "away\n"}, {Folder: "docs", Device: "phone", Why: "off"}, {Device: "off:", Why: "no route"}, {Folder: "pics", Why: "odd"}},
+		LeftOut: []summary.LeftOut{{Folder: "docs", Device: "nas", Why: "away\n"}, {Folder: "docs", Device: "phone", Why: "off"}, {Device: "off:", Why: "no route"}, {Folder: "pics", Why: "odd"},
+			{Folder: "firm", Why: "odd"}, {Folder: "loose", Device: "lap\x1b", Why: "late"}},
 		Earlier: []summary.LeftOut{{Folder: "music", Device: "B", Why: "change 9"}},
 		Since:   &history.Since{Read: []history.Read{{Folder: "docs", Device: "A", Files: 5, Bytes: 7, Oldest: at, OldestName: "a\x1b"}, {Folder: "pics", Device: "A", Files: 1}}},
 		Folders: []*summary.Folder{
 			{ID: "docs", Label: "Documents", Verdict: summary.NotInStep, Names: 9, Wrong: 4, Live: &summary.Live{Moving: 3}, Devices: []summary.Member{{Device: "A"}},
-				Files:  []*summary.File{{Faults: []summary.Fault{{Device: "A"}, {Device: "A"}}}, {}},
+				Files:  []*summary.File{{Faults: []summary.Fault{{Device: "A"}, {Device: "A"}}}, {}, {}},
 				Groups: []*summary.Group{{Devices: []string{"A", "B"}, Names: 2}}},
 			{ID: "music", Verdict: summary.AsFar, Devices: []summary.Member{{Device: "A"}, {Device: "B"}}},
 			{ID: "firm", Verdict: summary.InStep, Firm: finding.IsFirm}, {ID: "loose", Verdict: summary.InStep}}}
@@ -144,17 +196,20 @@ func TestTheGridOfAnAnswer(t *testing.T) {
 	if fmt.Sprint(docs.Cells) != fmt.Sprint(expected) {
 		t.Errorf("%+v", docs.Cells)
 	}
-	if one := made.Folders[1].Cells; len(one) != 2 || one[1].LeftOut != "change 9" || one[0].LeftOut != "" || one[0].IsLeast {
-		t.Errorf("%+v", one)
+	if music := made.Folders[1].Cells; len(music) != 2 || music[1].LeftOut != "change 9" || music[0].LeftOut != "" || music[0].IsLeast {
+		t.Errorf("%+v", music)
+	}
+	if loose := made.Folders[3].Cells; len(loose) != 1 || loose[0].Device != "A" || len(made.Folders[2].Cells) != 0 {
+		t.Errorf("%+v", loose)
 	}
 	verdicts := []string{}
-	for _, one := range made.Folders {
-		verdicts = append(verdicts, one.Verdict)
+	for _, folder := range made.Folders {
+		verdicts = append(verdicts, folder.Verdict)
 	}
 	if strings.Join(verdicts, "|") != "NOT in step|in step as far as audited|in step and firm|in step" {
 		t.Error(verdicts)
 	}
-	if fmt.Sprint(made.LeftOut) != `[{docs of nas away\x0a} {docs of phone off} {off: no route} {pics odd} {music of B change 9}]` {
+	if fmt.Sprint(made.LeftOut) != `[{docs of nas away\x0a} {docs of phone off} {off: no route} {pics odd} {firm odd} {loose of lap\x1b late} {music of B change 9}]` {
 		t.Errorf("%v", made.LeftOut)
 	}
 	if len(made.Devices) != 3 || made.Devices[0].Name != `lap\x1b` || made.Devices[2].ID != "phone" {

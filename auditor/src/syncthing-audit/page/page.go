@@ -9,6 +9,7 @@ import (
 	"time"
 
 	"syncthing-audit/amount"
+	"syncthing-audit/exit"
 	"syncthing-audit/outside"
 )
 
@@ -75,7 +76,7 @@ type view struct {
 
 // Write writes the page of what nights left, or of one answer, at a time whose zone all times have. By is the program.
 func Write(to io.Writer, kept *Kept, at time.Time, by string) error {
-	shown := view{sign: sign{"none", "!", "no audit yet"}, Title: "Audit of Syncthing devices", Signs: []sign{signOf(0), signOf(6), signOf(1), signOf(-1), {"no", "·", "no audit"}}}
+	shown := view{sign: sign{"none", "!", "no audit yet"}, Title: "Audit of Syncthing devices", Signs: []sign{signOf(exit.Done), signOf(exit.Partial), signOf(exit.NotSettled), signOf(exit.Refused), {"no", "·", "no audit"}}}
 	shown.Made = fmt.Sprintf("Made by %s at %s. Nothing on this page changes by itself.", by, stamp(at, at))
 	for _, answer := range kept.Answers {
 		shown.Answers = append(shown.Answers, answer.view(at))
@@ -84,10 +85,10 @@ func Write(to io.Writer, kept *Kept, at time.Time, by string) error {
 	shown.addDays(kept, at)
 	var text strings.Builder
 	escape(reflect.ValueOf(&shown).Elem())
-	if err := form.Execute(&text, shown); err != nil {
-		return err
+	err := form.Execute(&text, shown)
+	if err == nil {
+		_, err = io.WriteString(to, text.String())
 	}
-	_, err := io.WriteString(to, text.String())
 	return err
 }
 
@@ -137,7 +138,7 @@ func (v *view) addDays(kept *Kept, at time.Time) {
 		month.Days = append(month.Days, dayView{sign{day.Kind, day.Sign, day.Words}, day.Date.Format("2"), day.Date.Format("2 January 2006") + ": " + day.Words})
 	}
 	for place := len(kept.Nights) - 1; place >= 0 && len(v.Loud) < mostLoud; place-- {
-		if night := kept.Nights[place]; night.Status != 0 {
+		if night := kept.Nights[place]; night.Status != exit.Done {
 			v.Loud = append(v.Loud, dayView{signOf(night.Status), "", stamp(night.At, at) + ": " + night.Words + night.numbers()})
 		}
 	}

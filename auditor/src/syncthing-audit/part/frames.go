@@ -62,7 +62,7 @@ func (f *frames) want(count int) ([]byte, error) {
 		}
 		read, err := f.from.Read(f.buffer[f.end:])
 		f.end += read
-		if errors.Is(err, io.EOF) {
+		if err == io.EOF {
 			break
 		}
 		if empty++; read > 0 {
@@ -107,26 +107,26 @@ func (f *frames) next(most int) (kind byte, text []byte, err error) {
 	there, err := f.want(bytesOfMark)
 	switch {
 	case err != nil:
-		return 0, nil, err
+		return kind, nil, err
 	case len(there) == 0:
-		return 0, nil, errMiddle
+		return kind, nil, errMiddle
 	}
 	kind = there[0]
 	length, digits := binary.Uvarint(there[1:])
 	switch {
 	case digits == 0:
-		return 0, nil, errMiddle
+		return kind, nil, errMiddle
 	case digits < 0:
-		return 0, nil, errors.New("its length is none")
+		return kind, nil, errors.New("its length is none")
 	case length > uint64(most):
-		return 0, nil, fmt.Errorf("it has over %d bytes", most)
+		return kind, nil, fmt.Errorf("it has over %d bytes", most)
 	}
 	whole := 1 + digits + int(length)
 	if there, err = f.want(whole); err != nil {
-		return 0, nil, err
+		return kind, nil, err
 	}
 	if len(there) < whole {
-		return 0, nil, errMiddle
+		return kind, nil, errMiddle
 	}
 	return kind, f.take(whole)[1+digits:], nil
 }

@@ -32,19 +32,19 @@ type packed struct {
 
 // newPacked reads a part's begin.
 func newPacked(from io.Reader) (*packed, error) {
-	made := &packed{frames: newFrames(from)}
+	read := &packed{frames: newFrames(from)}
 	due := begin + strconv.Itoa(encoding) + "\n"
-	there, err := made.want(len(due))
+	there, err := read.want(len(due))
 	switch {
 	case err != nil:
-		return nil, made.why(err)
+		return nil, read.why(err)
 	case len(there) < len(due) || string(there[:len(begin)]) != begin:
 		return nil, errors.New("it doesn't begin as one")
 	case string(there[:len(due)]) != due:
 		return nil, fmt.Errorf("it has another encoding; this program reads encodings 1 and %d", encoding)
 	}
-	made.take(len(due))
-	return made, nil
+	read.take(len(due))
+	return read, nil
 }
 
 // readHead reads the head.

@@ -92,7 +92,7 @@ func checkRest(rest *Rest) error {
 	if rest == nil || rest.Wanted == nil {
 		return nil
 	}
-	if one := rest.Wanted; one.Names < 0 || one.Bytes < 0 || one.Errors < int64(len(one.First)) || len(one.First) > MostErrors {
+	if wanted := rest.Wanted; wanted.Names < 0 || wanted.Bytes < 0 || wanted.Errors < int64(len(wanted.First)) || len(wanted.First) > MostErrors {
 		return errors.New("what Syncthing still needs there is none")
 	}
 	return nil

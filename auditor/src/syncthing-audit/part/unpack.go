@@ -5,6 +5,7 @@ import (
 	"fmt"
 	"unicode/utf8"
 
+	"google.golang.org/protobuf/encoding/protowire"
 	"syncthing-audit/limits"
 	"syncthing-audit/message"
 )
@@ -208,7 +209,7 @@ func (u *unpacker) differ(text []byte) *Differ {
 		case differCount:
 			differ.Count = int64(field.Value)
 		case differRange:
-			first, last := u.pair(field.Text)
+			first, last := u.pair(field.Text, rangeFirst, rangeLast)
 			differ.Ranges = append(differ.Ranges, [2]int64{int64(first), int64(last)})
 			u.checkLength(len(differ.Ranges))
 		case differRecorded:
@@ -241,7 +242,7 @@ func (u *unpacker) version(text []byte, version Version) Version {
 	version = version[:0]
 	for field, is := u.next(&text); is; field, is = u.next(&text) {
 		if field.Number == message.VersionCounter {
-			device, value := u.pair(field.Text)
+			device, value := u.pair(field.Text, message.CounterID, message.CounterValue)
 			version = append(version, [2]uint64{device, value})
 			u.checkLength(len(version))
 		}
@@ -249,13 +250,13 @@ func (u *unpacker) version(text []byte, version Version) Version {
 	return version
 }
 
-// pair reads a message of two numbers.
-func (u *unpacker) pair(text []byte) (first, second uint64) {
+// pair reads a message of two numbers, which have these fields.
+func (u *unpacker) pair(text []byte, one, other protowire.Number) (first, second uint64) {
 	for field, is := u.next(&text); is; field, is = u.next(&text) {
 		switch field.Number {
-		case 1:
+		case one:
 			first = field.Value
-		case 2:
+		case other:
 			second = field.Value
 		}
 	}

@@ -70,9 +70,9 @@ func NewWire(observer string, isOfRecords bool) *Wire {
 // WithoutAsked takes out what Syncthing itself was asked of each folder: of which kind it is, and what Syncthing does there.
 func (w *Wire) WithoutAsked() {
 	kept := []string{}
-	for _, one := range w.Unseen {
-		if one != UnseenKind && one != UnseenScans {
-			kept = append(kept, one)
+	for _, word := range w.Unseen {
+		if word != UnseenKind && word != UnseenScans {
+			kept = append(kept, word)
 		}
 	}
 	w.Unseen = kept
@@ -80,7 +80,7 @@ func (w *Wire) WithoutAsked() {
 
 // IsAsked says whether Syncthing itself was asked of each folder.
 func (h *Head) IsAsked() bool {
-	return slices.IndexFunc(h.Folders, func(one Folder) bool { return one.Rest == nil }) < 0
+	return slices.IndexFunc(h.Folders, func(folder Folder) bool { return folder.Rest == nil }) < 0
 }
 
 // IsOverWire says whether an observer made the part.

@@ -54,7 +54,6 @@ func (l *List[T]) begin() {
 	}
 	l.file, l.written = file, bufio.NewWriter(file)
 	l.encoder = json.NewEncoder(l.written)
-	l.encoder.SetEscapeHTML(false)
 }
 
 func (l *List[T]) fail(err error) {

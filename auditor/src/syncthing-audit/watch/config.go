@@ -285,11 +285,11 @@ func (c *Config) lacking() string {
 func (c *Config) checkNumbers() error {
 	for at := range c.Parts {
 		parts := &c.Parts[at]
+		if !(parts.Hours >= 0 && parts.Hours <= mostHours) {
+			return fmt.Errorf("hours=\"%v\" isn't taken: it is above 0, and at most %d", parts.Hours, mostHours)
+		}
 		if parts.Hours == 0 {
 			parts.Hours = usualHours
-		}
-		if !(parts.Hours > 0 && parts.Hours <= mostHours) {
-			return fmt.Errorf("hours=\"%v\" isn't taken: it is above 0, and at most %d", parts.Hours, mostHours)
 		}
 	}
 	for _, slices := range c.Slices {

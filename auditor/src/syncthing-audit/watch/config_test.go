@@ -162,6 +162,8 @@ func TestWordsThatAreNotGiven(t *testing.T) {
 	for _, row := range []struct{ was, is, told string }{
 		{observed, `<observed id="" address="b"/>` + observed, `<observed id="..">`}, {observed, observed + `<observed id="" address="b"/>`, `<observed id="..">`},
 		{observed, `<observed address="b"/>` + observed, `<observed id="..">`}, {observed, observed + `<observed address="b"/>`, `<observed id="..">`}, {observed, `<observed id="B"/>` + observed, `<observed address="..">`},
+		{`<device place="laptop:"/>`, `<device data="x"/>`, `<device place="..">`}, {`<device place="laptop:"/>`, `<device place="laptop:"/><device data="x"/>`, `<device place="..">`},
+		{`<parts directory="~/parts"`, `<parts`, `<parts directory="..">`},
 		{observed, `<observed id="B" address=""/>` + observed, `<observed address="..">`}, {observed, observed + `<observed id="B"/>`, `<observed address="..">`},
 		{folder, `<folder id=""/>` + folder, `<folder id="..">`}, {folder, folder + `<folder id=""/>`, `<folder id="..">`},
 		{`<mail to="me"/>`, `<mail to=""/>`, `<mail to="..">`}, {`<mail to="me"/>`, `<mail to="me&#10;Bcc: you"/>`, `<mail to="..">`}, {`<mail to="me"/>`, `<mail to="me&#13;Bcc: you"/>`, `<mail to="..">`},
@@ -170,6 +172,42 @@ func TestWordsThatAreNotGiven(t *testing.T) {
 		if err == nil || !strings.Contains(err.Error(), row.told+" isn't given") && !strings.Contains(err.Error(), strings.Replace(row.told, "..", "", 1)+" is empty") {
 			t.Errorf("%s: %v", row.is, err)
 		}
+	}
+}
+
+// One way to look at devices is enough, and all go together.
+func TestWhichDevicesANightHas(t *testing.T) {
+	ways := []string{`<device place="laptop:"/>`, `<parts directory="~/parts"/>`, `<observed id="A" address="tcp://a:22000"/>`}
+	for chosen := 0; chosen < 1<<len(ways); chosen++ {
+		text := `<watch><folder id="docs"/>`
+		for place, way := range ways {
+			if chosen>>place&1 == 1 {
+				text += way
+			}
+		}
+		if _, err := parse([]byte(text + `</watch>`)); (err == nil) != (chosen > 0) {
+			t.Errorf("%s: %v", text, err)
+		}
+	}
+}
+
+// Hours are above 0, up to a limit; where none are given, the usual ones count.
+func TestHoursOfParts(t *testing.T) {
+	for hours, due := range map[string]float64{"": usualHours, ` hours="0.5"`: 0.5, ` hours="10000"`: 10000, ` hours="10000.5"`: 0, ` hours="-1"`: 0, ` hours="NaN"`: 0, ` hours="Inf"`: 0} {
+		read, err := parse([]byte(`<watch><parts directory="a"` + hours + `/></watch>`))
+		if (err == nil) != (due > 0) || err == nil && read.Parts[0].Hours != due {
+			t.Errorf("%s: %+v, %v", hours, read.Parts, err)
+		}
+	}
+}
+
+// What was told before an update of this program isn't told again: by the same words it is known.
+func TestWhatAnOlderProgramTold(t *testing.T) {
+	out := []summary.LeftOut{{Folder: "docs", Device: "nas", Kind: part.Absent, Why: "it is off"}}
+	before := Limits{"left out\x00docs\x00nas\x00absent": 4, "of another moment\x00docs\x00nas\x00absent": 1}
+	if lines, now := News(&summary.Summary{LeftOut: out, Earlier: out}, true, before); len(now) != 2 || now["left out\x00docs\x00nas\x00absent"] != 5 ||
+		fmt.Sprint(lines) != "[of another moment: docs of nas: it is off]" {
+		t.Errorf("%q, %q", lines, now)
 	}
 }
 

@@ -131,6 +131,9 @@ func TestWhatANightLeaves(t *testing.T) {
 	if about, err := os.Stat(path); err != nil || about.Mode().Perm() != 0o600 {
 		t.Errorf("%v, %v", about, err)
 	}
+	if about, err := os.Stat(filepath.Join(room, nameOfLock)); err != nil || about.Mode().Perm() != 0o600 {
+		t.Errorf("%v, %v", about, err)
+	}
 	if about, err := os.Stat(room); err != nil || about.Mode().Perm() != 0o700 {
 		t.Errorf("%v, %v", about, err)
 	}
@@ -154,6 +157,35 @@ func TestWhatANightLeaves(t *testing.T) {
 	}
 	if err := WriteWhole(filepath.Join(room, "none", "x"), "x", 0o600); err == nil {
 		t.Error("a file is written in no directory")
+	}
+}
+
+// A file is written whole, for those who may read it, also in another one's place; where it can't be put, what was there stays. Nothing stays open.
+func TestFilesThatAreWhole(t *testing.T) {
+	room := t.TempDir()
+	for _, mode := range []os.FileMode{0o600, 0o644} {
+		before := fixture.CountOpened(t, fixture.Any)
+		for _, text := range []string{"a", "", strings.Repeat("b", 1<<20)} {
+			path := filepath.Join(room, "file")
+			err := WriteWhole(path, text, mode)
+			found, unread := os.ReadFile(path)
+			about, unseen := os.Stat(path)
+			if err != nil || unread != nil || unseen != nil || string(found) != text || about.Mode() != mode {
+				t.Errorf("%d bytes for %v: %v, %v, %v", len(text), mode, err, unread, about)
+			}
+		}
+		if after := fixture.CountOpened(t, fixture.Any); after != before {
+			t.Errorf("%d files were open, and %d are", before, after)
+		}
+	}
+	if err := os.MkdirAll(filepath.Join(room, "directory", "below"), 0o700); err != nil {
+		t.Fatal(err)
+	}
+	if err := WriteWhole(filepath.Join(room, "directory"), "x", 0o600); err == nil {
+		t.Error("a directory has become a file")
+	}
+	if entries, err := os.ReadDir(room); err != nil || len(entries) != 2 {
+		t.Errorf("%v, %v", entries, err)
 	}
 }
 
