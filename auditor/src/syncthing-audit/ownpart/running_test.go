@@ -36,6 +36,7 @@ func TestWhereTheIndexIs(t *testing.T) {
 		{why: "beside, and nobody says when Syncthing was started", isMade: true},
 		{why: "beside, and written since it was started", said: answers{status: startedAt(now.Add(-time.Hour))}, isOwn: true, isMade: true},
 		{why: "beside, and not written since", said: answers{status: startedAt(now.Add(time.Hour)), paths: {`{"baseDir-data":"/srv/data"}`}}, data: "/srv/data", isOwn: true, isMade: true},
+		{why: "beside, and not written since, as in a container", said: answers{status: startedAt(now.Add(time.Hour)), paths: {`{"baseDir-data":"/var/lib/data"}`}}, data: "/srv/lib/data", isOwn: true, isMade: true},
 		{why: "beside, not written since, and nobody says where it is", said: answers{status: startedAt(now.Add(time.Hour))},
 			told: ": Syncthing runs, and it hasn't written to the index there since it was started: it has its database elsewhere. Name that behind the home as --data DIR. " +
 				"It can't be asked where it is: this Syncthing doesn't say it"},
@@ -226,5 +227,41 @@ func TestWhatIsSharedIsTold(t *testing.T) {
 		if told == "" && (!strings.Contains(text.String(), `"id":"docs"`) || strings.Contains(text.String(), home.Files)) {
 			t.Errorf("%s", text.String())
 		}
+	}
+}
+
+// A container's home, whose paths its machine has elsewhere, and whose index is in another directory, is looked at as any other.
+func TestTheHomeOfAContainer(t *testing.T) {
+	home := homeOf(t)
+	room, data := filepath.Dir(home.Files), move(t, home)
+	home.Config.Folders[0].Path = "/var/syncthing/files"
+	questions := listen(t, home, answers{"/rest/db/scan?folder=docs": {""}, "/rest/db/status?folder=docs": {`{"state":"idle"}`}})
+	to, err := device.ParseMap("/var/syncthing=" + room)
+	if err != nil {
+		t.Fatal(err)
+	}
+	asked := askedOf(home)
+	asked.Data[0], asked.Maps[0] = data, device.Maps{to}
+	release := hold(t, data)
+	asked.Rescan = true
+	var about strings.Builder
+	if err := TellAbout(asked, writeTo(&about), io.Discard); err != nil || !strings.Contains(about.String(), `"folders":[{"id":"docs"`) {
+		t.Errorf("%s, %v", about.String(), err)
+	}
+	head, names, token, _ := begin(t, asked, func() {})
+	if namesIn(names) != "a b" || fmt.Sprint(*questions) != "[POST /rest/db/scan?folder=docs]" {
+		t.Errorf("%v, %q", namesIn(names), *questions)
+	}
+	asked.Rescan = false
+	if second, names, _ := end(t, asked, token); namesIn(names) != "a b" || second.Folders[0].Rest == nil || second.Folders[0].Rest.State != part.RestIdle || second.Look.Home != head.Look.Home {
+		t.Errorf("%v, %+v", namesIn(names), second.Folders[0].Rest)
+	}
+	release()
+	var text strings.Builder
+	if err := Write(asked, writeTo(&text), io.Discard); err != nil {
+		t.Fatal(err)
+	}
+	if _, names, _ := read(t, strings.NewReader(text.String())); namesIn(names) != "a b" {
+		t.Error(namesIn(names))
 	}
 }

@@ -3,6 +3,7 @@
 package secret
 
 import (
+	"crypto/cipher"
 	"crypto/sha256"
 	"encoding/base32"
 	"errors"
@@ -24,38 +25,39 @@ const (
 // Key is that of a folder, or of a file in it.
 type Key [32]byte
 
-// OfFolder gives a folder's key. It takes a tenth of a second, on purpose.
-func OfFolder(folder, password string) (*Key, error) {
-	text, err := scrypt.Key([]byte(password), known(folder), 32768, 8, 1, len(Key{}))
+// sure gives what fails for another length of a key or for other numbers alone than it is given here.
+func sure[Any any](given Any, err error) Any {
 	if err != nil {
-		return nil, err
+		panic(err)
 	}
-	made := new(Key)
-	copy(made[:], text)
-	return made, nil
+	return given
+}
+
+// OfFolder gives a folder's key. It takes a tenth of a second, on purpose.
+func OfFolder(folder, password string) *Key {
+	key := new(Key)
+	copy(key[:], sure(scrypt.Key([]byte(password), known(folder), 32768, 8, 1, len(key))))
+	return key
 }
 
 // known is what all devices that share a folder know.
 func known(folder string) []byte { return []byte("syncthing" + folder) }
 
 // OfFile gives the key of a file, which has this name for those who know the password.
-func (k *Key) OfFile(name string) (*Key, error) {
-	made := new(Key)
-	_, err := io.ReadFull(hkdf.New(sha256.New, append(append([]byte{}, k[:]...), name...), []byte("syncthing"), nil), made[:])
-	return made, err
+func (k *Key) OfFile(name string) *Key {
+	key := new(Key)
+	sure(io.ReadFull(hkdf.New(sha256.New, append(append([]byte{}, k[:]...), name...), []byte("syncthing"), nil), key[:]))
+	return key
 }
 
 // Token gives what devices tell each other to see that they have the same password of a folder.
-func (k *Key) Token(folder string) ([]byte, error) { return k.seal(known(folder)) }
+func (k *Key) Token(folder string) []byte { return k.seal(known(folder)) }
 
 // seal encrypts the same bytes always in the same way.
-func (k *Key) seal(data []byte) ([]byte, error) {
-	cipher, err := miscreant.NewAEAD("AES-SIV", k[:], 0)
-	if err != nil {
-		return nil, err
-	}
-	return cipher.Seal(nil, nil, data, nil), nil
-}
+func (k *Key) seal(data []byte) []byte { return k.siv().Seal(nil, nil, data, nil) }
+
+// siv gives what encrypts names and tokens.
+func (k *Key) siv() cipher.AEAD { return sure(miscreant.NewAEAD("AES-SIV", k[:], 0)) }
 
 var base32Hex = base32.HexEncoding.WithPadding(base32.NoPadding)
 
@@ -66,20 +68,13 @@ const (
 )
 
 // Encrypted gives the name under which an untrusted device has a name.
-func (k *Key) Encrypted(name string) (string, error) {
-	sealed, err := k.seal([]byte(name))
-	if err != nil {
-		return "", err
-	}
-	text := base32Hex.EncodeToString(sealed)
+func (k *Key) Encrypted(name string) string {
+	text := base32Hex.EncodeToString(k.seal([]byte(name)))
 	parts := []string{text[:1] + ending, text[1:3]}
 	for text = text[3:]; len(text) > mostComponent; text = text[mostComponent:] {
 		parts = append(parts, text[:mostComponent])
 	}
-	if text != "" {
-		parts = append(parts, text)
-	}
-	return strings.Join(parts, "/"), nil
+	return strings.Join(append(parts, text), "/")
 }
 
 // ErrName says that a name isn't one that was encrypted with this key.
@@ -94,11 +89,7 @@ func (k *Key) Name(encrypted string) (string, error) {
 	if err != nil {
 		return "", ErrName
 	}
-	cipher, err := miscreant.NewAEAD("AES-SIV", k[:], 0)
-	if err != nil {
-		return "", err
-	}
-	name, err := cipher.Open(nil, nil, sealed, nil)
+	name, err := k.siv().Open(nil, nil, sealed, nil)
 	if err != nil {
 		return "", ErrName
 	}
@@ -113,13 +104,10 @@ func (k *Key) Open(data []byte) ([]byte, error) {
 	if len(data) < Overhead {
 		return nil, ErrData
 	}
-	cipher, err := chacha20poly1305.NewX(k[:])
-	if err != nil {
-		return nil, err
-	}
-	made, err := cipher.Open(nil, data[:cipher.NonceSize()], data[cipher.NonceSize():], nil)
+	cipher := sure(chacha20poly1305.NewX(k[:]))
+	plain, err := cipher.Open(nil, data[:cipher.NonceSize()], data[cipher.NonceSize():], nil)
 	if err != nil {
 		return nil, ErrData
 	}
-	return made, nil
+	return plain, nil
 }

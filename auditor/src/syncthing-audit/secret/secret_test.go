@@ -5,35 +5,27 @@ import (
 	"errors"
 	"strings"
 	"testing"
+
+	"golang.org/x/crypto/chacha20poly1305"
 )
 
 // key is the one of lib/protocol's own test.
-func key(t *testing.T) *Key {
-	t.Helper()
-	made, err := OfFolder("my folder", "my password")
-	if err != nil {
-		t.Fatal(err)
-	}
-	return made
-}
+func key() *Key { return OfFolder("my folder", "my password") }
 
 // A name and some bytes that lib/protocol's own test has are what they are there.
 func TestWhatSyncthingEncrypts(t *testing.T) {
-	folder := key(t)
-	encrypted, err := folder.Encrypted("filename.txt")
-	if err != nil || strings.ReplaceAll(strings.Replace(encrypted, ending, "", 1), "/", "") != "3T5957I4IOA20VEIEER6JSQG0PEPIRV862II3K7LOF75Q" || encrypted[:18] != "3.syncthing-enc/T5" {
-		t.Errorf("%s, %v", encrypted, err)
+	folder := key()
+	encrypted := folder.Encrypted("filename.txt")
+	if strings.ReplaceAll(strings.Replace(encrypted, ending, "", 1), "/", "") != "3T5957I4IOA20VEIEER6JSQG0PEPIRV862II3K7LOF75Q" || encrypted[:18] != "3.syncthing-enc/T5" {
+		t.Error(encrypted)
 	}
-	file, err := folder.OfFile("filename.txt")
-	if err != nil {
-		t.Fatal(err)
-	}
+	file := folder.OfFile("filename.txt")
 	sealed, err := base32Hex.DecodeString("A1IPD28ISL7VNPRSSSQM2L31L3IJPC08283RO89J5UG0TI9P38DO9RFGK12DK0KD7PKQP6U51UL2B6H96O")
 	if err != nil {
 		t.Fatal(err)
 	}
-	if made, err := file.Open(sealed); err != nil || string(made) != "hello world" {
-		t.Errorf("%q, %v", made, err)
+	if plain, err := file.Open(sealed); err != nil || string(plain) != "hello world" {
+		t.Errorf("%q, %v", plain, err)
 	}
 	for at := range sealed { // rot of any byte is seen
 		sealed[at] ^= 1
@@ -52,16 +44,30 @@ func TestWhatSyncthingEncrypts(t *testing.T) {
 	}
 }
 
+// What is encrypted comes back, of each length; nothing has the nonce and the tag alone.
+func TestWhatIsOpened(t *testing.T) {
+	file := key().OfFile("a")
+	sealing, err := chacha20poly1305.NewX(file[:])
+	if err != nil {
+		t.Fatal(err)
+	}
+	for _, length := range []int{0, 1, LeastBlock} {
+		plain := bytes.Repeat([]byte{7}, length)
+		nonce := bytes.Repeat([]byte{9}, chacha20poly1305.NonceSizeX)
+		sealed := sealing.Seal(nonce, nonce, plain, nil)
+		if back, err := file.Open(sealed); err != nil || !bytes.Equal(back, plain) || len(sealed) != length+Overhead {
+			t.Errorf("%d bytes come back as %d of %d, %v", length, len(back), len(sealed), err)
+		}
+	}
+}
+
 // Each name comes back, in directories of names that aren't too long; what isn't encrypted with the key is told.
 func TestNames(t *testing.T) {
-	folder, other := key(t), new(Key)
+	folder, other := key(), new(Key)
 	for _, name := range []string{"", "a", "folder/large", strings.Repeat("x", 123), strings.Repeat("é", 300), strings.Repeat("d/", 700)} {
-		encrypted, err := folder.Encrypted(name)
-		if err != nil {
-			t.Fatal(err)
-		}
-		if made, err := folder.Name(encrypted); err != nil || made != name {
-			t.Errorf("%q comes back as %q, %v", name, made, err)
+		encrypted := folder.Encrypted(name)
+		if back, err := folder.Name(encrypted); err != nil || back != name {
+			t.Errorf("%q comes back as %q, %v", name, back, err)
 		}
 		for at, part := range strings.Split(encrypted, "/") {
 			if len(part) > mostComponent || len(part) == 0 || at == 1 && len(part) != 2 {
@@ -81,16 +87,9 @@ func TestNames(t *testing.T) {
 
 // The token is of both, the folder and its password.
 func TestToken(t *testing.T) {
-	first := key(t)
-	other, err := OfFolder("my folder", "my passwore")
-	if err != nil {
-		t.Fatal(err)
-	}
-	one, _ := first.Token("my folder")
-	two, _ := other.Token("my folder")
-	three, _ := first.Token("my folded")
-	again, err := key(t).Token("my folder")
-	if err != nil || bytes.Equal(one, two) || bytes.Equal(one, three) || !bytes.Equal(one, again) || len(one) == 0 {
-		t.Errorf("%x %x %x %x, %v", one, two, three, again, err)
+	token := key().Token("my folder")
+	ofPassword, ofFolder := OfFolder("my folder", "my passwore").Token("my folder"), key().Token("my folded")
+	if again := key().Token("my folder"); bytes.Equal(token, ofPassword) || bytes.Equal(token, ofFolder) || !bytes.Equal(token, again) || len(token) == 0 {
+		t.Errorf("%x %x %x %x", token, ofPassword, ofFolder, again)
 	}
 }

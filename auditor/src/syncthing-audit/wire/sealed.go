@@ -39,11 +39,7 @@ func (t *taker) open(entry protocol.FileInfo, text []byte) (string, []byte) {
 
 // opened gives the record of a name that was encrypted; nothing where it isn't one of this name.
 func (t *taker) opened(name string, data []byte) []byte {
-	key, err := t.key.OfFile(name)
-	if err != nil {
-		return nil
-	}
-	plain, err := key.Open(data)
+	plain, err := t.key.OfFile(name).Open(data)
 	if err != nil || limits.CheckName(name) != nil {
 		return nil
 	}
@@ -59,10 +55,7 @@ func (a *asker) lookSealed(ctx context.Context, entry device.Entry) (Found, erro
 	if entry.Record == nil || entry.Record.Type != int(protocol.FileInfoTypeFile) {
 		return Found{State: Missing}, nil // a directory or a symlink is a directory there; what else stands there isn't seen
 	}
-	name, err := a.of.key.Encrypted(entry.Name)
-	if err != nil {
-		return Found{}, err
-	}
+	name := a.of.key.Encrypted(entry.Name)
 	if entry.Record.Deleted || entry.Record.Content == nil {
 		state, err := a.probe(ctx, name)
 		if state == Present {
@@ -70,13 +63,9 @@ func (a *asker) lookSealed(ctx context.Context, entry device.Entry) (Found, erro
 		}
 		return Found{State: state}, err
 	}
-	key, err := a.of.key.OfFile(entry.Name)
-	if err != nil {
-		return Found{}, err
-	}
 	content := entry.Record.Content
 	found := Found{State: Same, Size: content.Size, BlockSize: content.BlockSize, Sealed: true, Blocks: make([][32]byte, len(entry.Blocks))}
-	state, err := a.sealedBlocks(ctx, name, key, &found)
+	state, err := a.sealedBlocks(ctx, name, a.of.key.OfFile(entry.Name), &found)
 	if err != nil || state != Same {
 		return Found{State: state}, err
 	}

@@ -27,19 +27,12 @@ type vault struct {
 }
 
 func newVault(t *testing.T) *vault {
-	key, err := secret.OfFolder("docs", passwordOfTest)
-	if err != nil {
-		t.Fatal(err)
-	}
-	return &vault{t: t, key: key, index: message.AppendText(nil, indexFolder, []byte("docs")), disk: map[string]string{}}
+	return &vault{t: t, key: secret.OfFolder("docs", passwordOfTest), index: message.AppendText(nil, indexFolder, []byte("docs")), disk: map[string]string{}}
 }
 
 // seal encrypts as a trusted device does.
 func (v *vault) seal(name string, data []byte) []byte {
-	key, err := v.key.OfFile(name)
-	if err != nil {
-		v.t.Fatal(err)
-	}
+	key := v.key.OfFile(name)
 	cipher, err := chacha20poly1305.NewX(key[:])
 	if err != nil {
 		v.t.Fatal(err)
@@ -51,13 +44,7 @@ func (v *vault) seal(name string, data []byte) []byte {
 	return append(nonce, cipher.Seal(nil, nonce, data, nil)...)
 }
 
-func (v *vault) encrypted(name string) string {
-	told, err := v.key.Encrypted(name)
-	if err != nil {
-		v.t.Fatal(err)
-	}
-	return told
-}
+func (v *vault) encrypted(name string) string { return v.key.Encrypted(name) }
 
 // add adds a record as the device sends it, with what is encrypted in it.
 func (v *vault) add(name string, inner []byte, more ...byte) {
@@ -87,10 +74,7 @@ func (v *vault) put(name, data string) {
 // open connects to the device with these passwords.
 func (v *vault) open(passwords map[string]string) (*Connection, *Observer, *fake, []byte, error) {
 	observer, answered := newObserver(v.t), make(chan []byte, 1)
-	token, err := v.key.Token("docs")
-	if err != nil {
-		v.t.Fatal(err)
-	}
+	token := v.key.Token("docs")
 	device := newFake(v.t, func(f *fake) {
 		f.hello()
 		own := message.AppendText(message.AppendNumber(message.AppendNumber(message.AppendText(nil, deviceID, f.id[:]), deviceSequence, v.next), deviceIndexID, 42), deviceToken, token)

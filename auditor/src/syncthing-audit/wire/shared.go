@@ -105,15 +105,11 @@ func keyOfFolder(folder *Folder, own Sharing, look Look) (*secret.Key, error) {
 	if !own.Encrypted || !is {
 		return nil, nil
 	}
-	key, err := secret.OfFolder(folder.ID, password)
-	if err != nil {
-		return nil, err
+	key := secret.OfFolder(folder.ID, password)
+	if subtle.ConstantTimeCompare(key.Token(folder.ID), folder.tokens[own.Device]) != 1 {
+		return key, OtherPassword
 	}
-	token, err := key.Token(folder.ID)
-	if err == nil && subtle.ConstantTimeCompare(token, folder.tokens[own.Device]) != 1 {
-		err = OtherPassword
-	}
-	return key, err
+	return key, nil
 }
 
 // whyNone says why no folder is observed.
