@@ -314,23 +314,20 @@ func checkTokens(read *gather.Device, asked commandline.Options, log io.Writer) 
 	if read.Look.After[read.ID] == "" {
 		return fmt.Errorf("refused: the tokens have none of this device, %s: make its first look with --begin", read.ID)
 	}
-	lacking, observers := map[string]bool{}, asked.KnownObservers()
+	lacking, observers := []string{}, asked.KnownObservers()
 	for _, folder := range read.Head().Folders {
 		for _, sharing := range folder.Sharing {
-			if read.Look.After[sharing.Device] == "" && !slices.Contains(observers, sharing.Device) {
-				lacking[sharing.Name+" ("+sharing.Device+")"] = true
+			called := sharing.Name + " (" + sharing.Device + ")"
+			if read.Look.After[sharing.Device] == "" && !slices.Contains(observers, sharing.Device) && !slices.Contains(lacking, called) {
+				lacking = append(lacking, called)
 			}
 		}
 	}
 	if len(lacking) == 0 || asked.LeaveOut[part.Absent] {
 		return nil
 	}
-	names := []string{}
-	for name := range lacking {
-		names = append(names, name)
-	}
-	sort.Strings(names)
-	told := fmt.Sprintf("the tokens have none of %s, with which folders are shared", strings.Join(names, ", "))
+	sort.Strings(lacking)
+	told := fmt.Sprintf("the tokens have none of %s, with which folders are shared", strings.Join(lacking, ", "))
 	if asked.Strict {
 		return fmt.Errorf("refused: %s: add them, or leave these devices out with --leave-out %s", told, part.Absent)
 	}

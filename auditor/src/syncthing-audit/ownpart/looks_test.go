@@ -1,6 +1,7 @@
 package ownpart
 
 import (
+	"bufio"
 	"bytes"
 	"errors"
 	"fmt"
@@ -12,8 +13,8 @@ import (
 	"testing"
 	"time"
 
+	"github.com/syncthing/syncthing/lib/protocol"
 	"syncthing-audit/commandline"
-	"syncthing-audit/device"
 	"syncthing-audit/fixture"
 	"syncthing-audit/looks"
 	"syncthing-audit/part"
@@ -50,7 +51,7 @@ func end(t *testing.T, asked commandline.Options, tokens string) (*part.Head, ma
 func TestBothLooks(t *testing.T) {
 	home := homeOf(t)
 	listen(t, home, answers{"/rest/db/status?folder=docs": {`{"state":"idle"}`}})
-	defer hold(t, home.Dir)()
+	release := hold(t, home.Dir)
 	asked := askedOf(home)
 	before := time.Now()
 	isWritten := false
@@ -65,6 +66,11 @@ func TestBothLooks(t *testing.T) {
 	if age := looks.AgeOf(told); age > between.Sub(before) || !strings.HasPrefix(told, "syncthing-audit: the first look was over ") || strings.Count(told, "\n") != 1 {
 		t.Errorf("the look was over %v ago: %q", age, told)
 	}
+	waiting := fileEntry(t, home, "c", "gamma", 3)
+	waiting.LocalFlags = protocol.FlagLocalMustRescan
+	release()
+	home.Fill(t, home.Dir, []protocol.FileInfo{waiting}, nil)
+	hold(t, home.Dir)
 	other := looks.Token(fixture.Other.String(), strings.Repeat("ab", 16))
 	second, names, told := end(t, asked, token+other+"\n")
 	if second.Look == nil || !second.Look.IsSecond() || second.Look.After[first.Device] != first.Look.ID || len(second.Look.After) != 2 || second.Look.Home != first.Look.Home {
@@ -73,7 +79,10 @@ func TestBothLooks(t *testing.T) {
 	if second.Look.At.Before(between) || second.Look.At.After(time.Now()) || second.Look.At.Location() != time.UTC {
 		t.Errorf("%v", second.Look.At)
 	}
-	if namesIn(names) != "a b" || len(names["a"].Disk.Contents) != 0 || told != "" || second.Folders[0].Rest == nil || second.Folders[0].Rest.State != part.RestIdle {
+	if fmt.Sprint(names["c"].Moved) != "["+part.MovedUnscanned+"]" {
+		t.Errorf("%+v", names["c"])
+	}
+	if namesIn(names) != "a b c" || len(names["a"].Disk.Contents) != 0 || told != "" || second.Folders[0].Rest == nil || second.Folders[0].Rest.State != part.RestIdle {
 		t.Errorf("%v, %q, %+v", namesIn(names), told, second.Folders[0].Rest)
 	}
 }
@@ -88,7 +97,21 @@ func TestAFirstLookOnStandardOutput(t *testing.T) {
 	if err := os.Chtimes(filepath.Join(home.Dir, "config.xml"), later, later); err != nil {
 		t.Fatal(err)
 	}
+	newer := filepath.Join(os.Getenv("HOME"), ".config/syncthing", fixture.NameOfIndex)
+	err := os.MkdirAll(newer, 0o700)
+	if err == nil {
+		err = os.WriteFile(filepath.Join(newer, "CURRENT"), nil, 0o600)
+	}
+	if err == nil {
+		err = os.Chtimes(filepath.Join(newer, "CURRENT"), later, later)
+	}
+	if err != nil {
+		t.Fatal(err)
+	}
 	head, _, output, told := begin(t, asked, func() {})
+	if head.Newer != nil || strings.Contains(told, newer) {
+		t.Errorf("another index is told as the present one: %s", told)
+	}
 	if output != "" || !strings.HasSuffix(told, looks.Token(head.Device, head.Look.ID)+"\n") {
 		t.Errorf("%q, %q", output, told)
 	}
@@ -218,73 +241,54 @@ func TestNothingIsWrittenUntilAllIs(t *testing.T) {
 	if err := writeWhole(writeTo(&text), func(to io.Writer) error { _, err := io.WriteString(to, "whole"); return err }); err != nil || text.String() != "whole" {
 		t.Errorf("%q, %v", text.String(), err)
 	}
+	t.Setenv("TMPDIR", "/nowhere")
+	if err := writeWhole(writeTo(&text), func(io.Writer) error { return failed }); err == nil || errors.Is(err, failed) {
+		t.Errorf("where there is no room: %v", err)
+	}
+	t.Setenv("TMPDIR", "")
 	if err := writeWhole(writeTo(failing{failed}), func(to io.Writer) error { _, err := io.WriteString(to, "whole"); return err }); !errors.Is(err, failed) {
 		t.Errorf("a place that can't be written: %v", err)
 	}
 }
 
-// Tokens come from several files, and from standard input where a dash stands for it; what is none is told with its file.
-func TestTokensOfFiles(t *testing.T) {
-	home := homeOf(t)
-	one, other := looks.Token(home.ID.String(), strings.Repeat("ab", 16)), looks.Token(fixture.Other.String(), strings.Repeat("cd", 16))
-	stdin, err := os.Open(tokenFile(t, other))
-	if err != nil {
-		t.Fatal(err)
+// breaking is a log whose first line breaks something.
+type breaking struct{ broken func() }
+
+func (b *breaking) Write(text []byte) (int, error) {
+	if b.broken != nil {
+		b.broken()
+		b.broken = nil
 	}
-	defer stdin.Close()
-	was := os.Stdin
-	os.Stdin = stdin
-	t.Cleanup(func() { os.Stdin = was })
-	tokens, err := readTokens([]string{tokenFile(t, one), "-"})
-	if err != nil || len(tokens) != 2 || tokens[home.ID.String()] != strings.Repeat("ab", 16) || tokens[fixture.Other.String()] != strings.Repeat("cd", 16) {
-		t.Errorf("%v, %v", tokens, err)
-	}
-	path := tokenFile(t, "x")
-	if tokens, err := readTokens([]string{path}); err == nil || !strings.HasPrefix(err.Error(), "refused: "+path+": ") || tokens != nil {
-		t.Errorf("%v, %v", tokens, err)
-	}
+	return len(text), nil
 }
 
-// A device that shares a folder, and whose first look isn't known to be over, is told once; a strict look without consent is refused. An observer looks by itself.
-func TestDevicesWithoutATokenAreTold(t *testing.T) {
-	home := homeOf(t)
-	addFolder(t, home, "pics", filepath.Join(t.TempDir(), "pics"), false)
-	pics := &home.Config.Folders[1]
-	pics.Devices = append(pics.Devices, home.Config.Folders[0].Devices...)
-	home.Configure(t)
-	if err := os.MkdirAll(filepath.Join(pics.Path, ".stfolder"), 0o700); err != nil {
-		t.Fatal(err)
-	}
-	own, other := home.ID.String(), fixture.Other.String()
-	told := "the tokens have none of server (" + other + "), with which folders are shared"
-	for why, row := range map[string]struct {
-		change func(*commandline.Options)
-		tokens map[string]string
-		told   string
-		isMade bool
+// What goes away between the index and the disk is told, and there is no token.
+func TestWhatGoesAwayDuringALook(t *testing.T) {
+	for what, row := range map[string]struct {
+		broken    func(*fixture.Home)
+		endsAlike bool
 	}{
-		"all":                  {func(*commandline.Options) {}, map[string]string{own: "a", other: "b"}, "", true},
-		"one lacks":            {func(*commandline.Options) {}, map[string]string{own: "a"}, "syncthing-audit: " + told + ": an audit leaves these devices out\n", true},
-		"it is left out":       {func(o *commandline.Options) { o.LeaveOut[part.Absent] = true }, map[string]string{own: "a"}, "", true},
-		"it is an observer":    {func(o *commandline.Options) { o.Observers = []string{other} }, map[string]string{own: "a"}, "", true},
-		"strict":               {func(o *commandline.Options) { o.Strict = true }, map[string]string{own: "a"}, "refused: " + told + ": add them, or leave these devices out with --leave-out absent", false},
-		"strict, and left out": {func(o *commandline.Options) { o.Strict, o.LeaveOut[part.Absent] = true, true }, map[string]string{own: "a"}, "", true},
-		"strict, and whole":    {func(o *commandline.Options) { o.Strict = true }, map[string]string{own: "a", other: "b"}, "", true},
+		"the folder":         {func(home *fixture.Home) { removeAll(t, home.Files) }, false},
+		"the index":          {func(home *fixture.Home) { removeAll(t, filepath.Join(home.Dir, fixture.NameOfIndex)) }, true},
+		"the temporary room": {func(*fixture.Home) { os.Setenv("TMPDIR", "/nowhere") }, false},
 	} {
-		asked := askedOf(home)
-		row.change(&asked)
-		opened, err := openSource(device.OpenLive, asked, io.Discard)
-		if err != nil {
-			t.Fatal(err)
-		}
-		opened.read.Look = &part.Look{After: row.tokens}
-		var log strings.Builder
-		if err = checkTokens(opened.read, asked, &log); err != nil {
-			log.WriteString(err.Error())
-		}
-		opened.Close()
-		if (err == nil) != row.isMade || log.String() != row.told {
-			t.Errorf("%s: %q, not %q", why, log.String(), row.told)
+		for _, isEnd := range []bool{false, true} {
+			t.Setenv("TMPDIR", "")
+			home := homeOf(t)
+			asked := askedOf(home)
+			asked.Folders = []string{"docs", "music"} // of which one is told to be lacking, once the index is open
+			var output strings.Builder
+			log := &breaking{func() { row.broken(home) }}
+			var err error
+			if isEnd {
+				asked.End, asked.Tokens = true, []string{tokenFile(t, looks.Token(home.ID.String(), strings.Repeat("ab", 16)))}
+				err = End(asked, writeTo(&output), log)
+			} else {
+				err = Begin(asked, writeTo(io.Discard), &output, log)
+			}
+			if (!isEnd || row.endsAlike) && (err == nil || output.Len() > 0) || log.broken != nil {
+				t.Errorf("%s, second look %v: %v, %q", what, isEnd, err, output.String())
+			}
 		}
 	}
 }
@@ -295,37 +299,52 @@ const envOfInput = "SYNCTHING_AUDIT_TEST_HEEDS_INPUT"
 // The end of standard input ends a first look as a hangup does, also where nobody reads what it tells. While the input is open the look goes on.
 func TestTheEndOfInputEndsALook(t *testing.T) {
 	if os.Getenv(envOfInput) != "" {
-		heedInput(os.Stderr)
-		fmt.Println("goes on")
-		time.Sleep(time.Minute)
+		asked := askedOf(homeOf(t))
+		asked.HeedsInput = true
+		_ = Begin(asked, func(func(io.Writer) error) error {
+			fmt.Println("goes on")
+			time.Sleep(time.Minute)
+			return nil
+		}, os.Stdout, os.Stderr)
 		return
 	}
-	look := exec.Command(os.Args[0], "-test.run", "^TestTheEndOfInputEndsALook$")
-	look.Env = append(os.Environ(), envOfInput+"=1")
-	input, err := look.StdinPipe()
-	if err != nil {
-		t.Fatal(err)
-	}
-	unread, told, err := os.Pipe()
-	if err != nil {
-		t.Fatal(err)
-	}
-	output, err := look.StdoutPipe()
-	if err != nil {
-		t.Fatal(err)
-	}
-	look.Stderr = told
-	if err := look.Start(); err != nil {
-		t.Fatal(err)
-	}
-	told.Close()
-	if _, err := io.ReadFull(output, make([]byte, len("goes on\n"))); err != nil {
-		t.Fatal(err)
-	}
-	unread.Close()
-	input.Close()
-	var status *exec.ExitError
-	if err := look.Wait(); !errors.As(err, &status) || status.ExitCode() != 129 {
-		t.Errorf("%v", err)
+	for _, isRead := range []bool{true, false} {
+		look := exec.Command(os.Args[0], "-test.run", "^TestTheEndOfInputEndsALook$")
+		look.Env = append(os.Environ(), envOfInput+"=1")
+		input, err := look.StdinPipe()
+		if err != nil {
+			t.Fatal(err)
+		}
+		reading, told, err := os.Pipe()
+		if err != nil {
+			t.Fatal(err)
+		}
+		output, err := look.StdoutPipe()
+		if err != nil {
+			t.Fatal(err)
+		}
+		look.Stderr = told
+		if err := look.Start(); err != nil {
+			t.Fatal(err)
+		}
+		told.Close()
+		lines := bufio.NewReader(output)
+		for line := ""; line != "goes on\n"; {
+			if line, err = lines.ReadString('\n'); err != nil {
+				t.Fatal(err)
+			}
+		}
+		if !isRead {
+			reading.Close()
+		}
+		input.Close()
+		if text, err := io.ReadAll(reading); isRead && (err != nil || !strings.HasSuffix(string(text), "syncthing-audit: standard input ended, so nobody waits for this look any more\n")) {
+			t.Errorf("%q, %v", text, err)
+		}
+		var status *exec.ExitError
+		if err := look.Wait(); !errors.As(err, &status) || status.ExitCode() != 129 {
+			t.Errorf("%v", err)
+		}
+		reading.Close()
 	}
 }

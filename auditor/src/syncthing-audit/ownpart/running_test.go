@@ -27,6 +27,7 @@ func TestWhereTheIndexIs(t *testing.T) {
 		isNamed       bool
 		isMoved       bool // into another directory
 		isHeld        bool // by a Syncthing that runs
+		isStranger    bool // whether whoever answers has no index open
 		said          answers
 		data, told    string
 		isOwn, isMade bool
@@ -40,6 +41,8 @@ func TestWhereTheIndexIs(t *testing.T) {
 		{why: "beside, not written since, and nobody says where it is", said: answers{status: startedAt(now.Add(time.Hour))},
 			told: ": Syncthing runs, and it hasn't written to the index there since it was started: it has its database elsewhere. Name that behind the home as --data DIR. " +
 				"It can't be asked where it is: this Syncthing doesn't say it"},
+		{why: "beside, and whoever answers isn't Syncthing", isStranger: true, isMade: true, told: ": Syncthing can't be asked when it was started: "},
+		{why: "elsewhere, and a map hasn't the folder of the container", isMoved: true, said: answers{paths: {`{"baseDir-data":"/srv/data"}`}}, told: "no --map has that"},
 		{why: "elsewhere", isMoved: true, said: answers{paths: {`{"baseDir-data":"/srv/data"}`}}, data: "/srv/data", isOwn: true, isMade: true},
 		{why: "elsewhere, as in a container", isMoved: true, said: answers{paths: {`{"baseDir-data":"/var/lib/data"}`}}, data: "/srv/lib/data", isOwn: true, isMade: true},
 		{why: "elsewhere, and nobody says where", isMoved: true, isMade: true, told: "syncthing-audit: Syncthing can't be asked where its database is: this Syncthing doesn't say it"},
@@ -50,7 +53,9 @@ func TestWhereTheIndexIs(t *testing.T) {
 		asked.Maps[0] = device.Maps{}
 		if strings.Contains(row.why, "container") {
 			to, err := device.ParseMap("/var=/srv")
-			if err == nil {
+			if err == nil && strings.Contains(row.why, "hasn't") {
+				asked.Maps[0] = device.Maps{to}
+			} else if err == nil {
 				err = mapTo(&asked, to, home)
 			}
 			if err != nil {
@@ -70,7 +75,10 @@ func TestWhereTheIndexIs(t *testing.T) {
 		if row.isHeld {
 			lockedAt = home.Dir
 		}
-		release := hold(t, lockedAt) // so that this process is seen to be a Syncthing
+		release := func() {}
+		if !row.isStranger {
+			release = hold(t, lockedAt) // so that this process is seen to be a Syncthing
+		}
 		var log strings.Builder
 		isOwn, err := findIndex(asked, &log)
 		release()

@@ -81,10 +81,15 @@ func TestThePartOfAStoppedDevice(t *testing.T) {
 		home := homeOf(t)
 		asked := askedOf(home)
 		row.change(home, &asked)
+		temporary := t.TempDir()
+		t.Setenv("TMPDIR", temporary)
 		var text, log strings.Builder
 		if err := Write(asked, writeTo(&text), &log); err != nil {
 			t.Errorf("%s: %v", row.why, err)
 			continue
+		}
+		if left, err := os.ReadDir(temporary); err != nil || len(left) > 0 {
+			t.Errorf("%s: %v is left, %v", row.why, left, err)
 		}
 		head, names, _ := read(t, strings.NewReader(text.String()))
 		folders := []string{}
