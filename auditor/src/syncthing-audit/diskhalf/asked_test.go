@@ -86,7 +86,12 @@ func isSocket(path string) bool { return strings.HasPrefix(path, "socket:") }
 // Whatever is asked and answered, no connection stays open; and where nobody listens, or it isn't seen who does, that is told.
 func TestNoConnectionStaysOpen(t *testing.T) {
 	more := strings.Repeat(" ", 1<<20)
-	answering := func(to http.ResponseWriter, _ *http.Request) { io.WriteString(to, `{"state":"idle"}`+more) }
+	answering := func(to http.ResponseWriter, asked *http.Request) {
+		io.WriteString(to, `{"state":"idle"}`)
+		if asked.URL.Query().Get("folder") == "more" {
+			io.WriteString(to, more)
+		}
+	}
 	plain, secret := httptest.NewServer(http.HandlerFunc(answering)), httptest.NewTLSServer(http.HandlerFunc(answering))
 	defer plain.Close()
 	defer secret.Close()
@@ -105,8 +110,10 @@ func TestNoConnectionStaysOpen(t *testing.T) {
 		if err := os.WriteFile(filepath.Join(filepath.Dir(read.path), "https-cert.pem"), certificate, 0o600); err != nil {
 			t.Fatal(err)
 		}
-		if _, err := read.state("docs"); (err == nil) != (row.told == "") || err != nil && !strings.Contains(err.Error(), row.told) {
-			t.Errorf("%v: %v", row, err)
+		for _, folder := range []string{"docs", "more"} {
+			if _, err := read.state(folder); (err == nil) != (row.told == "") || err != nil && !strings.Contains(err.Error(), row.told) {
+				t.Errorf("%v: %v", row, err)
+			}
 		}
 		for until := time.Now().Add(10 * time.Second); fixture.CountOpened(t, isSocket) > before; time.Sleep(time.Millisecond) {
 			if time.Now().After(until) {

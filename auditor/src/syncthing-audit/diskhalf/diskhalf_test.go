@@ -6,6 +6,7 @@ import (
 	"io"
 	"os"
 	"path/filepath"
+	"sort"
 	"strings"
 	"testing"
 	"time"
@@ -14,6 +15,7 @@ import (
 	"syncthing-audit/disk"
 	"syncthing-audit/part"
 	"syncthing-audit/shell"
+	"syncthing-audit/stignore"
 )
 
 const look = "00112233445566778899aabbccddeeff"
@@ -41,6 +43,13 @@ func askedFor(room string) Asked {
 // walked gives the part of disks, and what a person is told of it.
 func walked(t *testing.T, asked Asked) (*part.Head, map[string]*part.Name, *part.End, *Told) {
 	t.Helper()
+	temporary := t.TempDir()
+	t.Setenv("TMPDIR", temporary)
+	defer func() {
+		if left, err := os.ReadDir(temporary); err != nil || len(left) > 0 {
+			t.Errorf("%v is left, %v", left, err)
+		}
+	}()
 	pool := disk.NewPool(2)
 	defer pool.Close()
 	var text bytes.Buffer
@@ -97,6 +106,34 @@ func TestWhatIsWritten(t *testing.T) {
 	for name, line := range names {
 		if strings.Contains(name, room) || len(line.Out) > 0 && strings.Contains(line.Out[0].Why, room) || shell.IsBehindNames(name) != (name == hidden) {
 			t.Errorf("%q: %+v", name, line)
+		}
+	}
+}
+
+// What is ignored is told by a hash, but for directories above names that a pattern takes in.
+func TestDirectoriesAboveWhatIsTakenIn(t *testing.T) {
+	room := roomWith(t, "keep/x", "other/y", "z")
+	if err := os.WriteFile(filepath.Join(room, ".stignore"), []byte("!/keep/x\n*\n"), 0o644); err != nil {
+		t.Fatal(err)
+	}
+	_, names, _, _ := walked(t, askedFor(room))
+	told := []string{}
+	for name := range names {
+		if !shell.IsBehindNames(name) {
+			told = append(told, name)
+		}
+	}
+	if sort.Strings(told); strings.Join(told, " ") != "keep keep/x other" || len(names) != 5 {
+		t.Errorf("%q of %d", told, len(names))
+	}
+	folder := &folder{patterns: &stignore.Patterns{}}
+	for _, line := range []string{"!/keep/x", "*"} {
+		patterns, err := stignore.Parse([]string{line}, false)
+		if err != nil {
+			t.Fatal(err)
+		}
+		if folder.patterns = patterns; folder.mayBeTaken(nil) || folder.mayBeTaken(&part.Node{Type: bep.File}) || folder.mayBeTaken(&part.Node{Type: bep.Directory}) != (line[0] == '!') {
+			t.Errorf("%s: %v", line, patterns.TakesIgnored())
 		}
 	}
 }

@@ -38,15 +38,19 @@ func (m *maker) names(folder *folder, end *part.End, take part.Sink) error {
 	walking.to = found
 	go func() { found.End(walking.run()) }()
 	defer found.Stop()
-	path := ""
-	if !m.asked.Paths {
-		path = folder.files.URI()
-	}
-	isOver, err := found.Drain(path, end, take)
+	isOver, err := found.Drain(folder.hiddenPath(m.asked.Paths), end, take)
 	if isOver {
 		walking.tellEnd(end)
 	}
 	return err
+}
+
+// hiddenPath gives the path that isn't told, unless the paths of this machine are.
+func (f *folder) hiddenPath(areTold bool) string {
+	if areTold {
+		return ""
+	}
+	return f.files.URI()
 }
 
 // walking is the second walk of a folder.
@@ -120,7 +124,7 @@ func (w *walking) blockSizes(size int64) []int64 {
 	usual := bep.BlockSize(size)
 	sizes := []int64{usual}
 	for _, other := range w.asked.BlockSizes {
-		if !slices.Contains(sizes, other) && (size > usual || size > other) {
+		if !slices.Contains(sizes, other) && size > usual {
 			sizes = append(sizes, other)
 		}
 	}

@@ -169,6 +169,11 @@ func TestWhatIsNotWalked(t *testing.T) {
 	if _, err := Write(unwritable{}, askedFor(room), pool); err == nil {
 		t.Error("it is written where nothing can be")
 	}
+	long := askedFor(room)
+	long.Prefix = strings.Repeat("x", 17<<20)
+	if _, err := Write(&bytes.Buffer{}, long, pool); err == nil || !strings.HasPrefix(err.Error(), "refused: what a part says of its folders and devices takes ") {
+		t.Errorf("a head that is too long: %v", err)
+	}
 	gone := &maker{asked: askedFor(room), pool: pool}
 	opened, err := gone.open(gone.asked.Folders[0])
 	if err != nil {
@@ -193,6 +198,44 @@ func TestWhatIsNotWalked(t *testing.T) {
 	t.Setenv("TMPDIR", "/nowhere")
 	if _, err := Write(&bytes.Buffer{}, askedFor(roomWith(t, "a")), pool); err == nil || !strings.Contains(err.Error(), "/nowhere") {
 		t.Errorf("%v", err)
+	}
+}
+
+// Of a part with paths no path is taken out of what is told.
+func TestPathsThatAreTold(t *testing.T) {
+	room := roomWith(t, "a")
+	opened, err := (&maker{asked: askedFor(room)}).open(Folder{"docs", room})
+	if err != nil {
+		t.Fatal(err)
+	}
+	if told, hidden := opened.hiddenPath(true), opened.hiddenPath(false); told != "" || hidden != room {
+		t.Errorf("%q, %q", told, hidden)
+	}
+}
+
+// Where names aren't wanted any more the walk ends, whichever come next: those that are told, or those with a hash in their place.
+func TestNamesThatAreNotWanted(t *testing.T) {
+	pool := disk.NewPool(1)
+	defer pool.Close()
+	for _, name := range []string{"a", "1.tmp"} {
+		room := roomWith(t, name)
+		if err := os.WriteFile(filepath.Join(room, ".stignore"), []byte("*.tmp\n"), 0o644); err != nil {
+			t.Fatal(err)
+		}
+		maker := &maker{asked: askedFor(room), pool: pool}
+		opened, err := maker.open(maker.asked.Folders[0])
+		if err != nil {
+			t.Fatal(err)
+		}
+		walking := &walking{maker: maker, folder: opened, walker: maker.walker(opened), to: disk.NewQueue()}
+		walking.to.End(nil)
+		walking.to.Stop()
+		if err := walking.run(); err != errStopped {
+			t.Errorf("%s: %v", name, err)
+		}
+		if names, _ := walking.to.Waiting(); names > 0 {
+			t.Errorf("%s: %d names wait for nobody", name, names)
+		}
 	}
 }
 
