@@ -49,7 +49,7 @@ func TestEachLimit(t *testing.T) {
 		{"output without an end", "exec cat /dev/zero", "wrote more output", wide},
 		{"standard error without an end", "exec cat /dev/zero >&2", "wrote more standard error", wide},
 		{"one that hangs", "exec sleep 600", "wrote nothing for 300ms", quick},
-		{"one that hangs after some output", "echo part; exec sleep 600", "wrote nothing for 300ms", quick},
+		{"one that hangs after some output", "sleep 0.1; echo part; exec sleep 600", "wrote nothing for 300ms", quick},
 		{"one that heeds no signal", "trap '' TERM; while :; do sleep 0.1; done", "wrote nothing for 300ms", quick},
 		{"one whose child holds the output", "sleep 30 & exit 0", "wrote nothing for 300ms", quick},
 		{"one that closed its output", "exec sleep 600 >&- 2>&-", "wrote nothing for 300ms", quick},

@@ -264,7 +264,7 @@ func TestCommandsAreReadInSilence(t *testing.T) {
 func TestMoreFlags(t *testing.T) {
 	more := func(flags *flag.FlagSet, command *Command) { flags.StringVar(&command.Key, "sign", "", "") }
 	words := []string{"--sign", "key", "--after", askedFor("").Device + ":" + look, "docs=/x"}
-	if read, err := ReadCommand(words, more); err != nil || read.Key != "key" || read.Jobs < 1 || read.Marker != ".stfolder" {
+	if read, err := ReadCommand(words, more); err != nil || read.Key != "key" || read.Jobs < 1 || read.Marker != ".stfolder" || read.Paths {
 		t.Errorf("%+v, %v", read, err)
 	}
 	if _, err := ReadCommand(words, nil); err == nil {
