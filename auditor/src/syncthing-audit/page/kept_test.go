@@ -180,7 +180,7 @@ func TestTheGridOfAnAnswer(t *testing.T) {
 		Since:   &history.Since{Read: []history.Read{{Folder: "docs", Device: "A", Files: 5, Bytes: 7, Oldest: at, OldestName: "a\x1b"}, {Folder: "pics", Device: "A", Files: 1}}},
 		Folders: []*summary.Folder{
 			{ID: "docs", Label: "Documents", Verdict: summary.NotInStep, Names: 9, Wrong: 4, Live: &summary.Live{Moving: 3}, Devices: []summary.Member{{Device: "A"}},
-				Files:  []*summary.File{{Faults: []summary.Fault{{Device: "A"}, {Device: "A"}}}, {}, {}},
+				Files:  []*summary.File{{Faults: []*summary.Fault{{Device: "A"}, {Device: "A"}}}, {}, {}},
 				Groups: []*summary.Group{{Devices: []string{"A", "B"}, Names: 2}}},
 			{ID: "music", Verdict: summary.AsFar, Devices: []summary.Member{{Device: "A"}, {Device: "B"}}},
 			{ID: "firm", Verdict: summary.InStep, Firm: finding.IsFirm}, {ID: "loose", Verdict: summary.InStep}}}

@@ -2,7 +2,6 @@ package summary
 
 import (
 	"golang.org/x/exp/slices"
-	"syncthing-audit/damage"
 	"syncthing-audit/outlook"
 )
 
@@ -31,8 +30,7 @@ func (a *actions) note(file *File, folder string) {
 	for _, device := range file.toMakeSafe() {
 		a.safe[device] = true
 	}
-	for place := range file.Faults {
-		fault := &file.Faults[place]
+	for _, fault := range file.Faults {
 		if on := a.wrong[file.whyFirst(fault)]; on != nil {
 			if on[fault.Device] == nil {
 				on[fault.Device] = &wrongNames{}
@@ -48,7 +46,7 @@ func (f *File) whyFirst(fault *Fault) string {
 	switch {
 	case fault.Cause == Missing && !f.isDeletionDue() && !f.comesBack(fault):
 		return isMissing
-	case fault.Cause != Changed || fault.Damage == damage.None || fault.Kind == receiveOnly:
+	case !fault.looksDamaged() || fault.Kind == receiveOnly:
 		return ""
 	case fault.Damage.MayBeOfRecord():
 		return isLonger
@@ -79,8 +77,7 @@ func (f *File) toMakeSafe() []string {
 // withoutSteps gives those of these devices for which the entry itself tells that, and not the steps.
 func (f *File) withoutSteps() []string {
 	devices, hasSteps := []string{}, f.foretold.plan != nil
-	for place := range f.Faults {
-		fault := &f.Faults[place]
+	for _, fault := range f.Faults {
 		if fault.Cause == Damaged || !hasSteps && (!f.foretold.isKnown() || f.foretold.is(outlook.Lost) || f.looksDamaged()) {
 			devices = addOnce(devices, fault.Device)
 		}
@@ -103,7 +100,7 @@ const (
 // danger says what may come of the name's bytes, as far as that is known.
 func (f *File) danger() int {
 	switch {
-	case f.foretold.is(outlook.Lost) || f.looksDamaged() || f.hasCause(Damaged):
+	case f.foretold.is(outlook.Lost) || f.looksDamaged() || f.has(func(fault *Fault) bool { return fault.Cause == Damaged }):
 		return losesBytes
 	case len(f.Faults) > 0 && !f.foretold.isKnown():
 		return isNotKnown

@@ -53,8 +53,8 @@ const receiveOnly = "receive-only"
 // and what its faults ask for beside that. It foretells nothing: package outlook does.
 func adviceOf(file *File, named labels) []string {
 	advice := append(file.withoutCopy(named), file.beforeStart(named)...)
-	for place := range file.Faults {
-		if told := file.adviceOfFault(&file.Faults[place], named); told != "" {
+	for _, fault := range file.Faults {
+		if told := file.adviceOfFault(fault, named); told != "" {
 			advice = addOnce(advice, told)
 		}
 	}
@@ -120,8 +120,7 @@ func (f *File) toSave(named labels) []string {
 	if len(f.Have) > 0 && !f.isDeletionDue() {
 		on = append(on, named.rising(f.Have)[0])
 	}
-	for place := range f.Faults {
-		fault := &f.Faults[place]
+	for _, fault := range f.Faults {
 		isHolding := !fault.isOfDisk() && fault.Recorded != nil && !fault.Recorded.Deleted && !f.hasAt(fault.Device, Missing)
 		if fault.Found != nil || fault.Cause == Differs || fault.Cause == Damaged || isHolding {
 			on = addOnce(on, fault.Device)
@@ -135,17 +134,17 @@ func (f *File) toSave(named labels) []string {
 
 // isWithoutCopy says whether a disk was harmed that had what is due, and no audited device has that.
 func (f *File) isWithoutCopy() bool {
-	return len(f.Have) == 0 && slices.IndexFunc(f.Faults, func(fault Fault) bool { return fault.isHarm() && f.isOfDue(&fault) }) >= 0
+	return len(f.Have) == 0 && f.has(f.isHarmOfDue)
 }
 
 // isHarm says whether what stands on a disk, or what doesn't stand there, isn't somebody's change as far as it shows.
 func (f *Fault) isHarm() bool {
-	return f.Cause == Missing || f.Cause == OtherBytes || f.Cause == Changed && f.Damage != damage.None
+	return f.Cause == Missing || f.Cause == OtherBytes || f.looksDamaged()
 }
 
-// isOfDue says whether what a device recorded is what is due.
-func (f *File) isOfDue(fault *Fault) bool {
-	return fault.Due != nil && !fault.Due.Deleted && !f.hasAt(fault.Device, Behind, Conflicting, LocalChange)
+// isHarmOfDue says whether a disk was harmed on a device that recorded what is due.
+func (f *File) isHarmOfDue(fault *Fault) bool {
+	return fault.isHarm() && fault.Due != nil && !fault.Due.Deleted && !f.hasAt(fault.Device, Behind, Conflicting, LocalChange)
 }
 
 // withoutCopy says to look elsewhere for what no audited device has, and on which disks some of its blocks are.
@@ -154,9 +153,8 @@ func (f *File) withoutCopy(named labels) []string {
 		return nil
 	}
 	on, most := []string{}, (*Fault)(nil)
-	for place := range f.Faults {
-		fault := &f.Faults[place]
-		if fault.isHarm() && f.isOfDue(fault) && fault.Blocks != nil && fault.Blocks.Count < fault.Blocks.Of {
+	for _, fault := range f.Faults {
+		if f.isHarmOfDue(fault) && fault.Blocks != nil && fault.Blocks.Count < fault.Blocks.Of {
 			on = addOnce(on, fault.Device)
 			if most == nil || fault.Blocks.Count < most.Blocks.Count {
 				most = fault
@@ -171,11 +169,6 @@ func (f *File) withoutCopy(named labels) []string {
 		told += ", the most on " + named.of(most.Device)
 	}
 	return []string{told}
-}
-
-// looksDamaged says whether on some device what stands in place of what is recorded looks like damage.
-func (f *File) looksDamaged() bool {
-	return slices.IndexFunc(f.Faults, func(fault Fault) bool { return fault.Cause == Changed && fault.Damage != damage.None }) >= 0
 }
 
 // isOfDisk says whether what stands on the disk isn't as recorded.

@@ -6,19 +6,18 @@ import (
 )
 
 // sameOtherBytes gives the devices that have the same bytes in place of those that are recorded, where several do.
-func sameOtherBytes(faults []Fault) [][]string {
+func sameOtherBytes(faults []*Fault) [][]string {
 	groups := [][]string{}
 	isTold := map[string]bool{}
-	for place := range faults {
-		fault := &faults[place]
+	for place, fault := range faults {
 		if fault.Cause != OtherBytes || isTold[fault.Device] {
 			continue
 		}
 		same := []string{fault.Device}
-		for next := place + 1; next < len(faults); next++ {
-			if faults[next].Cause == OtherBytes && haveSame(fault.contents, faults[next].contents) {
-				same = append(same, faults[next].Device)
-				isTold[faults[next].Device] = true
+		for _, other := range faults[place+1:] {
+			if other.Cause == OtherBytes && haveSame(fault.onDisk(), other.onDisk()) {
+				same = append(same, other.Device)
+				isTold[other.Device] = true
 			}
 		}
 		if len(same) > 1 {

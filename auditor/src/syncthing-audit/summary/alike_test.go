@@ -8,14 +8,14 @@ import (
 )
 
 func TestSameOtherBytes(t *testing.T) {
-	fault := func(device string, cause Cause, hashes ...byte) Fault {
-		made := Fault{Device: device, Cause: cause}
+	fault := func(device string, cause Cause, hashes ...byte) *Fault {
+		disk := &part.Node{}
 		for _, hash := range hashes {
-			made.contents = append(made.contents, part.Content{Hash: part.Hash{hash}})
+			disk.Contents = append(disk.Contents, part.Content{Hash: part.Hash{hash}})
 		}
-		return made
+		return &Fault{Device: device, Cause: cause, at: &part.Name{Disk: disk}}
 	}
-	faults := []Fault{fault("a", OtherBytes, 1), fault("b", OtherBytes, 2), fault("c", Changed, 1), fault("d", OtherBytes, 3, 1), fault("e", OtherBytes)}
+	faults := []*Fault{fault("a", OtherBytes, 1), fault("b", OtherBytes, 2), fault("c", Changed, 1), fault("d", OtherBytes, 3, 1), fault("e", OtherBytes)}
 	same := sameOtherBytes(faults)
 	if len(same) != 1 || strings.Join(same[0], " ") != "a d" {
 		t.Errorf("the same are %s", same)

@@ -45,13 +45,13 @@ type Fault struct {
 	Blocks   *Blocks     `json:"blocks,omitempty"`
 	Reasons  []string    `json:"reasons"`       // in syncaudit's words
 	Why      string      `json:"why,omitempty"` // of Damaged: the system's words
-	contents []part.Content
 	// Other devices on whose disks the very bytes stand that the device recorded, at their time.
 	sources    []string
-	ends       ends
-	isOverWire bool // the device was asked over the wire, where times of files aren't seen
-	isTied     bool // of Behind: it has something else under the version of what is due
-	isUntold   bool // of Behind: its view goes beyond what it lacks, and doesn't have that
+	at         *part.Name   // all that the device has of the name, if that was kept
+	due        *part.Record // what it should have
+	isOverWire bool         // the device was asked over the wire, where times of files aren't seen
+	isTied     bool         // of Behind: it has something else under the version of what is due
+	isUntold   bool         // of Behind: its view goes beyond what it lacks, and doesn't have that
 }
 
 // State is what a record or a disk says of a name.
@@ -173,21 +173,29 @@ func isCutOtherwise(at *part.Name, winner *part.Record) bool {
 	return at != nil && at.Own != nil && at.Own.Content != nil && at.Disk != nil && !at.HasOtherBytes() && winner.Content != nil && slices.Contains(at.Disk.Contents, *winner.Content)
 }
 
+// has says whether this is so of some fault.
+func (f *File) has(is func(fault *Fault) bool) bool { return slices.IndexFunc(f.Faults, is) >= 0 }
+
 // hasAt says whether a device has a fault of one of these causes; of any cause without them.
 func (f *File) hasAt(device string, causes ...Cause) bool {
-	return slices.IndexFunc(f.Faults, func(fault Fault) bool {
+	return f.has(func(fault *Fault) bool {
 		return fault.Device == device && (len(causes) == 0 || slices.Contains(causes, fault.Cause))
-	}) >= 0
-}
-
-// hasCause says whether some device has a fault of this cause.
-func (f *File) hasCause(cause Cause) bool {
-	return slices.IndexFunc(f.Faults, func(fault Fault) bool { return fault.Cause == cause }) >= 0
+	})
 }
 
 // isDeletionDue says whether what all are to have of the name is its deletion.
-func (f *File) isDeletionDue() bool {
-	return slices.IndexFunc(f.Faults, func(fault Fault) bool { return fault.Due != nil && fault.Due.Deleted }) >= 0
+func (f *File) isDeletionDue() bool { return f.has((*Fault).lacksDeletion) }
+
+func (f *Fault) lacksDeletion() bool { return f.Due != nil && f.Due.Deleted }
+
+// looksDamaged says whether on some device what stands in place of what is recorded looks like damage.
+func (f *File) looksDamaged() bool { return f.has((*Fault).looksDamaged) }
+
+func (f *Fault) looksDamaged() bool { return f.Cause == Changed && f.Damage != damage.None }
+
+// isOfNobody says whether the name has no winner, so that there is nothing that devices should have.
+func (f *File) isOfNobody() bool {
+	return f.has(func(fault *Fault) bool { return len(fault.Reasons) == 1 && fault.Reasons[0] == "NotWinner" })
 }
 
 // isWithout says whether a device that is behind has no record of the name.

@@ -49,8 +49,8 @@ func (p *printer) file(folder *Folder, file *File) {
 		about += ", " + size(file.Size)
 	}
 	p.line("\n%s  (%s)", shell.Path(string(file.Name)), about)
-	for next := range file.Faults {
-		p.fault(&file.Faults[next])
+	for _, fault := range file.Faults {
+		p.fault(fault)
 	}
 	p.renamed(file)
 	p.same(file)
@@ -67,10 +67,10 @@ func (p *printer) group(folder *Folder, group *Group, all []*File) {
 		unsized = ", without " + counted(group.Unsized, "name", "names") + " whose details weren't kept"
 	}
 	p.line("\n%s in %s: %s%s", counted(group.Names, "name", "names"), folder.ID, size(group.Bytes), unsized)
-	for place := range group.of.Faults {
+	for place, fault := range group.of.Faults {
 		faults := faultsAt(all, place)
 		if len(faults) == 0 {
-			faults = []*Fault{&group.of.Faults[place]}
+			faults = []*Fault{fault}
 		}
 		p.line("  %s: %s%s", p.named.of(faults[0].Device), wordsOfFaults(faults, true), differingInAll(faults))
 	}
@@ -90,7 +90,7 @@ func (p *printer) group(folder *Folder, group *Group, all []*File) {
 func faultsAt(all []*File, place int) []*Fault {
 	faults := []*Fault{}
 	for _, file := range all {
-		faults = append(faults, &file.Faults[place])
+		faults = append(faults, file.Faults[place])
 	}
 	return faults
 }
@@ -137,7 +137,7 @@ func (p *printer) same(file *File) {
 func (p *printer) have(file *File) {
 	devices := p.named.all(file.Have)
 	switch {
-	case len(file.Faults) == 0 || len(file.Have) == 0 && !file.hasDetails || isOfNobody(file):
+	case len(file.Faults) == 0 || len(file.Have) == 0 && !file.hasDetails || file.isOfNobody():
 	case len(file.Have) == 0:
 		p.line("  as recorded on: no audited device")
 	case file.isDeletionDue():

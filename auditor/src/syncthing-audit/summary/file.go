@@ -16,7 +16,7 @@ type Text = part.Bytes
 type File struct {
 	Name            Text       `json:"name"`
 	Size            int64      `json:"size"`
-	Faults          []Fault    `json:"faults"`
+	Faults          []*Fault   `json:"faults"`
 	Have            []string   `json:"have_recorded"`                // devices whose index and disk have what is due
 	Same            [][]string `json:"same_other_bytes,omitempty"`   // devices that have the same bytes in place of those recorded
 	Follows         []Follow   `json:"follows"`                      // what fails for want of the above
@@ -57,54 +57,24 @@ type Mode struct {
 
 // fileOf gives what is to be told of a name.
 func fileOf(folder *finding.Folder, told *finding.Told) *File {
-	file := &File{Name: Text(told.Name), Faults: []Fault{}, Have: []string{}, Follows: []Follow{}, Permissions: []Mode{}, isOdd: !norm.NFC.IsNormalString(told.Name)}
-	row, read := folder.Rows[told.Name], &reader{folder: folder, row: folder.Rows[told.Name], file: file, reasons: map[int][]string{}}
+	file := &File{Name: Text(told.Name), Faults: []*Fault{}, Have: []string{}, Follows: []Follow{}, Permissions: []Mode{}, isOdd: !norm.NFC.IsNormalString(told.Name)}
+	r := &reader{folder: folder, row: folder.Rows[told.Name], file: file, reasons: map[int][]string{}}
 	switch {
 	case told.Unwon != nil:
-		addUnwon(file, folder, told.Unwon)
+		r.readUnwon(told.Unwon)
 	case len(told.Failures) > 0:
-		read.read(told.Failures)
+		r.read(told.Failures)
 	}
 	if told.Damaged != nil {
-		file.addDamage(folder, told.Damaged)
+		r.readDamage(told.Damaged)
 	}
 	if told.Permissions != nil {
 		file.Permissions = modesOf(folder, told.Permissions)
 	}
-	if row != nil {
-		file.hasDetails = true
-		file.Size = sizeOf(row, read.winner)
+	if r.row != nil {
+		file.hasDetails, file.Size = true, r.size()
 	}
 	return file
-}
-
-// sizeOf gives how many bytes what is due has. Where nothing is due, or its deletion, it is the most that a device has or records.
-func sizeOf(row *join.Row, winner *part.Record) int64 {
-	if winner != nil && winner.Content != nil {
-		return winner.Content.Size
-	}
-	return row.Size()
-}
-
-// unwonCauses are the causes of names without a winner.
-var unwonCauses = map[string]Cause{finding.Unscanned: NotScanned, finding.LocalChange: LocalAddition, finding.OnlySeen: OnlySeen}
-
-// addUnwon adds what each device has of a name without a winner.
-func addUnwon(file *File, folder *finding.Folder, name *finding.Unwon) {
-	row := folder.Rows[name.Name]
-	for _, at := range name.At {
-		member := folder.Members[at.Member]
-		fault := Fault{Device: member.Head.Device, Cause: unwonCauses[at.Kind], Kind: kindOf(member), Reasons: []string{"NotWinner"}}
-		if row != nil && row.At[at.Member] != nil {
-			fault.Recorded, fault.Found = recorded(row.At[at.Member].Own), found(row.At[at.Member].Disk)
-			fault.Deletion = fault.Recorded != nil && fault.Recorded.Deleted
-			fault.ends = endsOf(&fault, row.At[at.Member], nil)
-			if row.At[at.Member].Disk != nil {
-				fault.contents = row.At[at.Member].Disk.Contents
-			}
-		}
-		file.Faults = append(file.Faults, fault)
-	}
 }
 
 func kindOf(member join.Member) string {
@@ -114,13 +84,60 @@ func kindOf(member join.Member) string {
 	return member.About.Kind
 }
 
-// reader reads what is wrong with a name that has a winner.
+// reader reads what is wrong with a name.
 type reader struct {
 	folder  *finding.Folder
 	row     *join.Row // all that the devices have of it, if that was kept
 	file    *File
 	reasons map[int][]string // of each member
-	winner  *part.Record
+	winner  *part.Record     // nothing of a name without one
+}
+
+// size gives how many bytes what is due has. Where nothing is due, or its deletion, it is the most that a device has or records.
+func (r *reader) size() int64 {
+	if r.winner != nil && r.winner.Content != nil {
+		return r.winner.Content.Size
+	}
+	return r.row.Size()
+}
+
+// unwonCauses are the causes of names without a winner.
+var unwonCauses = map[string]Cause{finding.Unscanned: NotScanned, finding.LocalChange: LocalAddition, finding.OnlySeen: OnlySeen}
+
+// readUnwon adds what each device has of a name without a winner.
+func (r *reader) readUnwon(name *finding.Unwon) {
+	for _, at := range name.At {
+		r.reasons[at.Member] = []string{"NotWinner"}
+		r.add(at.Member, unwonCauses[at.Kind])
+	}
+}
+
+// readDamage adds of which devices the disk itself fails to give what it has, and why. Of a file that is a fault already, by what syncaudit says.
+func (r *reader) readDamage(damaged *finding.Damaged) {
+	for _, at := range damaged.At {
+		member, fault := r.folder.Members[at.Member], (*Fault)(nil)
+		if !at.IsRot {
+			fault = r.file.faultOfDisk(member.Head.Device)
+		}
+		if fault == nil {
+			fault = &Fault{Device: member.Head.Device, Kind: kindOf(member), Reasons: []string{"StoreDiffers"}}
+			r.file.Faults = append(r.file.Faults, fault)
+		}
+		if fault.Cause, fault.Why = Damaged, at.Why; at.IsRot {
+			fault.Cause = Differs
+		}
+	}
+}
+
+// faultOfDisk gives the fault of a device that is one of its disk, if it is told already: as one of a file that a scan hasn't seen, say, or without details.
+func (f *File) faultOfDisk(device string) *Fault {
+	isOfDisk := func(fault *Fault) bool {
+		return fault.Device == device && (fault.Cause == Damaged || fault.Cause == NotScanned || fault.Cause == Differs)
+	}
+	if place := slices.IndexFunc(f.Faults, isOfDisk); place >= 0 {
+		return f.Faults[place]
+	}
+	return nil
 }
 
 // read adds the faults of a name, and what follows from them.
@@ -141,7 +158,7 @@ func (r *reader) read(failures []finding.Failure) {
 		}
 	}
 	if len(r.reasons[-1]) > 0 {
-		r.file.Faults = append(r.file.Faults, Fault{Cause: Differs, Reasons: r.reasons[-1]})
+		r.file.Faults = append(r.file.Faults, &Fault{Cause: Differs, Reasons: r.reasons[-1]})
 	}
 }
 
@@ -227,22 +244,18 @@ func (r *reader) addFaults(member int) {
 
 // add adds a fault with what is known of it.
 func (r *reader) add(member int, cause Cause) {
-	one := r.folder.Members[member]
-	fault := Fault{Device: one.Head.Device, Cause: cause, Kind: kindOf(one), Due: recorded(r.winner), Reasons: r.reasons[member], isOverWire: one.Head.IsOverWireAlone()}
-	if at := r.at(member); at != nil {
+	of, at := r.folder.Members[member], r.at(member)
+	fault := &Fault{Device: of.Head.Device, Cause: cause, Kind: kindOf(of), Due: recorded(r.winner), Reasons: r.reasons[member], at: at, due: r.winner, isOverWire: of.Head.IsOverWireAlone()}
+	if at != nil {
 		fault.Recorded, fault.Found = recorded(at.Own), found(at.Disk)
 		if cause == OtherBytes || cause == Changed {
 			fault.Blocks, fault.Damage = blocksOf(at), damage.Of(at.Own, at.Disk)
-		}
-		if at.Disk != nil {
-			fault.contents = at.Disk.Contents
 		}
 		fault.sources = r.sourcesOf(member)
 		fault.isTied = cause == Behind && r.isTied(at)
 	}
 	fault.isUntold = cause == Behind && !fault.isTied && r.isUntold(member)
-	fault.Deletion = cause == Behind && fault.Due != nil && fault.Due.Deleted ||
-		(cause == LocalChange || cause == Conflicting) && fault.Recorded != nil && fault.Recorded.Deleted
-	fault.ends = endsOf(&fault, r.at(member), r.winner)
+	fault.Deletion = cause == Behind && fault.lacksDeletion() ||
+		(cause == LocalChange || cause == Conflicting || cause == LocalAddition) && fault.Recorded != nil && fault.Recorded.Deleted
 	r.file.Faults = append(r.file.Faults, fault)
 }

@@ -118,7 +118,7 @@ func TestAnEntrySaysWhatIsForetold(t *testing.T) {
 func TestWhatLooksDamagedIsNeverLeft(t *testing.T) {
 	state := &State{Type: "file", Size: 5}
 	for _, fate := range outlook.Fates {
-		file := &File{Faults: []Fault{{Device: server, Cause: Changed, Damage: damage.Cut, Recorded: state, Found: state, sources: []string{laptop}}}, foretold: foretold{fate: &outlook.Name{Fate: fate}}}
+		file := &File{Faults: []*Fault{{Device: server, Cause: Changed, Damage: damage.Cut, Recorded: state, Found: state, sources: []string{laptop}}}, foretold: foretold{fate: &outlook.Name{Fate: fate}}}
 		is := adviceOf(file, labels{})
 		if len(is) != 2 || !strings.HasPrefix(is[0], "before Syncthing starts or scans on any of these devices, copy elsewhere") || !strings.HasPrefix(is[1], "to have again what") {
 			t.Errorf("%s: %q", fate, is)
@@ -131,7 +131,7 @@ func TestWhatIsLostWithoutSteps(t *testing.T) {
 	state := &State{Type: "file", Size: 5}
 	for fate, told := range map[outlook.Fate]string{outlook.Lost: "before Syncthing starts or scans on any of these devices, copy elsewhere what is to stay",
 		outlook.Depends: "nothing: let Syncthing run", outlook.ByItself: "nothing: let Syncthing run"} {
-		file := &File{Faults: []Fault{{Device: server, Cause: Changed, Recorded: state, Found: state, sources: []string{laptop}}}, foretold: foretold{fate: &outlook.Name{Fate: fate}}}
+		file := &File{Faults: []*Fault{{Device: server, Cause: Changed, Recorded: state, Found: state, sources: []string{laptop}}}, foretold: foretold{fate: &outlook.Name{Fate: fate}}}
 		if is := adviceOf(file, labels{}); len(is) != 1 || !strings.HasPrefix(is[0], told) {
 			t.Errorf("%s: %q", fate, is)
 		}

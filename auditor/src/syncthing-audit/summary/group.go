@@ -34,8 +34,7 @@ var canFold = map[Cause]bool{Behind: true, Missing: true, NotScanned: true, Othe
 
 // canBeTold says whether a name may be told with others: where all that is wrong with it asks for the same everywhere.
 func (f *File) canBeTold() bool {
-	for place := range f.Faults {
-		fault := &f.Faults[place]
+	for _, fault := range f.Faults {
 		if fault.Cause != f.Faults[0].Cause || !canFold[fault.Cause] || fault.isTied || len(f.Permissions) > 0 {
 			return false
 		}
@@ -46,10 +45,9 @@ func (f *File) canBeTold() bool {
 // keyOf is the same for all names of which the very same is told, their advice too. So whatever advice comes to depend on, an entry of many says of each of
 // them what is said of that by itself.
 func (f *folding) keyOf(file *File) string {
-	key, many := fmt.Sprint(file.Permissions, file.Have, file.isOfAnotherTime, file.Same, isOfNobody(file)), file.asMany()
-	for place := range file.Faults {
-		fault := &file.Faults[place]
-		key += fmt.Sprint(" ", fault.Device, fault.Cause, fault.Kind, fault.Deletion, fault.isTied, fault.isWithout(), fault.Damage, fault.Due != nil && fault.Due.Deleted)
+	key, many := fmt.Sprint(file.Permissions, file.Have, file.isOfAnotherTime, file.Same, file.isOfNobody()), file.asMany()
+	for _, fault := range file.Faults {
+		key += fmt.Sprint(" ", fault.Device, fault.Cause, fault.Kind, fault.Deletion, fault.isTied, fault.isWithout(), fault.Damage, fault.lacksDeletion())
 		if fault.Cause == Changed {
 			key += fault.types()
 		}
@@ -67,9 +65,8 @@ func (f *File) asMany() *File {
 // shorten keeps of each fault only its device, kind and reasons. It is for a name whose details weren't kept: so it can be
 // told together with others. There may be any number of such names.
 func (f *File) shorten() {
-	for place := range f.Faults {
-		fault := &f.Faults[place]
-		f.Faults[place] = Fault{Device: fault.Device, Cause: Differs, Kind: fault.Kind, Reasons: fault.Reasons}
+	for place, fault := range f.Faults {
+		f.Faults[place] = &Fault{Device: fault.Device, Cause: Differs, Kind: fault.Kind, Reasons: fault.Reasons}
 	}
 	f.Follows, f.Permissions, f.Have = []Follow{}, []Mode{}, []string{}
 }

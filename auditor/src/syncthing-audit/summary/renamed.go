@@ -7,21 +7,38 @@ import (
 	"syncthing-audit/shell"
 )
 
-// ends are the contents by which a name that goes at a device and one that comes there may be one file that was renamed.
-type ends struct{ goes, comes []part.Content }
-
-// endsOf gives what goes and what comes with a fault at a device, of a name for which this is due.
-func endsOf(fault *Fault, at *part.Name, due *part.Record) ends {
-	hasOwn := at != nil && at.Own != nil && at.Own.Content != nil
-	switch {
-	case hasOwn && (fault.Cause == Missing || fault.Cause == Behind && fault.Deletion):
-		return ends{goes: []part.Content{*at.Own.Content}}
-	case fault.Cause == NotScanned && at != nil && at.Disk != nil:
-		return ends{comes: at.Disk.Contents}
-	case fault.Cause == Behind && !hasOwn && due != nil && due.Content != nil:
-		return ends{comes: []part.Content{*due.Content}}
+// goes gives the content that goes at a device with a fault: of a file that was renamed, another name comes with it.
+func (f *Fault) goes() []part.Content {
+	if f.Cause == Missing || f.Cause == Behind && f.Deletion {
+		return f.ownContent()
 	}
-	return ends{}
+	return nil
+}
+
+// comes gives the contents that come with it.
+func (f *Fault) comes() []part.Content {
+	switch {
+	case f.Cause == NotScanned:
+		return f.onDisk()
+	case f.Cause == Behind && len(f.ownContent()) == 0 && f.due != nil && f.due.Content != nil:
+		return []part.Content{*f.due.Content}
+	}
+	return nil
+}
+
+// ownContent gives the content that the device recorded, and onDisk those that its disk may have.
+func (f *Fault) ownContent() []part.Content {
+	if f.at == nil || f.at.Own == nil || f.at.Own.Content == nil {
+		return nil
+	}
+	return []part.Content{*f.at.Own.Content}
+}
+
+func (f *Fault) onDisk() []part.Content {
+	if f.at == nil || f.at.Disk == nil {
+		return nil
+	}
+	return f.at.Disk.Contents
 }
 
 // link links each two names of which the one goes at a device and the other comes there with the same bytes: renamed, as it
@@ -30,18 +47,18 @@ func link(files []*File) {
 	going := map[string]*File{}
 	key := func(device string, content part.Content) string { return fmt.Sprint(device, content) }
 	for _, file := range files {
-		for place := range file.Faults {
-			for _, content := range file.Faults[place].ends.goes {
-				if at := key(file.Faults[place].Device, content); content.Size > 0 && going[at] == nil {
+		for _, fault := range file.Faults {
+			for _, content := range fault.goes() {
+				if at := key(fault.Device, content); content.Size > 0 && going[at] == nil {
 					going[at] = file
 				}
 			}
 		}
 	}
 	for _, file := range files {
-		for place := range file.Faults {
-			for _, content := range file.Faults[place].ends.comes {
-				from := going[key(file.Faults[place].Device, content)]
+		for _, fault := range file.Faults {
+			for _, content := range fault.comes() {
+				from := going[key(fault.Device, content)]
 				if from != nil && from != file && file.RenamedFrom == "" && from.RenamedTo == "" {
 					file.RenamedFrom, from.RenamedTo = from.Name, file.Name
 				}

@@ -93,11 +93,6 @@ func (p *printer) folder(folder *Folder) {
 	p.line("%s: %s; %s (%s), %s hashed on %s%s", shell.Folder(folder.ID, folder.Label), verdict, names, deleted, size(folder.Bytes), p.named.all(devicesIn(folder)), moving)
 }
 
-// isOfNobody says whether a name has no winner, so that there is nothing that devices should have.
-func isOfNobody(file *File) bool {
-	return slices.IndexFunc(file.Faults, func(fault Fault) bool { return len(fault.Reasons) == 1 && fault.Reasons[0] == "NotWinner" }) >= 0
-}
-
 // wordsOf say what is wrong.
 var wordsOf = map[Cause]string{
 	OtherBytes:    "other bytes on the disk; size and time are as recorded",
@@ -138,7 +133,7 @@ func wordsOfFaults(faults []*Fault, isMany bool) string {
 		return "in conflict: deleted " + it + ", and lacks a change of " + it
 	case fault.Cause == LocalChange && fault.Deletion:
 		return "deleted on this receive-only device"
-	case fault.Cause == LocalChange && fault.Due != nil && fault.Due.Deleted:
+	case fault.Cause == LocalChange && fault.lacksDeletion():
 		return "changed on this receive-only device, while the others have deleted " + it
 	case fault.Cause == Changed && fault.Recorded != nil && fault.Found != nil && fault.Recorded.Type != fault.Found.Type:
 		return fmt.Sprintf("a %s on the disk, recorded as a %s", fault.Found.Type, fault.Recorded.Type)
@@ -181,34 +176,41 @@ func wordsOfChanged(faults []*Fault) string {
 	return words
 }
 
-// since says when a file was modified, as far as that is known. For a deletion it says of when the deletion is.
+// since says when a file was modified, as far as that is known, or why its disk fails to give it.
 func (p *printer) since(fault *Fault) string {
-	switch {
-	case fault.Cause == Damaged && fault.Why != "":
+	if fault.Cause == Damaged && fault.Why != "" {
 		return " (" + fault.Why + ")"
-	case fault.isTied || fault.Cause == Behind && fault.Due.isUndated() || fault.Cause == LocalChange && fault.Recorded.isUndated():
-		return ""
-	case fault.isOverWire && (fault.Cause == OtherBytes || fault.Cause == Changed) && fault.isFileForFile():
-		return " (recorded as modified " + p.when(*fault.Recorded.Modified) + ")"
-	case fault.Cause == OtherBytes && fault.Recorded != nil:
-		return " (modified " + p.when(*fault.Recorded.Modified) + ")"
-	case fault.Cause == LocalChange && fault.Recorded != nil && fault.Deletion:
-		return " (" + p.when(*fault.Recorded.Modified) + ")"
-	case fault.Cause == LocalChange && fault.Recorded != nil:
-		return " (modified " + p.when(*fault.Recorded.Modified) + ")"
-	case fault.Found != nil && fault.Found.Type == "file" && (fault.Cause == Changed || fault.Cause == NotScanned || fault.Cause == OtherTime ||
-		fault.Cause == Back || fault.Cause == LocalAddition):
-		return " (modified " + p.when(*fault.Found.Modified) + ")"
-	case fault.Cause == Behind && fault.Due != nil && !fault.Deletion:
-		return " (modified " + p.when(*fault.Due.Modified) + ")"
-	case fault.Cause == Behind && fault.Due != nil:
-		return " (since " + p.when(*fault.Due.Modified) + ")"
 	}
-	return ""
+	word, of := fault.dated()
+	if of == nil || of.Modified == nil { // as of a symlink
+		return ""
+	}
+	return " (" + word + p.when(*of.Modified) + ")"
 }
 
-// isUndated says whether a state has no time, as that of a symlink.
-func (s *State) isUndated() bool { return s != nil && s.Modified == nil }
+// dated gives the state whose time is told, and a word before that. Of a deletion it is when that was.
+func (f *Fault) dated() (string, *State) {
+	switch {
+	case f.isOverWire && (f.Cause == OtherBytes || f.Cause == Changed) && f.isFileForFile():
+		return "recorded as modified ", f.Recorded
+	case f.Cause == LocalChange && f.Deletion:
+		return "", f.Recorded
+	case f.Cause == OtherBytes || f.Cause == LocalChange:
+		return "modified ", f.Recorded
+	case f.isTied:
+		return "", nil
+	case f.Cause == Behind && f.Deletion:
+		return "since ", f.Due
+	case f.Cause == Behind:
+		return "modified ", f.Due
+	case f.Found != nil && f.Found.Type == "file" && slices.Contains(datedByDisk, f.Cause):
+		return "modified ", f.Found
+	}
+	return "", nil
+}
+
+// datedByDisk are the causes of which a file on the disk tells the time.
+var datedByDisk = []Cause{Changed, NotScanned, OtherTime, Back, LocalAddition}
 
 func (p *printer) when(at time.Time) string { return at.In(p.zone).Format("2006-01-02 15:04:05 MST") }
 
