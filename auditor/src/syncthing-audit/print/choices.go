@@ -17,15 +17,15 @@ func (p *Person) choices(folder string, o *outlook.Outlook) {
 	for place := range o.Choices {
 		choice := &o.Choices[place]
 		if choice.Device != last {
-			p.line("\nto choose in %s on %s, for the whole folder, once all that is to stay is saved; or neither:", folder, p.Called(choice.Device))
+			p.Line("\nto choose in %s on %s, for the whole folder, once all that is to stay is saved; or neither:", folder, p.Called(choice.Device))
 		}
 		last = choice.Device
-		p.line("  %s", wordsOfChoice[choice.Act])
-		p.line("    %s", ofChoice(choice))
+		p.Line("  %s", wordsOfChoice[choice.Act])
+		p.Line("    %s", ofChoice(choice))
 		p.losses(choice.Loses, choice.Lost, "something that stands on a disk now")
 		p.losses(choice.Goes, choice.Gone, "what a recorded change or deletion then replaces")
 		if choice.Unknown > 0 {
-			p.line("    of %s it isn't known what this does: save %s first", Counted(choice.Unknown, "name", "names"), itOrThem(choice.Unknown))
+			p.Line("    of %s it isn't known what this does: save %s first", Counted(choice.Unknown, "name", "names"), itOrThem(choice.Unknown))
 		}
 	}
 }
@@ -56,7 +56,7 @@ func ofChoice(choice *outlook.Choice) string {
 	told := Counted(choice.Names, "name comes", "names come") + " to another end"
 	switch {
 	case choice.Alike == choice.Names:
-		told += ", and all devices then have one thing of " + one(choice.Names, "it", "each")
+		told += ", and all devices then have one thing of " + oneOf(choice.Names, "it", "each")
 	case choice.Alike > 0:
 		told += "; of " + Thousands(choice.Alike) + " all devices then have one thing"
 	}
@@ -68,7 +68,7 @@ func (p *Person) losses(all []outlook.Loss, count int64, of string) {
 	if count == 0 {
 		return
 	}
-	p.line("    %s %s: copy %s elsewhere before Syncthing starts, if it is to stay", Counted(count, "name loses", "names lose"), of, one(count, "it", "that"))
+	p.Line("    %s %s: copy %s elsewhere before Syncthing starts, if it is to stay", Counted(count, "name loses", "names lose"), of, oneOf(count, "it", "that"))
 	for place, loss := range all {
 		if place == outlook.MostNamed {
 			break
@@ -76,9 +76,9 @@ func (p *Person) losses(all []outlook.Loss, count int64, of string) {
 		var words []string
 		for at := range loss.Loses {
 			thing := &loss.Loses[at]
-			words = append(words, what(thing)+" on "+p.all(thing.Devices)+p.modified(thing))
+			words = append(words, what(thing)+" on "+p.Called.AsTheyStand(thing.Devices)+p.modified(thing))
 		}
-		p.line("      %s: %s", shell.Path(string(loss.Name)), strings.Join(words, "; "))
+		p.Line("      %s: %s", shell.Path(string(loss.Name)), strings.Join(words, "; "))
 	}
 	p.more("      ", count-outlook.MostNamed)
 }

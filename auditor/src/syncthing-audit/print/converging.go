@@ -9,11 +9,11 @@ func (p *Person) Converging(folder string, o *outlook.Outlook, pairs *int64) {
 		return
 	}
 	if o == nil || o.Names == 0 || o.NotKnown > 0 {
-		p.line("\nof %s it is proved, by its records:", folder)
+		p.Line("\nof %s it is proved, by its records:", folder)
 	}
 	if pairs != nil {
-		p.line("  still to come: %s of a name and a device", Counted(*pairs, "pair", "pairs"))
+		p.Line("  still to come: %s of a name and a device", Counted(*pairs, "pair", "pairs"))
 	}
-	p.line("  proved for devices that keep a few rules (docs/argument/orderly-peers.md): whatever comes first, nothing goes but what a recorded change replaces,")
-	p.line("  and no conflict copy is made")
+	p.Line("  proved for devices that keep a few rules (docs/argument/orderly-peers.md): whatever comes first, nothing goes but what a recorded change replaces,")
+	p.Line("  and no conflict copy is made")
 }

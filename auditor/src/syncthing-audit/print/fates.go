@@ -8,9 +8,6 @@ import (
 	"syncthing-audit/outlook"
 )
 
-// Naming names devices, rising.
-type Naming func(devices []string) string
-
 // mostEnds is how many ends of a name are told one by one.
 const mostEnds = 3
 
@@ -18,11 +15,11 @@ const mostEnds = 3
 type fate struct {
 	*outlook.Name
 	devices []string
-	called  Naming
+	called  Names
 }
 
 // Foretold says what becomes of a name if nobody does anything, on all of these devices; of several names that become alike, with isMany.
-func Foretold(name *outlook.Name, devices []string, called Naming, isMany bool) string {
+func Foretold(name *outlook.Name, devices []string, called Names, isMany bool) string {
 	f, ends := fate{name, devices, called}, []string{}
 	for place, end := range f.Ends {
 		if place == mostEnds {
@@ -58,11 +55,11 @@ func (f *fate) end(end []outlook.Thing) string {
 	case len(words) == 0:
 		words = append(words, "no device has it then")
 	case len(left) > 0:
-		words = append(words, f.called(left)+" then "+one(int64(len(left)), "has", "have")+" nothing there")
+		words = append(words, f.called.All(left)+" then "+oneOf(int64(len(left)), "has", "have")+" nothing there")
 	}
 	for place := range end {
 		if thing := &end[place]; thing.IsCopy {
-			words = append(words, f.now(thing)+" is kept as a conflict copy on "+f.called(thing.Devices))
+			words = append(words, f.now(thing)+" is kept as a conflict copy on "+f.called.All(thing.Devices))
 		}
 	}
 	for place := range f.Now {
@@ -80,9 +77,9 @@ func (f *fate) holders(thing *outlook.Thing) string {
 	case len(thing.Devices) == len(f.devices):
 		return "all devices then have " + f.now(thing)
 	case now != nil && len(without(thing.Devices, now.Devices)) == 0:
-		return f.called(thing.Devices) + " " + one(int64(len(thing.Devices)), "keeps what it has", "keep what they have")
+		return f.called.All(thing.Devices) + " " + oneOf(int64(len(thing.Devices)), "keeps what it has", "keep what they have")
 	}
-	return f.called(thing.Devices) + " then " + one(int64(len(thing.Devices)), "has ", "have ") + f.now(thing)
+	return f.called.All(thing.Devices) + " then " + oneOf(int64(len(thing.Devices)), "has ", "have ") + f.now(thing)
 }
 
 // now says what something is by who has it now.
@@ -91,7 +88,7 @@ func (f *fate) now(thing *outlook.Thing) string {
 		return what(thing)
 	}
 	if now := f.find(thing); now != nil {
-		return "what " + f.called(now.Devices) + " " + one(int64(len(now.Devices)), "has", "have") + " now"
+		return "what " + f.called.All(now.Devices) + " " + oneOf(int64(len(now.Devices)), "has", "have") + " now"
 	}
 	if thing.Type == forecast.File {
 		return "a file that no disk has under this name now"
@@ -115,7 +112,7 @@ func (f *fate) reasons() string {
 	}
 	for _, kept := range f.Kept {
 		if devices[kept.Why][0] == kept.Device {
-			words = append(words, f.called(devices[kept.Why])+": "+wordsOfKept[kept.Why])
+			words = append(words, f.called.All(devices[kept.Why])+": "+wordsOfKept[kept.Why])
 		}
 	}
 	return strings.Join(words, "; ")
@@ -132,14 +129,14 @@ func without(devices, those []string) []string {
 }
 
 // WhyUnknown says why it isn't known what becomes of a name, and what would make it known.
-func WhyUnknown(o *outlook.Outlook, name *outlook.Name, called Naming) string {
+func WhyUnknown(o *outlook.Outlook, name *outlook.Name, called Names) string {
 	why, devices := "", ""
 	if name != nil {
 		why = string(name.Why)
 	}
 	for _, group := range o.Unknown {
 		if (why == "" || why == group.Why) && len(group.Devices) > 0 && devices == "" {
-			devices = " (" + called(group.Devices) + ")"
+			devices = " (" + called.All(group.Devices) + ")"
 		}
 		if why == "" {
 			why = group.Why

@@ -16,22 +16,22 @@ func (p *Person) plans(folder string, o *outlook.Outlook) {
 	if len(o.Plans) == 0 {
 		return
 	}
-	p.line("\nto do in %s, from the top, while Syncthing is stopped on all its devices:", folder)
+	p.Line("\nto do in %s, from the top, while Syncthing is stopped on all its devices:", folder)
 	number := int64(0)
 	for place := range o.Plans {
 		number = p.plan(&o.Plans[place], number)
 	}
 	if o.WithoutSteps > 0 {
 		number++
-		p.line("  %s. do what the entries below say to do before Syncthing starts or scans, for %s: %s", Thousands(number),
+		p.Line("  %s. do what the entries below say to do before Syncthing starts or scans, for %s: %s", Thousands(number),
 			Counted(o.WithoutSteps, "name that no step here puts right", "names that no step here puts right"), firstOf(o.FirstWithout, o.WithoutSteps))
 	}
-	p.line("  %s. start Syncthing on all its devices%s", Thousands(number+1), unknownFirst(o))
+	p.Line("  %s. start Syncthing on all its devices%s", Thousands(number+1), unknownFirst(o))
 	if len(o.Choices) > 0 {
-		p.line("  %s. audit again, once they are idle. What may be chosen for the whole folder (%s) is told then: these steps change what it does", Thousands(number+2), p.choosers(o))
+		p.Line("  %s. audit again, once they are idle. What may be chosen for the whole folder (%s) is told then: these steps change what it does", Thousands(number+2), p.choosers(o))
 	}
 	if slices.IndexFunc(o.Plans, func(plan outlook.Plan) bool { return plan.Goal != nil }) >= 0 {
-		p.line("  what these steps put right needs nothing that the entries below say to do")
+		p.Line("  what these steps put right needs nothing that the entries below say to do")
 	}
 }
 
@@ -45,21 +45,21 @@ func unknownFirst(o *outlook.Outlook) string {
 
 // plan prints the steps of a plan behind so many others, and gives how many there are then.
 func (p *Person) plan(plan *outlook.Plan, number int64) int64 {
-	p.line("  for %s:", namesOf(plan))
-	it := one(plan.Count, "it", "each")
+	p.Line("  for %s:", namesOf(plan))
+	it := oneOf(plan.Count, "it", "each")
 	for _, step := range plan.Steps {
 		number++
-		p.line("    %s. on %s: %s", Thousands(number), p.Called(step.Device), p.step(&step, it, plan))
+		p.Line("    %s. on %s: %s", Thousands(number), p.Called(step.Device), p.step(&step, it, plan))
 	}
 	if plan.Goal != nil {
-		p.line("    then all devices have what %s now%s%s%s", p.have(plan.Goal.Devices), p.timeOf(plan), p.copies(plan), tried(plan.IsAll))
+		p.Line("    then all devices have what %s now%s%s%s", p.have(plan.Goal.Devices), p.timeOf(plan), p.copies(plan), tried(plan.IsAll))
 	}
 	return number
 }
 
 // have says that devices have something.
 func (p *Person) have(devices []string) string {
-	return p.all(devices) + " " + one(int64(len(devices)), "has", "have")
+	return p.Called.AsTheyStand(devices) + " " + oneOf(int64(len(devices)), "has", "have")
 }
 
 // firstOf gives the first of so many names, and how many more there are.
@@ -103,7 +103,7 @@ func (p *Person) step(step *outlook.Step, it string, plan *outlook.Plan) string 
 		return "copy " + it + " from " + p.Called(step.From) + howToCopy(step, it, plan)
 	}
 	if plan.IsOfDirectories() {
-		return "delete what stands there in " + one(plan.Count, "its place", "their places")
+		return "delete what stands there in " + oneOf(plan.Count, "its place", "their places")
 	}
 	return "delete " + it
 }
@@ -164,9 +164,9 @@ func PlansByName(o *outlook.Outlook) func(name string) *outlook.Plan {
 }
 
 // Leads says to what a plan leads; nothing where it saves alone.
-func Leads(plan *outlook.Plan, called Naming) string {
+func Leads(plan *outlook.Plan, called Names) string {
 	if plan.Goal == nil {
 		return ""
 	}
-	return "all devices then have what " + called(plan.Goal.Devices) + " " + one(int64(len(plan.Goal.Devices)), "has", "have") + " now"
+	return "all devices then have what " + called.AsTheyStand(plan.Goal.Devices) + " " + oneOf(int64(len(plan.Goal.Devices)), "has", "have") + " now"
 }

@@ -2,7 +2,6 @@ package print
 
 import (
 	"io"
-	"strings"
 	"time"
 
 	"syncthing-audit/forecast"
@@ -14,7 +13,7 @@ import (
 // Person is how a person reads what is foretold.
 type Person struct {
 	To     io.Writer
-	Called func(device string) string
+	Called Names
 	Zone   *time.Location
 }
 
@@ -23,14 +22,14 @@ func (p *Person) Outlook(folder string, isInStep bool, o *outlook.Outlook) {
 	if o == nil || o.Names == 0 || isInStep && o.Right == o.Names {
 		return
 	}
-	p.line("\nif nobody does anything in %s, and all devices scan, then run and reach one another until nothing changes any more:", folder)
+	p.Line("\nif nobody does anything in %s, and all devices scan, then run and reach one another until nothing changes any more:", folder)
 	p.right(o)
 	p.lost(o)
 	p.several(o)
 	p.stays(o)
 	p.notKnown(o)
 	if o.Walked > 0 {
-		p.line("  of %s not all orders were tried: what is said of %s holds in all orders tried", Counted(o.Walked, "name", "names"), itOrThem(o.Walked))
+		p.Line("  of %s not all orders were tried: what is said of %s holds in all orders tried", Counted(o.Walked, "name", "names"), itOrThem(o.Walked))
 	}
 	p.plans(folder, o)
 }
@@ -40,40 +39,30 @@ const OfOlder = "a program of 0.16.0 or before made the export"
 
 // NoOutlook says that what happens isn't known of such an export.
 func (p *Person) NoOutlook(folder string) {
-	p.line("\nit isn't known what happens in %s if nobody does anything: %s", folder, OfOlder)
+	p.Line("\nit isn't known what happens in %s if nobody does anything: %s", folder, OfOlder)
 }
 
-func (p *Person) line(format string, words ...interface{}) {
+// Line prints a line.
+func (p *Person) Line(format string, words ...interface{}) {
 	outside.Printf(p.To, format+"\n", words...)
 }
 
-func itOrThem(count int64) string {
-	if count == 1 {
-		return "it"
-	}
-	return "them"
-}
+// When gives a time as a person reads it.
+func (p *Person) When(at time.Time) string { return at.In(p.Zone).Format("2006-01-02 15:04:05 MST") }
 
 // right tells of names of which nothing is lost, and that end alike everywhere.
 func (p *Person) right(o *outlook.Outlook) {
 	if o.Right > 0 {
-		p.line("  %s right by %s, and %s nothing but what a recorded change replaced", Counted(o.Right, "name comes", "names come"),
-			one(o.Right, "itself", "themselves"), one(o.Right, "loses", "lose"))
-		p.line("    if not, see whether a device or the folder is paused, whether they are connected, whether a disk is full, and whether Syncthing's page lists 'Failed Items'")
+		p.Line("  %s right by %s, and %s nothing but what a recorded change replaced", Counted(o.Right, "name comes", "names come"),
+			oneOf(o.Right, "itself", "themselves"), oneOf(o.Right, "loses", "lose"))
+		p.Line("    if not, see whether a device or the folder is paused, whether they are connected, whether a disk is full, and whether Syncthing's page lists 'Failed Items'")
 	}
 	if o.Deleted > 0 {
-		p.line("  %s deleted on all devices, as is recorded", Counted(o.Deleted, "name is", "names are"))
+		p.Line("  %s deleted on all devices, as is recorded", Counted(o.Deleted, "name is", "names are"))
 	}
 	if o.Changed > 0 {
-		p.line("  %s a change that no scan has seen yet; what it replaces is on no device then", Counted(o.Changed, "name takes", "names take"))
+		p.Line("  %s a change that no scan has seen yet; what it replaces is on no device then", Counted(o.Changed, "name takes", "names take"))
 	}
-}
-
-func one(count int64, alone, several string) string {
-	if count == 1 {
-		return alone
-	}
-	return several
 }
 
 // lost tells of names that lose something, the first ones by name.
@@ -81,10 +70,10 @@ func (p *Person) lost(o *outlook.Outlook) {
 	if o.Lost == 0 {
 		return
 	}
-	p.line("  %s something that stands on a disk now:", Counted(o.Lost, "name loses", "names lose"))
+	p.Line("  %s something that stands on a disk now:", Counted(o.Lost, "name loses", "names lose"))
 	p.named(o, outlook.Lost, o.Lost, func(name *outlook.Name) {
 		for _, thing := range name.Loses {
-			p.line("    %s: %s on %s%s; then on no device%s", shell.Path(string(name.Name)), what(&thing), p.all(thing.Devices), p.modified(&thing), some(name))
+			p.Line("    %s: %s on %s%s; then on no device%s", shell.Path(string(name.Name)), what(&thing), p.Called.AsTheyStand(thing.Devices), p.modified(&thing), some(name))
 		}
 	})
 }
@@ -112,7 +101,7 @@ func (p *Person) named(o *outlook.Outlook, of outlook.Fate, count int64, tell fu
 // more says how many names aren't told.
 func (p *Person) more(before string, count int64) {
 	if count > 0 {
-		p.line("%sand %s (--json has them)", before, Counted(count, "more name", "more names"))
+		p.Line("%sand %s (--json has them)", before, Counted(count, "more name", "more names"))
 	}
 }
 
@@ -121,7 +110,7 @@ func (p *Person) modified(thing *outlook.Thing) string {
 	if at == nil {
 		return ""
 	}
-	return " (modified " + at.In(p.Zone).Format("2006-01-02 15:04:05 MST") + ")"
+	return " (modified " + p.When(*at) + ")"
 }
 
 // what names a thing that stands on a disk.
@@ -140,9 +129,9 @@ func (p *Person) several(o *outlook.Outlook) {
 	if o.Depends == 0 {
 		return
 	}
-	p.line("  %s to one of several ends, by the order of what happens; nothing is lost:", Counted(o.Depends, "name comes", "names come"))
+	p.Line("  %s to one of several ends, by the order of what happens; nothing is lost:", Counted(o.Depends, "name comes", "names come"))
 	p.named(o, outlook.Depends, o.Depends, func(name *outlook.Name) {
-		p.line("    %s: %s", shell.Path(string(name.Name)), Counted(int64(len(name.Ends)), "end", "ends"))
+		p.Line("    %s: %s", shell.Path(string(name.Name)), Counted(int64(len(name.Ends)), "end", "ends"))
 	})
 }
 
@@ -151,9 +140,9 @@ func (p *Person) stays(o *outlook.Outlook) {
 	if o.Stays == 0 {
 		return
 	}
-	p.line("  %s wrong:", Counted(o.Stays, "name stays", "names stay"))
+	p.Line("  %s wrong:", Counted(o.Stays, "name stays", "names stay"))
 	for _, why := range o.Kept {
-		p.line("    %s on %s: %s", Counted(why.Names, "name", "names"), p.all(why.Devices), wordsOfKept[forecast.Why(why.Why)])
+		p.Line("    %s on %s: %s", Counted(why.Names, "name", "names"), p.Called.AsTheyStand(why.Devices), wordsOfKept[forecast.Why(why.Why)])
 	}
 }
 
@@ -179,9 +168,9 @@ func (p *Person) notKnown(o *outlook.Outlook) {
 	if o.NotKnown == 0 {
 		return
 	}
-	p.line("  of %s it isn't known what becomes of %s:", Counted(o.NotKnown, "name", "names"), itOrThem(o.NotKnown))
+	p.Line("  of %s it isn't known what becomes of %s:", Counted(o.NotKnown, "name", "names"), itOrThem(o.NotKnown))
 	for _, why := range o.Unknown {
-		p.line("    %s: %s%s%s", Counted(why.Names, "name", "names"), wordsOfUnknown[why.Why], p.of(why.Devices), toKnow(why.Why))
+		p.Line("    %s: %s%s%s", Counted(why.Names, "name", "names"), wordsOfUnknown[why.Why], p.of(why.Devices), toKnow(why.Why))
 	}
 }
 
@@ -236,13 +225,5 @@ func (p *Person) of(devices []string) string {
 	if len(devices) == 0 {
 		return ""
 	}
-	return " (" + p.all(devices) + ")"
-}
-
-func (p *Person) all(devices []string) string {
-	var called []string
-	for _, device := range devices {
-		called = append(called, p.Called(device))
-	}
-	return strings.Join(called, ", ")
+	return " (" + p.Called.AsTheyStand(devices) + ")"
 }

@@ -21,11 +21,18 @@ func Size(bytes int64) string {
 
 // Counted gives a number with what it counts.
 func Counted(number int64, one, many string) string {
-	if number == 1 {
-		return "1 " + one
-	}
-	return Thousands(number) + " " + many
+	return Thousands(number) + " " + oneOf(number, one, many)
 }
+
+// oneOf gives the one word where there is one, and the other one of several.
+func oneOf(count int64, alone, several string) string {
+	if count == 1 {
+		return alone
+	}
+	return several
+}
+
+func itOrThem(count int64) string { return oneOf(count, "it", "them") }
 
 // Thousands gives a number with commas between its groups of three digits.
 func Thousands(number int64) string {

@@ -54,7 +54,7 @@ type of struct {
 
 // writing are the scripts of an answer.
 type writing struct {
-	called  func(device string) string
+	called  print.Names
 	audit   string
 	scripts map[of]*script
 	number  int   // of the last step
@@ -144,18 +144,10 @@ func (s *script) wordOf(name string, number int) string {
 
 // aim says to what a plan leads.
 func (w *writing) aim(plan *outlook.Plan) string {
-	if leads := print.Leads(plan, w.all); leads != "" {
+	if leads := print.Leads(plan, w.called); leads != "" {
 		return "So " + leads + "."
 	}
 	return "What stands there may go once Syncthing starts: it is kept."
-}
-
-func (w *writing) all(devices []string) string {
-	var names []string
-	for _, device := range devices {
-		names = append(names, w.called(device))
-	}
-	return strings.Join(names, ", ")
 }
 
 // places gives of which devices and rounds there are scripts, in the order in which they are run.

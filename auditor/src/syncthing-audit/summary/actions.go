@@ -9,19 +9,22 @@ import (
 // alone: so what one of them tells to do first counts for all others.
 type actions struct {
 	entries int
-	safe    map[string]bool                   // the devices on which some entry tells to do something before Syncthing starts or scans there
-	wrong   map[string]map[string]*wrongNames // of which names that is told above all entries, by why and by device
-	waits   map[string]*waiting               // what no scan has seen there
+	safe    map[string]bool         // the devices on which some entry tells to do something before Syncthing starts or scans there
+	wrong   map[wrongAt]*wrongNames // of which names that is told above all entries
+	waits   map[string]*waiting     // what no scan has seen there
 }
 
-// wrongNames counts names on a device.
+// wrongAt is why names on a device are told above all entries.
+type wrongAt struct{ why, device string }
+
+// wrongNames counts them.
 type wrongNames struct {
 	names   int64
 	folders []string
 }
 
 func newActions() *actions {
-	return &actions{safe: map[string]bool{}, wrong: map[string]map[string]*wrongNames{isLonger: {}, isDamaged: {}, isMissing: {}}, waits: map[string]*waiting{}}
+	return &actions{safe: map[string]bool{}, wrong: map[wrongAt]*wrongNames{}, waits: map[string]*waiting{}}
 }
 
 // note notes what the entry of a folder's name tells to do.
@@ -31,13 +34,12 @@ func (a *actions) note(file *File, folder string) {
 		a.safe[device] = true
 	}
 	for _, fault := range file.Faults {
-		if on := a.wrong[file.whyFirst(fault)]; on != nil {
-			if on[fault.Device] == nil {
-				on[fault.Device] = &wrongNames{}
-			}
-			on[fault.Device].names++
-			on[fault.Device].folders = addOnce(on[fault.Device].folders, folder)
+		at := wrongAt{file.whyFirst(fault), fault.Device}
+		if a.wrong[at] == nil {
+			a.wrong[at] = &wrongNames{}
 		}
+		a.wrong[at].names++
+		a.wrong[at].folders = addOnce(a.wrong[at].folders, folder)
 	}
 }
 

@@ -1,43 +1,11 @@
 package summary
 
 import (
-	"sort"
-	"strings"
-
 	"golang.org/x/exp/slices"
 	"syncthing-audit/damage"
 	"syncthing-audit/outlook"
+	"syncthing-audit/print"
 )
-
-// labels are the names of devices for a person, by their ids.
-type labels map[string]string
-
-// of gives a device's name.
-func (l labels) of(id string) string {
-	if name := l[id]; name != "" {
-		return name
-	}
-	return id
-}
-
-// rising gives devices in the order of their names.
-func (l labels) rising(ids []string) []string {
-	sorted := append([]string{}, ids...)
-	sort.SliceStable(sorted, func(a, b int) bool { return l.of(sorted[a]) < l.of(sorted[b]) })
-	return sorted
-}
-
-// each gives the name of each.
-func (l labels) each(ids []string) []string {
-	names := []string{}
-	for _, id := range ids {
-		names = append(names, l.of(id))
-	}
-	return names
-}
-
-// all gives several names, rising.
-func (l labels) all(ids []string) string { return strings.Join(l.each(l.rising(ids)), ", ") }
 
 // addOnce adds a text that isn't there yet.
 func addOnce(all []string, text string) []string {
@@ -51,7 +19,7 @@ const receiveOnly = "receive-only"
 
 // adviceOf says what to do about a name, each thing once: what to look for elsewhere; the steps that were found for it or, without any, what is to be saved;
 // and what its faults ask for beside that. It foretells nothing: package outlook does.
-func adviceOf(file *File, named labels) []string {
+func adviceOf(file *File, named print.Names) []string {
 	advice := append(file.withoutCopy(named), file.beforeStart(named)...)
 	for _, fault := range file.Faults {
 		if told := file.adviceOfFault(fault, named); told != "" {
@@ -68,7 +36,7 @@ func adviceOf(file *File, named labels) []string {
 }
 
 // beforeStart says what comes before Syncthing starts: the steps for the name or, without any, what is to be saved or decided.
-func (f *File) beforeStart(named labels) []string {
+func (f *File) beforeStart(named print.Names) []string {
 	it := f.say("it", "them")
 	switch plan := f.foretold.plan; {
 	case plan != nil && plan.Goal != nil:
@@ -115,10 +83,10 @@ func (f *File) nothing() string {
 }
 
 // toSave says what is to be saved of a name of which it isn't known what becomes of it.
-func (f *File) toSave(named labels) []string {
+func (f *File) toSave(named print.Names) []string {
 	on := []string{}
 	if len(f.Have) > 0 && !f.isDeletionDue() {
-		on = append(on, named.rising(f.Have)[0])
+		on = append(on, named.Rising(f.Have)[0])
 	}
 	for _, fault := range f.Faults {
 		isHolding := !fault.isOfDisk() && fault.Recorded != nil && !fault.Recorded.Deleted && !f.hasAt(fault.Device, Missing)
@@ -129,7 +97,7 @@ func (f *File) toSave(named labels) []string {
 	if len(on) == 0 || len(f.Faults) == 0 {
 		return nil
 	}
-	return []string{"before Syncthing starts or scans on any of these devices, copy elsewhere what is to stay of what stands on " + named.all(on)}
+	return []string{"before Syncthing starts or scans on any of these devices, copy elsewhere what is to stay of what stands on " + named.All(on)}
 }
 
 // isWithoutCopy says whether a disk was harmed that had what is due, and no audited device has that.
@@ -148,7 +116,7 @@ func (f *File) isHarmOfDue(fault *Fault) bool {
 }
 
 // withoutCopy says to look elsewhere for what no audited device has, and on which disks some of its blocks are.
-func (f *File) withoutCopy(named labels) []string {
+func (f *File) withoutCopy(named print.Names) []string {
 	if !f.isWithoutCopy() {
 		return nil
 	}
@@ -163,10 +131,10 @@ func (f *File) withoutCopy(named labels) []string {
 	}
 	told := "look among old versions and backups: no audited device has what is recorded"
 	if len(on) > 0 {
-		told += ". Some of its blocks are on " + named.all(on)
+		told += ". Some of its blocks are on " + named.All(on)
 	}
 	if len(on) > 1 {
-		told += ", the most on " + named.of(most.Device)
+		told += ", the most on " + named(most.Device)
 	}
 	return []string{told}
 }
@@ -181,8 +149,8 @@ func (f *Fault) isOfDisk() bool {
 }
 
 // adviceOfFault says what a fault asks for by itself.
-func (f *File) adviceOfFault(fault *Fault, named labels) string {
-	at := named.of(fault.Device)
+func (f *File) adviceOfFault(fault *Fault, named print.Names) string {
+	at := named(fault.Device)
 	switch {
 	case fault.Cause == Damaged:
 		return "see the system's log on " + at + " (journalctl -k, smartctl -a): its disk fails there, and may soon fail elsewhere. Save what that disk has and no other " +
@@ -207,13 +175,13 @@ const asItIs = " (cp -a, or rsync -aIX, as the user who runs Syncthing there)"
 
 // putBack says how a device's disk gets what the device recorded from another disk. Into a file that stands there the bytes and the time alone are written: so
 // it keeps its owner, mode and attributes, also where root copies it.
-func (f *File) putBack(fault *Fault, named labels) string {
-	told := fault.whetherEdit(f, named) + "to have again what " + named.of(fault.Device) + " recorded, "
+func (f *File) putBack(fault *Fault, named print.Names) string {
+	told := fault.whetherEdit(f, named) + "to have again what " + named(fault.Device) + " recorded, "
 	isSaved := !f.foretold.isKnown() || f.foretold.plan == nil && f.looksDamaged() // as the entry says before
 	if fault.Found != nil && !isSaved {
 		told += "copy elsewhere what stands there, if it may be right, and "
 	}
-	told += "copy " + f.say("it", "them") + " from " + named.of(named.rising(fault.sources)[0]) + " to " + named.of(fault.Device)
+	told += "copy " + f.say("it", "them") + " from " + named(named.Rising(fault.sources)[0]) + " to " + named(fault.Device)
 	switch {
 	case fault.isFileForFile():
 		told += f.say(" with its time alone, into the file that stands there", " with their times alone, into the files that stand there") + " (cp --preserve=timestamps, or rsync --inplace --times --ignore-times)"
@@ -235,10 +203,10 @@ func (f *File) detailsBy(alone string) string {
 }
 
 // oneMode says on which devices to change permissions, of a name of which these alone differ.
-func (f *File) oneMode(named labels) string {
+func (f *File) oneMode(named print.Names) string {
 	devices := []string{}
 	for _, mode := range f.Permissions {
 		devices = append(devices, mode.Device)
 	}
-	return "'chmod' " + f.say("it", "them") + " to the mode that is right on " + named.all(devices) + ", before Syncthing scans there; or choose 'Ignore Permissions' for the folder"
+	return "'chmod' " + f.say("it", "them") + " to the mode that is right on " + named.All(devices) + ", before Syncthing scans there; or choose 'Ignore Permissions' for the folder"
 }

@@ -27,13 +27,13 @@ func wantedOf(rest *part.Rest) *Wanted {
 func (p *printer) asked(s *Summary) {
 	for _, folder := range s.Folders {
 		said := places{}
-		for _, one := range folder.Devices {
-			if one.Wanted != nil {
-				said.add(one.Kind+", "+shell.Printable(one.Rest)+", "+one.Wanted.words(), one.Device)
+		for _, member := range folder.Devices {
+			if member.Wanted != nil {
+				said.add(member.Kind+", "+shell.Printable(member.Rest)+", "+member.Wanted.words(), member.Device)
 			}
 		}
-		said.each(p.named, func(words, devices string) {
-			p.line("Syncthing itself says of %s on %s: %s", shell.Folder(folder.ID, folder.Label), devices, words)
+		said.each(p.Called, func(words, devices string) {
+			p.Line("Syncthing itself says of %s on %s: %s", shell.Folder(folder.ID, folder.Label), devices, words)
 		})
 	}
 }
@@ -48,8 +48,8 @@ func (w *Wanted) words() string {
 		return told + ", fails at nothing"
 	}
 	first := []string{}
-	for _, one := range w.First {
-		first = append(first, shell.Path(string(one.Name))+" ("+shell.Printable(one.Why)+")")
+	for _, failed := range w.First {
+		first = append(first, shell.Path(string(failed.Name))+" ("+shell.Printable(failed.Why)+")")
 	}
 	told += ", fails at " + counted(w.Errors, "name", "names")
 	if len(first) > 0 {

@@ -23,21 +23,13 @@ func (p *printer) entries(s *Summary) {
 // files prints the entries of the names in such a danger. Many of which the very same is told are one entry: a disk that rots has many, and so has a device
 // on which someone worked while Syncthing was off. --json tells each.
 func (p *printer) files(folder *Folder, danger int) {
-	files, told := []*File{}, map[string]*alike{}
 	for _, file := range folder.Files {
-		if file.danger() == danger {
-			if files = append(files, file); told[file.key] == nil {
-				told[file.key] = &alike{}
-			}
-			told[file.key].take(file)
-		}
-	}
-	for _, file := range files {
-		switch all := told[file.key]; {
+		switch all := file.among; {
+		case file.danger() != danger:
 		case all.group.Names <= mostAlone:
 			p.file(folder, file)
 		case file == all.files[0]:
-			p.group(folder, all.groupOf(p.named), all.files)
+			p.group(folder, all.groupOf(p.Called), all.files)
 		}
 	}
 }
@@ -48,7 +40,7 @@ func (p *printer) file(folder *Folder, file *File) {
 	if file.Size > 0 {
 		about += ", " + size(file.Size)
 	}
-	p.line("\n%s  (%s)", shell.Path(string(file.Name)), about)
+	p.Line("\n%s  (%s)", shell.Path(string(file.Name)), about)
 	for _, fault := range file.Faults {
 		p.fault(fault)
 	}
@@ -66,13 +58,13 @@ func (p *printer) group(folder *Folder, group *Group, all []*File) {
 	if group.Unsized > 0 {
 		unsized = ", without " + counted(group.Unsized, "name", "names") + " whose details weren't kept"
 	}
-	p.line("\n%s in %s: %s%s", counted(group.Names, "name", "names"), folder.ID, size(group.Bytes), unsized)
+	p.Line("\n%s in %s: %s%s", counted(group.Names, "name", "names"), folder.ID, size(group.Bytes), unsized)
 	for place, fault := range group.of.Faults {
 		faults := faultsAt(all, place)
 		if len(faults) == 0 {
 			faults = []*Fault{fault}
 		}
-		p.line("  %s: %s%s", p.named.of(faults[0].Device), wordsOfFaults(faults, true), differingInAll(faults))
+		p.Line("  %s: %s%s", p.Called(faults[0].Device), wordsOfFaults(faults, true), differingInAll(faults))
 	}
 	p.same(group.of)
 	p.modes(group.Modes)
@@ -80,7 +72,7 @@ func (p *printer) group(folder *Folder, group *Group, all []*File) {
 	for _, name := range group.First {
 		first = append(first, shell.Path(string(name)))
 	}
-	p.line("  the first: %s, and %s more (--lines has all)", strings.Join(first, " "), thousands(group.Names-int64(len(first))))
+	p.Line("  the first: %s, and %s more (--lines has all)", strings.Join(first, " "), thousands(group.Names-int64(len(first))))
 	p.have(group.of)
 	p.foretold(group.Foretold)
 	p.advice(group.Advice)
@@ -111,40 +103,40 @@ func differingInAll(faults []*Fault) string {
 
 // fault prints what is wrong with a name on a device, and since when.
 func (p *printer) fault(fault *Fault) {
-	p.line("  %s: %s%s", p.named.of(fault.Device), wordsOfFaults([]*Fault{fault}, false), p.since(fault))
+	p.Line("  %s: %s%s", p.Called(fault.Device), wordsOfFaults([]*Fault{fault}, false), p.since(fault))
 	if fault.Found != nil && fault.Found.Unread > 0 {
-		p.line("    its last %s weren't read: it is that much longer than any record, so it isn't what is recorded, and which devices have the same "+
+		p.Line("    its last %s weren't read: it is that much longer than any record, so it isn't what is recorded, and which devices have the same "+
 			"bytes isn't known", size(fault.Found.Unread))
 	}
 	if fault.Blocks == nil || fault.Blocks.Of < 1 {
 		return
 	}
-	p.line("    %s (%s of %s of %d KiB; the first is block 0)", differing(fault.Blocks), thousands(fault.Blocks.Count),
+	p.Line("    %s (%s of %s of %d KiB; the first is block 0)", differing(fault.Blocks), thousands(fault.Blocks.Count),
 		counted(fault.Blocks.Of, "block", "blocks"), fault.Blocks.Size>>10)
 	if fault.Blocks.Recorded != "" && fault.Blocks.Found != "" {
-		p.line("    the first of them: SHA-256 %s.. recorded, %s.. on the disk", fault.Blocks.Recorded[:8], fault.Blocks.Found[:8])
+		p.Line("    the first of them: SHA-256 %s.. recorded, %s.. on the disk", fault.Blocks.Recorded[:8], fault.Blocks.Found[:8])
 	}
 }
 
 // same prints which devices have the same bytes in place of those recorded.
 func (p *printer) same(file *File) {
 	for _, same := range file.Same {
-		p.line("  the same other bytes on: %s", p.named.all(same))
+		p.Line("  the same other bytes on: %s", p.Called.All(same))
 	}
 }
 
 // have prints which devices have what is due, be it with another time. Nothing is due of a name without a winner, and of one without details it isn't known.
 func (p *printer) have(file *File) {
-	devices := p.named.all(file.Have)
+	devices := p.Called.All(file.Have)
 	switch {
 	case len(file.Faults) == 0 || len(file.Have) == 0 && !file.hasDetails || file.isOfNobody():
 	case len(file.Have) == 0:
-		p.line("  as recorded on: no audited device")
+		p.Line("  as recorded on: no audited device")
 	case file.isDeletionDue():
-		p.line("  deleted on: %s", devices)
+		p.Line("  deleted on: %s", devices)
 	case file.isOfAnotherTime:
-		p.line("  the recorded bytes on: %s", devices)
+		p.Line("  the recorded bytes on: %s", devices)
 	default:
-		p.line("  as recorded on: %s", devices)
+		p.Line("  as recorded on: %s", devices)
 	}
 }

@@ -4,6 +4,7 @@ import (
 	"strings"
 
 	"syncthing-audit/part"
+	"syncthing-audit/print"
 )
 
 // First is what is to be done on some devices before all that the entries tell to do there.
@@ -27,15 +28,15 @@ const (
 )
 
 // firstOf gives what comes before all entries.
-func (s *Summary) firstOf(named labels) []First {
+func (s *Summary) firstOf(named print.Names) []First {
 	lines := append([]First{}, s.firstScans(named)...)
 	for _, device := range s.Devices {
 		lines = append(lines, s.firstWaiting(device.ID, named)...)
 	}
 	for _, why := range []string{isLonger, isDamaged, isMissing} {
 		for _, device := range s.Devices {
-			if wrong := s.actions.wrong[why][device.ID]; wrong != nil {
-				lines = append(lines, First{why, []string{device.ID}, wrong.names, "first, on " + named.of(device.ID) + ": " + wrong.words(why)})
+			if wrong := s.actions.wrong[wrongAt{why, device.ID}]; wrong != nil {
+				lines = append(lines, First{why, []string{device.ID}, wrong.names, "first, on " + named(device.ID) + ": " + wrong.words(why)})
 			}
 		}
 	}
@@ -55,20 +56,18 @@ func (w *wrongNames) words(why string) string {
 }
 
 // firstScans tells on which devices a scan or a pull was under way: no later step keeps back what a scan found already.
-func (s *Summary) firstScans(named labels) []First {
+func (s *Summary) firstScans(named print.Names) []First {
 	on := []string{}
-	for _, folder := range s.Folders {
-		for _, member := range folder.Devices {
-			if member.isScanning() {
-				on = addOnce(on, member.Device)
-			}
+	s.eachMember(func(_ *Folder, member *Member) {
+		if member.isScanning() {
+			on = addOnce(on, member.Device)
 		}
-	}
+	})
 	if len(on) == 0 {
 		return nil
 	}
-	return []First{{Why: isScanned, Devices: on, Text: "first, on all devices but " + named.all(on) + ": copy to a place outside the folder what is to stay. On " +
-		named.all(on) + " Syncthing wasn't seen idle, and nobody knows what a scan there has found. Then let it finish, and audit again before you do what stands below"}}
+	return []First{{Why: isScanned, Devices: on, Text: "first, on all devices but " + named.All(on) + ": copy to a place outside the folder what is to stay. On " +
+		named.All(on) + " Syncthing wasn't seen idle, and nobody knows what a scan there has found. Then let it finish, and audit again before you do what stands below"}}
 }
 
 // isScanning says whether Syncthing was at work in the folder between two looks.
@@ -79,7 +78,7 @@ func (m *Member) isScanning() bool {
 
 // firstStarts tells on which devices something is to be made safe before Syncthing starts, where another entry tells or implies a start there. Of names
 // that weren't asked for nobody knows what a start does.
-func (s *Summary) firstStarts(named labels) []First {
+func (s *Summary) firstStarts(named print.Names) []First {
 	unseen, first, lines := []string{}, []string{}, []First{}
 	for _, device := range s.Devices {
 		if s.actions.safe[device.ID] && s.actions.entries > 1 {
@@ -89,11 +88,11 @@ func (s *Summary) firstStarts(named labels) []First {
 		}
 	}
 	if len(first) > 0 {
-		lines = append(lines, First{Why: isMadeSafe, Devices: first, Text: "first, on " + named.all(first) +
+		lines = append(lines, First{Why: isMadeSafe, Devices: first, Text: "first, on " + named.All(first) +
 			": do what the steps and the entries below say to do before Syncthing starts or scans there. As it starts, it scans all folders"})
 	}
 	if len(unseen) > 0 {
-		lines = append(lines, First{Why: isNotAsked, Devices: unseen, Text: "before a start, on " + named.all(unseen) +
+		lines = append(lines, First{Why: isNotAsked, Devices: unseen, Text: "before a start, on " + named.All(unseen) +
 			": as Syncthing starts, it scans all folders. What that does to names that weren't asked for isn't known: they may be missing there"})
 	}
 	return lines
@@ -102,14 +101,14 @@ func (s *Summary) firstStarts(named labels) []First {
 // first prints what comes before all entries, above them.
 func (p *printer) first(s *Summary) {
 	if len(s.First) > 0 {
-		p.line("")
+		p.Line("")
 	}
 	for _, first := range s.First {
 		if first.Why == isUnscanned || first.Why == isScanned {
 			line, text, _ := strings.Cut(first.Text, " ")
 			p.running(line, text)
 		} else {
-			p.line("%s", first.Text)
+			p.Line("%s", first.Text)
 		}
 	}
 }

@@ -16,7 +16,7 @@ type foretold struct {
 }
 
 // foreteller gives for each name of a folder what is foretold of it.
-func foreteller(folder *Folder, named labels) func(name string) foretold {
+func foreteller(folder *Folder, named print.Names) func(name string) foretold {
 	told := folder.Outlook
 	if told == nil {
 		return func(string) foretold { return foretold{why: ": " + print.OfOlder} }
@@ -35,7 +35,7 @@ func foreteller(folder *Folder, named labels) func(name string) foretold {
 		case fate.fate == nil && isListed && len(told.Unknown) == 0:
 			fate.why = ": it isn't among the names of which something is foretold"
 		case fate.fate == nil || fate.is(outlook.Unknown):
-			fate.why, fate.fate = ": "+print.WhyUnknown(told, fate.fate, named.all), nil
+			fate.why, fate.fate = ": "+print.WhyUnknown(told, fate.fate, named), nil
 		}
 		return fate
 	}
@@ -51,10 +51,10 @@ func (f *foretold) is(fate outlook.Fate) bool { return f.isKnown() && f.fate.Fat
 func (f *foretold) hasGoal() bool { return f.plan != nil && f.plan.Goal != nil }
 
 // tell says what becomes of the name if nobody does anything; nothing of one of which the permissions alone differ, where that isn't known.
-func (f *File) tell(named labels) string {
+func (f *File) tell(named print.Names) string {
 	switch {
 	case f.foretold.isKnown():
-		return print.Foretold(f.foretold.fate, f.foretold.devices, named.all, f.isMany)
+		return print.Foretold(f.foretold.fate, f.foretold.devices, named, f.isMany)
 	case len(f.Faults) == 0:
 		return ""
 	}

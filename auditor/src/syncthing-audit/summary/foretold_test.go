@@ -17,6 +17,7 @@ import (
 	"syncthing-audit/join"
 	"syncthing-audit/outlook"
 	"syncthing-audit/part"
+	"syncthing-audit/print"
 )
 
 // foretellAll has an answer of rows say what happens if nobody does anything: all of its devices run 1.29.5 and share the folder.
@@ -119,7 +120,7 @@ func TestWhatLooksDamagedIsNeverLeft(t *testing.T) {
 	state := &State{Type: "file", Size: 5}
 	for _, fate := range outlook.Fates {
 		file := &File{Faults: []*Fault{{Device: server, Cause: Changed, Damage: damage.Cut, Recorded: state, Found: state, sources: []string{laptop}}}, foretold: foretold{fate: &outlook.Name{Fate: fate}}}
-		is := adviceOf(file, labels{})
+		is := adviceOf(file, unnamed)
 		if len(is) != 2 || !strings.HasPrefix(is[0], "before Syncthing starts or scans on any of these devices, copy elsewhere") || !strings.HasPrefix(is[1], "to have again what") {
 			t.Errorf("%s: %q", fate, is)
 		}
@@ -132,11 +133,11 @@ func TestWhatIsLostWithoutSteps(t *testing.T) {
 	for fate, told := range map[outlook.Fate]string{outlook.Lost: "before Syncthing starts or scans on any of these devices, copy elsewhere what is to stay",
 		outlook.Depends: "nothing: let Syncthing run", outlook.ByItself: "nothing: let Syncthing run"} {
 		file := &File{Faults: []*Fault{{Device: server, Cause: Changed, Recorded: state, Found: state, sources: []string{laptop}}}, foretold: foretold{fate: &outlook.Name{Fate: fate}}}
-		if is := adviceOf(file, labels{}); len(is) != 1 || !strings.HasPrefix(is[0], told) {
+		if is := adviceOf(file, unnamed); len(is) != 1 || !strings.HasPrefix(is[0], told) {
 			t.Errorf("%s: %q", fate, is)
 		}
 		file.foretold.hasSteps = true
-		if is := adviceOf(file, labels{}); fate != outlook.Lost && !reflect.DeepEqual(is, []string{"nothing but the start with which the steps above end"}) {
+		if is := adviceOf(file, unnamed); fate != outlook.Lost && !reflect.DeepEqual(is, []string{"nothing but the start with which the steps above end"}) {
 			t.Errorf("%s: %q", fate, is)
 		}
 	}
@@ -177,7 +178,7 @@ func TestEntriesOfRandomNames(t *testing.T) {
 				}
 			}
 			for _, found := range putBack.FindAllStringSubmatch(text, -1) {
-				from, to := placeOf(folder, made.labels(), found[2]), placeOf(folder, made.labels(), found[3])
+				from, to := placeOf(folder, made.Called(), found[2]), placeOf(folder, made.Called(), found[3])
 				if own := row.At[to].Own; own != nil && own.Content != nil && found[1] == found[3] {
 					copied++
 					if row.At[from] == nil || row.At[from].Disk == nil || !slices.Contains(row.At[from].Disk.Contents, *own.Content) {
@@ -196,6 +197,6 @@ func TestEntriesOfRandomNames(t *testing.T) {
 }
 
 // placeOf gives the place of the device that is called so.
-func placeOf(folder *finding.Folder, named labels, called string) int {
-	return slices.IndexFunc(folder.Members, func(member join.Member) bool { return named.of(member.Head.Device) == called })
+func placeOf(folder *finding.Folder, named print.Names, called string) int {
+	return slices.IndexFunc(folder.Members, func(member join.Member) bool { return named(member.Head.Device) == called })
 }

@@ -6,6 +6,7 @@ import (
 	"strings"
 
 	"syncthing-audit/finding"
+	"syncthing-audit/print"
 )
 
 // mostAlone is how many names with the same fault at the same devices are told one by one; more are told as one, by so many of them and a count.
@@ -45,7 +46,7 @@ func (f *File) canBeTold() bool {
 // keyOf is the same for all names of which the very same is told, their advice too. So whatever advice comes to depend on, an entry of many says of each of
 // them what is said of that by itself.
 func (f *folding) keyOf(file *File) string {
-	key, many := fmt.Sprint(file.Permissions, file.Have, file.isOfAnotherTime, file.Same, file.isOfNobody()), file.asMany()
+	key, many := fmt.Sprint(file.danger(), file.Permissions, file.Have, file.isOfAnotherTime, file.Same, file.isOfNobody()), file.asMany()
 	for _, fault := range file.Faults {
 		key += fmt.Sprint(" ", fault.Device, fault.Cause, fault.Kind, fault.Deletion, fault.isTied, fault.isWithout(), fault.Damage, fault.lacksDeletion())
 		if fault.Cause == Changed {
@@ -76,20 +77,21 @@ const mostKinds = 1000
 
 // folding takes the names of a folder, rising. It tells many names with the same fault as one.
 type folding struct {
-	named labels
-	to    *actions // of all entries
-	wrong int64    // names with faults
-	modes int64    // names of which the permissions alone differ
-	alone []*File
+	named print.Names
+	to    *actions          // of all entries
+	wrong int64             // names with faults
+	modes int64             // names of which the permissions alone differ
 	alike map[string]*alike // by their keys
 	keys  []string          // in the order of their first names
+	kinds int               // how many of them are told as one
 	name  string            // of the folder, for a person
 }
 
 // alike are names of which the very same is told, and what is counted of all.
 type alike struct {
-	files []*File
-	group Group
+	files    []*File
+	group    Group
+	isFolded bool // whether programs are told of them as one, too
 }
 
 // take takes the next name.
@@ -102,43 +104,39 @@ func (f *folding) take(file *File) {
 	file.sortDevices(f.named)
 	file.Same = sameOtherBytes(file.Faults)
 	f.to.note(file, f.name)
-	isAlike := file.canBeTold()
-	file.key = f.keyOf(file)
-	if !file.hasDetails && (!isAlike || f.alike[file.key] == nil && len(f.alike) >= mostKinds) {
+	isAlike, key := file.canBeTold(), f.keyOf(file)
+	if !file.hasDetails && (!isAlike || f.alike[key] == nil && f.kinds >= mostKinds) {
 		file.shorten()
-		file.key, isAlike = f.keyOf(file), true
+		isAlike, key = true, f.keyOf(file)
 	}
-	if !isAlike {
-		f.alone = append(f.alone, file)
-		return
+	if f.alike[key] == nil {
+		f.alike[key] = &alike{}
+		f.keys = append(f.keys, key)
+		if isAlike {
+			f.kinds++
+		}
 	}
-	to := f.alike[file.key]
-	if to == nil {
-		to = &alike{}
-		f.alike[file.key] = to
-		f.keys = append(f.keys, file.key)
-	}
-	to.take(file)
-	if to.group.Names > mostAlone { // the others are counted
-		to.files = to.files[:mostAlone]
-	}
+	file.among = f.alike[key]
+	file.among.take(file, isAlike)
 }
 
-// take takes one more name.
-func (a *alike) take(file *File) {
+// take takes one more name; of those that are told as one in JSON, too, only the first ones are kept, and the others counted.
+func (a *alike) take(file *File, isFolded bool) {
 	a.group.Names++
 	a.group.Bytes += file.Size
 	if !file.hasDetails {
 		a.group.Unsized++
 	}
-	a.files = append(a.files, file)
+	if a.isFolded = isFolded && a.group.Names > mostAlone; !a.isFolded {
+		a.files = append(a.files, file)
+	}
 }
 
 // end gives what is told name by name, rising, and what is told of many at once.
 func (f *folding) end() ([]*File, []*Group) {
-	files, groups := append([]*File{}, f.alone...), []*Group{}
+	files, groups := []*File{}, []*Group{}
 	for _, key := range f.keys {
-		if alike := f.alike[key]; alike.group.Names > mostAlone {
+		if alike := f.alike[key]; alike.isFolded {
 			groups = append(groups, alike.groupOf(f.named))
 		} else {
 			files = append(files, alike.files...)
@@ -153,7 +151,7 @@ func (f *folding) end() ([]*File, []*Group) {
 }
 
 // groupOf tells names as one.
-func (a *alike) groupOf(named labels) *Group {
+func (a *alike) groupOf(named print.Names) *Group {
 	many, group := a.files[0].asMany(), a.group
 	group.of, group.Cause, group.Devices, group.First, group.Have, group.Modes = many, Permissions, []string{}, []Text{}, many.Have, many.Permissions
 	group.Foretold, group.Advice = many.tell(named), adviceOf(many, named)
@@ -190,8 +188,8 @@ func modesOf(folder *finding.Folder, permissions *finding.Permissions) []Mode {
 }
 
 // sortDevices puts what is told of devices in the order of their names.
-func (f *File) sortDevices(named labels) {
-	sort.SliceStable(f.Faults, func(a, b int) bool { return named.of(f.Faults[a].Device) < named.of(f.Faults[b].Device) })
-	sort.SliceStable(f.Permissions, func(a, b int) bool { return named.of(f.Permissions[a].Device) < named.of(f.Permissions[b].Device) })
-	sort.SliceStable(f.Have, func(a, b int) bool { return named.of(f.Have[a]) < named.of(f.Have[b]) })
+func (f *File) sortDevices(named print.Names) {
+	sort.SliceStable(f.Faults, func(a, b int) bool { return named(f.Faults[a].Device) < named(f.Faults[b].Device) })
+	sort.SliceStable(f.Permissions, func(a, b int) bool { return named(f.Permissions[a].Device) < named(f.Permissions[b].Device) })
+	sort.SliceStable(f.Have, func(a, b int) bool { return named(f.Have[a]) < named(f.Have[b]) })
 }

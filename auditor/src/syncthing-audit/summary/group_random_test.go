@@ -39,7 +39,7 @@ func TestAGroupSpeaksOfEachOfItsNames(t *testing.T) {
 			for _, name := range group.First {
 				many := *all.alone(string(name), answer)
 				many.isMany = true
-				told, foretold := adviceOf(&many, made.labels()), many.tell(made.labels())
+				told, foretold := adviceOf(&many, made.Called()), many.tell(made.Called())
 				if !reflect.DeepEqual(told, group.Advice) || foretold != group.Foretold {
 					t.Fatalf("seed %d: a group says\n%s\n%q, and %s\n%s\n%q\n%s", seed, group.Foretold, group.Advice, name, foretold, told,
 						rowText(answer.Folders[0].Rows[string(name)]))

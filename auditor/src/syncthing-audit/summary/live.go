@@ -106,9 +106,6 @@ func still(folder *Folder) string {
 	return fmt.Sprintf("still for %s s: ", thousands(int64(*folder.Live.Seconds)))
 }
 
-// mostMoving is how many names in motion are told.
-const mostMoving = 10
-
 // wordsOfMoved say what changed, or what a device waits with.
 var wordsOfMoved = map[string]string{
 	part.MovedRecord:    "its record changed",
@@ -157,40 +154,38 @@ func (p *printer) moving(folder *Folder) {
 		return
 	}
 	if live.Seconds == nil && !live.isOfParts {
-		p.line("for how long %s was still isn't known: the devices' clocks differ by more than that", folder.ID)
+		p.Line("for how long %s was still isn't known: the devices' clocks differ by more than that", folder.ID)
 	}
 	p.movingNames(folder, live)
 	for _, unheard := range live.Unheard {
-		p.line("not heard of in %s: what %s recorded last of %s hasn't reached %s: it is on its way, or the two aren't connected", folder.ID,
-			p.named.of(unheard.Of), counted(unheard.Names, "still name", "still names"), p.named.of(unheard.Device))
+		p.Line("not heard of in %s: what %s recorded last of %s hasn't reached %s: it is on its way, or the two aren't connected", folder.ID,
+			p.Called(unheard.Of), counted(unheard.Names, "still name", "still names"), p.Called(unheard.Device))
 	}
 }
 
 // movingNames prints the names in motion, in the order in which something is to be done: what a scan would lose comes before the advice to have one made.
 func (p *printer) movingNames(folder *Folder, live *Live) {
-	told, isWaiting := "", live.waiting() > 0
-	if live.Moving > 0 && !isWaiting {
-		told = ": " + live.advice()
+	next, isWaiting := "", live.waiting() > 0
+	if !isWaiting {
+		next = ": " + live.advice()
 	}
 	if live.Moving > 0 {
-		p.line("in motion in %s: %s, not audited%s", folder.ID, counted(live.Moving, "name", "names"), told)
+		p.Line("in motion in %s: %s, not audited%s", folder.ID, counted(live.Moving, "name", "names"), next)
 	}
 	if isWaiting {
 		p.running("  before a scan:", beforeScan)
 	}
-	for place, moving := range live.worst() {
-		if place == mostMoving {
-			p.line("  and %s more (--json has %s)", thousands(live.Moving-mostMoving), thousands(int64(len(live.Names))))
-			break
-		}
+	told := first(live.worst(), mostOfList)
+	for _, moving := range told {
 		words := []string{}
 		for _, at := range moving.Devices {
-			words = append(words, p.named.of(at.Device)+": "+p.whyMoved(at))
+			words = append(words, p.Called(at.Device)+": "+p.whyMoved(at))
 		}
-		p.line("  %s: %s", shell.Path(string(moving.Name)), strings.Join(words, "; "))
+		p.Line("  %s: %s", shell.Path(string(moving.Name)), strings.Join(words, "; "))
 	}
+	p.more(live.Moving-int64(len(told)), "--json has "+thousands(int64(len(live.Names))))
 	if isWaiting {
-		p.line("  then: %s", live.advice())
+		p.Line("  then: %s", live.advice())
 	}
 }
 

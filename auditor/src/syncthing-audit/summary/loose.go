@@ -42,9 +42,6 @@ func looseOf(from *finding.Folder) (int64, []Loose) {
 	return from.Loose.Len(), names
 }
 
-// mostLoose is how many names that keep a folder from being firm are told.
-const mostLoose = 10
-
 // wordsOfLoose say why a name keeps its folder from being firm.
 var wordsOfLoose = map[string]string{
 	finding.VersionDiffers: "has it under a concurrent version",
@@ -65,22 +62,20 @@ func (p *printer) loose(folder *Folder) {
 	if folder.Loose == 0 {
 		return
 	}
-	p.line("\n%s %s from being firm", counted(folder.Loose, "name keeps", "names keep"), folder.ID)
-	for place, loose := range folder.NotFirm {
-		if place == mostLoose {
-			p.line("  and %s more (--lines has all)", thousands(folder.Loose-mostLoose))
-			break
-		}
+	p.Line("\n%s %s from being firm", counted(folder.Loose, "name keeps", "names keep"), folder.ID)
+	told := first(folder.NotFirm, mostOfList)
+	for _, loose := range told {
 		words := []string{}
 		for _, at := range loose.Devices {
 			why := wordsOfLoose[at.Reason]
 			if at.IsOlder {
 				why = "has it under an older version"
 			}
-			words = append(words, p.named.of(at.Device)+" "+why)
+			words = append(words, p.Called(at.Device)+" "+why)
 		}
-		p.line("  %s: %s", shell.Path(string(loose.Name)), strings.Join(words, "; "))
+		p.Line("  %s: %s", shell.Path(string(loose.Name)), strings.Join(words, "; "))
 	}
+	p.more(folder.Loose-int64(len(told)), "--lines has all")
 	p.running("  that is:", meaningOfLoose)
 	p.advice([]string{adviceOfLoose})
 }

@@ -35,14 +35,14 @@ func TestWhatAPersonReadsOfFirmness(t *testing.T) {
   c: phone has it under an older version
 ` + meaning + lastLine},
 		{"many names, as far as audited", func(folder *finding.Folder) {
-			for next := 0; next < mostLoose+1234; next++ {
+			for next := 0; next < mostOfList+1234; next++ {
 				folder.Loose.Add(finding.Loose{Name: fmt.Sprintf("%04d", next), At: []finding.LooseAt{{Member: 0, Reason: finding.VersionDiffers}}})
 			}
 			folder.Firmness.First = &finding.Failure{Reason: finding.VersionDiffers, Name: "0000", Device: 1}
 			folder.Live = &finding.Live{Moving: 1}
 		}, "docs (Documents): in step as far as audited, not firm; still: 1,204 names (4 deleted), 335.2 MB hashed on laptop, phone, server; in motion: 1\n" + `
 1,244 names keep docs from being firm
-` + linesOf(mostLoose, "  %04d: laptop has it under a concurrent version\n") + "  and 1,234 more (--lines has all)\n" + meaning},
+` + linesOf(mostOfList, "  %04d: laptop has it under a concurrent version\n") + "  and 1,234 more (--lines has all)\n" + meaning},
 		{"it wasn't asked", func(folder *finding.Folder) { folder.Firmness = finding.Firmness{} }, "docs (Documents): in step; " + lineOfDevices +
 			"\nnot asked: whether what is in step is firm, too: this syncaudit is too old to say so\n" + lastLine[1:]},
 	}

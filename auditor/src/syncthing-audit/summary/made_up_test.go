@@ -2,11 +2,14 @@ package summary
 
 import (
 	"fmt"
+	"io"
 	"sort"
+	"time"
 
 	"syncthing-audit/finding"
 	"syncthing-audit/join"
 	"syncthing-audit/part"
+	"syncthing-audit/print"
 )
 
 const (
@@ -85,4 +88,12 @@ func unwon(folder *finding.Folder, name string, member int, kind string, has *pa
 	row := make([]*part.Name, len(folder.Members))
 	row[member] = has
 	folder.Rows[name] = &join.Row{Name: name, At: row}
+}
+
+// unnamed calls devices by their ids.
+func unnamed(id string) string { return id }
+
+// printerOf gives one that prints of devices with these names.
+func printerOf(to io.Writer, names map[string]string) *printer {
+	return &printer{Person: &print.Person{To: to, Called: func(id string) string { return names[id] }, Zone: time.UTC}}
 }

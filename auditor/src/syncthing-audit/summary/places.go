@@ -1,5 +1,7 @@
 package summary
 
+import "syncthing-audit/print"
+
 // places are devices by what is told of them, in the order in which it comes first.
 type places struct {
 	told    []string
@@ -18,8 +20,8 @@ func (p *places) add(told, device string) {
 }
 
 // each says what is told, with the names of the devices.
-func (p *places) each(named labels, say func(told, devices string)) {
+func (p *places) each(named print.Names, say func(told, devices string)) {
 	for _, word := range p.told {
-		say(word, named.all(p.devices[word]))
+		say(word, named.All(p.devices[word]))
 	}
 }

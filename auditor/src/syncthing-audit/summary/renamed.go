@@ -70,9 +70,9 @@ func link(files []*File) {
 // renamed prints from what or to what a name was renamed, as it seems.
 func (p *printer) renamed(file *File) {
 	if file.RenamedFrom != "" {
-		p.line("  it seems to be renamed from %s: the recorded bytes are the same", shell.Path(string(file.RenamedFrom)))
+		p.Line("  it seems to be renamed from %s: the recorded bytes are the same", shell.Path(string(file.RenamedFrom)))
 	}
 	if file.RenamedTo != "" {
-		p.line("  it seems to be renamed to %s: the recorded bytes are the same", shell.Path(string(file.RenamedTo)))
+		p.Line("  it seems to be renamed to %s: the recorded bytes are the same", shell.Path(string(file.RenamedTo)))
 	}
 }

@@ -12,7 +12,7 @@ import (
 
 // rest prints what was left out, not asked for or not compared.
 func (p *printer) rest(s *Summary) {
-	p.line("")
+	p.Line("")
 	for _, folder := range s.Folders {
 		p.moving(folder)
 		p.unsure(folder)
@@ -20,52 +20,63 @@ func (p *printer) rest(s *Summary) {
 		p.leftOut(folder)
 		p.temporary(folder)
 		if len(folder.Devices) < 2 && !folder.Own {
-			p.line("alone: %s is audited on one device, so there is nothing to compare it with", folder.ID)
+			p.Line("alone: %s is audited on one device, so there is nothing to compare it with", folder.ID)
 		}
 	}
 	p.members(s)
 	p.nearTimes(s)
 	for _, left := range s.LeftOut {
-		p.line("left out: %s: %s", left.called(), left.Why)
+		p.Line("left out: %s: %s", left.called(), left.Why)
 	}
 	for _, left := range s.Earlier {
-		p.line("of another moment: %s of %s: %s", shell.Folder(left.Folder, left.label), left.Device, left.Why)
+		p.Line("of another moment: %s of %s: %s", shell.Folder(left.Folder, left.label), left.Device, left.Why)
 	}
 	for _, observer := range s.Observers {
-		p.line("not asked: %s, an observer: it shares %s, keeps no files of it, and sends no records", p.named.observer(observer), observer.Folder)
+		p.Line("not asked: %s, an observer: it shares %s, keeps no files of it, and sends no records", nameOfObserver(observer), observer.Folder)
 	}
 	p.notAsked(s)
 	p.otherNames(s)
 	if s.Firm == finding.NotAsked {
-		p.line("not asked: whether what is in step is firm, too: this syncaudit is too old to say so")
+		p.Line("not asked: whether what is in step is firm, too: this syncaudit is too old to say so")
 	}
 	p.doubts(s)
 	p.wentBack(s)
 	p.ages(s)
 	p.unsigned(s)
 	p.untried(s)
-	p.line("not compared: %s", strings.Join(s.NotCompared, ", "))
+	p.Line("not compared: %s", strings.Join(s.NotCompared, ", "))
+}
+
+// eachMember gives each device of each folder.
+func (s *Summary) eachMember(take func(folder *Folder, member *Member)) {
+	for _, folder := range s.Folders {
+		for place := range folder.Devices {
+			take(folder, &folder.Devices[place])
+		}
+	}
 }
 
 // ofMembers prints something of members of folders, each text once with all devices of which it is told.
 func (p *printer) ofMembers(s *Summary, format string, tell func(folder *Folder, member *Member) []string) {
 	told := places{}
-	for _, folder := range s.Folders {
-		for place := range folder.Devices {
-			for _, text := range tell(folder, &folder.Devices[place]) {
-				told.add(text, folder.Devices[place].Device)
-			}
+	s.eachMember(func(folder *Folder, member *Member) {
+		for _, text := range tell(folder, member) {
+			told.add(text, member.Device)
 		}
-	}
-	told.each(p.named, func(text, devices string) { p.line(format, text, devices) })
+	})
+	told.each(p.Called, func(text, devices string) { p.Line(format, text, devices) })
 }
 
 // folderIf names a folder of which something is so.
 func folderIf(is bool, folder *Folder, more string) []string {
+	return textIf(is, shell.Folder(folder.ID, folder.Label)+more)
+}
+
+func textIf(is bool, text string) []string {
 	if !is {
 		return nil
 	}
-	return []string{shell.Folder(folder.ID, folder.Label) + more}
+	return []string{text}
 }
 
 // members prints which folders are shared with nobody: no other device was asked about these. It prints which folders and devices are paused where, what
@@ -75,14 +86,9 @@ func (p *printer) members(s *Summary) {
 		func(folder *Folder, _ *Member) []string { return folderIf(folder.Own && !folder.isApart, folder, "") })
 	p.ofMembers(s, "not shared with one another: %s on %s: each has a folder of this id, and shares it with no device. What stands on its disk was "+
 		"compared with its own index alone, and not with what the others have",
-		func(folder *Folder, _ *Member) []string {
-			if folder.isApart {
-				return []string{folder.ID}
-			}
-			return nil
-		})
+		func(folder *Folder, _ *Member) []string { return textIf(folder.isApart, folder.ID) })
 	p.ofMembers(s, "paused: folder %s on %s", func(folder *Folder, member *Member) []string { return folderIf(member.Paused, folder, "") })
-	p.ofMembers(s, "paused: device %s on %s", func(_ *Folder, member *Member) []string { return p.named.each(member.PausedDevices) })
+	p.ofMembers(s, "paused: device %s on %s", func(_ *Folder, member *Member) []string { return p.Called.Each(member.PausedDevices) })
 	p.stopped(s)
 	p.asked(s)
 	p.ofMembers(s, "written by others: %s on %s: Syncthing writes and deletes in its directory for these, too. So it may not stay in step, nor firm",
@@ -96,25 +102,23 @@ func (p *printer) ofDevices(s *Summary, format string, tell func(device *Device)
 	told := []string{}
 	for place := range s.Devices {
 		if text, is := tell(&s.Devices[place]); is {
-			told = append(told, p.named.of(s.Devices[place].ID)+text)
+			told = append(told, p.Called(s.Devices[place].ID)+text)
 		}
 	}
 	if len(told) > 0 {
-		p.line(format, append([]interface{}{strings.Join(told, ", ")}, more...)...)
+		p.Line(format, append([]interface{}{strings.Join(told, ", ")}, more...)...)
 	}
 }
 
 // nearTimes prints of how many files the time isn't as recorded, and Syncthing takes it for the same: no scan finds them changed.
 func (p *printer) nearTimes(s *Summary) {
-	for _, folder := range s.Folders {
-		for _, member := range folder.Devices {
-			if member.Near > 0 {
-				p.line("times taken for the same: %s of %s on %s: the time on the disk isn't the recorded one, by less than %s. No scan there sees that "+
-					"(modTimeWindowS)", counted(member.Near, "file", "files"), shell.Folder(folder.ID, folder.Label), p.named.of(member.Device),
-					counted(member.Window, "second", "seconds"))
-			}
+	s.eachMember(func(folder *Folder, member *Member) {
+		if member.Near > 0 {
+			p.Line("times taken for the same: %s of %s on %s: the time on the disk isn't the recorded one, by less than %s. No scan there sees that "+
+				"(modTimeWindowS)", counted(member.Near, "file", "files"), shell.Folder(folder.ID, folder.Label), p.Called(member.Device),
+				counted(member.Window, "second", "seconds"))
 		}
-	}
+	})
 }
 
 // mostAge is how long ago a device may have been read without that being told.
@@ -124,7 +128,7 @@ const mostAge = 24 * time.Hour
 // since by themselves.
 func (p *printer) ages(s *Summary) {
 	p.ofDevices(s, "read more than a day ago: %s; what changed on a disk since isn't seen", func(device *Device) (string, bool) {
-		return " " + p.when(device.Read), !device.Read.IsZero() && p.now.Sub(device.Read) > mostAge
+		return " " + p.When(device.Read), !device.Read.IsZero() && p.now.Sub(device.Read) > mostAge
 	})
 }
 
@@ -132,17 +136,17 @@ func (p *printer) ages(s *Summary) {
 func (p *printer) doubts(s *Summary) {
 	for _, device := range s.Devices {
 		if device.Index != nil {
-			p.line("maybe an old index: that of %s was written last %s, and config.xml there after that, %s. If Syncthing was started there since then, it "+
+			p.Line("maybe an old index: that of %s was written last %s, and config.xml there after that, %s. If Syncthing was started there since then, it "+
 				"has its database elsewhere, and this answer isn't about that: name it as --data DIR. If config.xml was only edited, all is well",
-				p.named.of(device.ID), p.when(device.Index.Written), p.when(device.Index.Configured))
+				p.Called(device.ID), p.When(device.Index.Written), p.When(device.Index.Configured))
 		}
 		if device.Newer != nil {
-			p.line("maybe an old index: that of %s was written last %s, and %s there after that, %s. %s", p.named.of(device.ID), p.when(device.Newer.Read),
-				device.Newer.Called(), p.when(device.Newer.Written), device.Newer.WhatToDo())
+			p.Line("maybe an old index: that of %s was written last %s, and %s there after that, %s. %s", p.Called(device.ID), p.When(device.Newer.Read),
+				device.Newer.Called(), p.When(device.Newer.Written), device.Newer.WhatToDo())
 		}
 		if device.Repair {
-			p.line("to be repaired: the index of %s. Syncthing found a fault in it, and repairs it at its next start. Till then it may not take or tell what it "+
-				"should there, whatever its page shows, and records may be missing here. Start it there, let it finish, and audit again", p.named.of(device.ID))
+			p.Line("to be repaired: the index of %s. Syncthing found a fault in it, and repairs it at its next start. Till then it may not take or tell what it "+
+				"should there, whatever its page shows, and records may be missing here. Start it there, let it finish, and audit again", p.Called(device.ID))
 		}
 	}
 }
@@ -158,9 +162,6 @@ func (p *printer) untried(s *Summary) {
 	}, strings.Join(tried, " and "))
 }
 
-// mostCopies is how many conflict copies are told by their names.
-const mostCopies = 10
-
 // copies prints the conflict copies that lie about.
 func (p *printer) copies(folder *Folder) {
 	if len(folder.Copies) == 0 {
@@ -173,14 +174,30 @@ func (p *printer) copies(folder *Folder) {
 	if folder.More.Names > 0 {
 		has = "the first " + thousands(int64(len(folder.Copies)))
 	}
-	p.line("%s in %s, %s: compare each with its file, and keep what you want of both", counted(count, "conflict copy", "conflict copies"),
+	p.Line("%s in %s, %s: compare each with its file, and keep what you want of both", counted(count, "conflict copy", "conflict copies"),
 		folder.ID, size(bytes))
-	for place, conflict := range folder.Copies {
-		if place == mostCopies {
-			p.line("  and %s more (--json has %s)", thousands(count-mostCopies), has)
-			break
-		}
-		p.line("  %s", shell.Path(string(conflict.Name)))
+	told := first(folder.Copies, mostOfList)
+	for _, conflict := range told {
+		p.Line("  %s", shell.Path(string(conflict.Name)))
+	}
+	p.more(count-int64(len(told)), "--json has "+has)
+}
+
+// mostOfList is how many names of a list are told, one by one.
+const mostOfList = 10
+
+// first gives the first ones of a list.
+func first[Item any](list []Item, most int) []Item {
+	if len(list) > most {
+		return list[:most]
+	}
+	return list
+}
+
+// more says how many more there are than are told, if any, and where they are.
+func (p *printer) more(count int64, where string) {
+	if count > 0 {
+		p.Line("  and %s more (%s)", thousands(count), where)
 	}
 }
 
@@ -192,14 +209,14 @@ func (p *printer) leftOut(folder *Folder) {
 			names += left.Names
 			bytes += left.Bytes
 		}
-		p.line("left out of %s: %s, %s", folder.ID, counted(names, "name", "names"), size(bytes))
+		p.Line("left out of %s: %s, %s", folder.ID, counted(names, "name", "names"), size(bytes))
 		p.leftByReasons(folder.LeftOut)
 		if folder.MoreOut.Names > 0 {
-			p.line("  and %s more, %s", counted(folder.MoreOut.Names, "name", "names"), size(folder.MoreOut.Bytes))
+			p.Line("  and %s more, %s", counted(folder.MoreOut.Names, "name", "names"), size(folder.MoreOut.Bytes))
 		}
 	}
 	if folder.Ignored.Names > 0 {
-		p.line("outside %s: %s, %s, which .stignore keeps out on each device that has them", folder.ID,
+		p.Line("outside %s: %s, %s, which .stignore keeps out on each device that has them", folder.ID,
 			counted(folder.Ignored.Names, "name", "names"), size(folder.Ignored.Bytes))
 	}
 }
@@ -208,9 +225,9 @@ func (p *printer) leftOut(folder *Folder) {
 func (p *printer) temporary(folder *Folder) {
 	for _, member := range folder.Devices {
 		if member.Temporary != nil {
-			p.line("outside %s: %s, %s on %s, which Syncthing takes for its temporary files ('.syncthing.*', '~syncthing~*'): it never sends such names, "+
+			p.Line("outside %s: %s, %s on %s, which Syncthing takes for its temporary files ('.syncthing.*', '~syncthing~*'): it never sends such names, "+
 				"and its scans delete such files once they are a day old, or as 'keepTemporariesH' says", folder.ID,
-				counted(member.Temporary.Names, "name", "names"), size(member.Temporary.Bytes), p.named.of(member.Device))
+				counted(member.Temporary.Names, "name", "names"), size(member.Temporary.Bytes), p.Called(member.Device))
 		}
 	}
 }
@@ -235,7 +252,7 @@ func (p *printer) leftByReasons(all []Names) {
 		more[key] = count
 	}
 	for _, key := range keys {
-		p.line("  and %s more, %s: %s (--lines has them)", counted(more[key].Names, "name", "names"), size(more[key].Bytes), key)
+		p.Line("  and %s more, %s: %s (--lines has them)", counted(more[key].Names, "name", "names"), size(more[key].Bytes), key)
 	}
 }
 
@@ -255,7 +272,7 @@ func (p *printer) byDevices(all []WhyLeft, text func(WhyLeft) string, say func(t
 	for _, why := range all {
 		reasons.add(text(why), why.Device)
 	}
-	reasons.each(p.named, func(text, devices string) { words = append(words, say(text, devices)) })
+	reasons.each(p.Called, func(text, devices string) { words = append(words, say(text, devices)) })
 	return strings.Join(words, "; ")
 }
 
@@ -265,7 +282,7 @@ func (p *printer) left(names Names) {
 	if names.Below {
 		name += " and all below it (" + counted(names.Names, "name", "names") + ")"
 	}
-	p.line("  %s, %s: %s", name, size(names.Bytes), p.byDevices(names.Why, func(why WhyLeft) string { return why.Why }, func(why, devices string) string {
+	p.Line("  %s, %s: %s", name, size(names.Bytes), p.byDevices(names.Why, func(why WhyLeft) string { return why.Why }, func(why, devices string) string {
 		if devices != "" {
 			why = devices + ": " + why
 		}
@@ -288,16 +305,14 @@ func (p *printer) unsigned(s *Summary) {
 // stopped prints on which devices, of those that were looked at twice, no Syncthing ran.
 func (p *printer) stopped(s *Summary) {
 	told := map[string][]string{}
-	for _, folder := range s.Folders {
-		for _, member := range folder.Devices {
-			if member.Rest == part.RestStopped {
-				told[member.Device] = addOnce(told[member.Device], folder.ID)
-			}
+	s.eachMember(func(folder *Folder, member *Member) {
+		if member.Rest == part.RestStopped {
+			told[member.Device] = addOnce(told[member.Device], folder.ID)
 		}
-	}
+	})
 	for _, device := range s.Devices {
 		if len(told[device.ID]) > 0 {
-			p.line("not running: Syncthing on %s (%s)", p.named.of(device.ID), strings.Join(told[device.ID], ", "))
+			p.Line("not running: Syncthing on %s (%s)", p.Called(device.ID), strings.Join(told[device.ID], ", "))
 		}
 	}
 }

@@ -19,12 +19,12 @@ func (s *Summary) Remember(since *history.Since) {
 		return
 	}
 	on := []string{}
-	for _, one := range since.Taken {
-		for _, device := range one.Devices {
+	for _, file := range since.Taken {
+		for _, device := range file.Devices {
 			on = addOnce(on, device)
 		}
 	}
-	from := s.labels().all(on)
+	from := s.Called().All(on)
 	s.First = append([]First{{isChanged, on, since.Takes, "first, on all devices but " + from + ": copy elsewhere what the history names above (" + counted(since.Takes, "file", "files") + "), " +
 		"unless somebody changed that on " + from + ": the steps below take it for an edit, and send the new bytes from there"}}, s.First...)
 }
@@ -46,13 +46,13 @@ func (p *printer) history(since *history.Since) {
 	case since.Before != nil:
 		p.news(since)
 	case since.Unkept == "":
-		p.line("history: this is the first audit that it has")
+		p.Line("history: this is the first audit that it has")
 	}
 	for _, read := range since.Read {
 		p.read(read)
 	}
 	if since.Unkept != "" {
-		p.line("not kept in the history: %s", since.Unkept)
+		p.Line("not kept in the history: %s", since.Unkept)
 	}
 }
 
@@ -61,15 +61,14 @@ func (p *printer) changed(count int64, all []history.Changed, on string, toDo fu
 	if count == 0 {
 		return
 	}
-	p.line("%s %s", counted(count, "file has other bytes than before", "files have other bytes than before, each"), on)
-	for _, one := range all[:shown(len(all))] {
-		devices := p.named.all(one.Devices)
-		p.line("  %s in %s: its bytes changed between %s and %s on %s%s. A program that puts a file's time back after it wrote looks the same", shell.Quoted(string(one.Name)),
-			one.Folder, p.day(one.Before), p.day(one.Since), devices, toDo(p.day(one.Since), devices))
+	p.Line("%s %s", counted(count, "file has other bytes than before", "files have other bytes than before, each"), on)
+	told := first(all, mostNews)
+	for _, file := range told {
+		devices := p.Called.All(file.Devices)
+		p.Line("  %s in %s: its bytes changed between %s and %s on %s%s. A program that puts a file's time back after it wrote looks the same", shell.Quoted(string(file.Name)),
+			file.Folder, p.day(file.Before), p.day(file.Since), devices, toDo(p.day(file.Since), devices))
 	}
-	if more := count - int64(shown(len(all))); more > 0 {
-		p.line("  and %s more (--json has %s of them)", thousands(more), thousands(int64(len(all))))
-	}
+	p.more(count-int64(len(told)), "--json has "+thousands(int64(len(all)))+" of them")
 }
 
 // news says what is new since the audit before.
@@ -79,17 +78,17 @@ func (p *printer) news(since *history.Since) {
 	if since.Unasked.Count > 0 {
 		told = append(told, counted(since.Unasked.Count, "wasn't looked at", "weren't looked at"))
 	}
-	p.line("since the audit of %s: %s", p.day(*since.Before), strings.Join(told, ", "))
+	p.Line("since the audit of %s: %s", p.day(*since.Before), strings.Join(told, ", "))
 	for _, list := range []struct {
 		word string
 		list history.List
 	}{{"new", since.New}, {"mended", since.Mended}, {"lasts", since.Lasting}, {"not looked at", since.Unasked}} {
 		places := placesOf(list.list.First)
-		for _, place := range places[:shown(len(places))] {
-			p.line("  %s: %s in %s%s (%s), since %s", list.word, shell.Quoted(string(place.Name)), place.Folder, p.onDevice(place.Device), place.Reason, p.day(place.First))
+		for _, place := range first(places, mostNews) {
+			p.Line("  %s: %s in %s%s (%s), since %s", list.word, shell.Quoted(string(place.Name)), place.Folder, p.onDevice(place.Device), place.Reason, p.day(place.First))
 		}
-		if more := len(places) - shown(len(places)); more > 0 {
-			p.line("  %s: %s more (--json has the first %s)", list.word, counted(int64(more), "name", "names"), thousands(history.MostListed))
+		if more := len(places) - mostNews; more > 0 {
+			p.Line("  %s: %s more (--json has the first %s)", list.word, counted(int64(more), "name", "names"), thousands(history.MostListed))
 		}
 	}
 }
@@ -119,7 +118,7 @@ func (p *printer) read(read history.Read) {
 	if read.Files == 0 {
 		return
 	}
-	p.line("read of %s on %s: %s, %s; the oldest reading is of %s: %s", read.Folder, p.named.of(read.Device), counted(read.Files, "file", "files"),
+	p.Line("read of %s on %s: %s, %s; the oldest reading is of %s: %s", read.Folder, p.Called(read.Device), counted(read.Files, "file", "files"),
 		size(read.Bytes), p.day(read.Oldest), shell.Quoted(string(read.OldestName)))
 }
 
@@ -127,16 +126,8 @@ func (p *printer) onDevice(id string) string {
 	if id == "" {
 		return ""
 	}
-	return " on " + p.named.of(id)
+	return " on " + p.Called(id)
 }
 
 // day gives a time as a person reads it in a history.
-func (p *printer) day(at time.Time) string { return at.In(p.zone).Format("2006-01-02 15:04") }
-
-// shown gives how many of so many names the text lists.
-func shown(count int) int {
-	if count > mostNews {
-		return mostNews
-	}
-	return count
-}
+func (p *printer) day(at time.Time) string { return at.In(p.Zone).Format("2006-01-02 15:04") }

@@ -13,6 +13,7 @@ import (
 	"syncthing-audit/outlook"
 	"syncthing-audit/outside"
 	"syncthing-audit/part"
+	"syncthing-audit/print"
 	"syncthing-audit/shell"
 )
 
@@ -201,7 +202,7 @@ func Of(answer *finding.Answer) *Summary {
 		names := asked[device.ID]
 		summary.Devices = append(summary.Devices, Device{device.ID, device.Name, device.Made, device.From, device.Runs, Text(names.Prefix), sliceOf(names), device.Index, device.Newer, device.ToRepair, device.IsUnsigned, names})
 	}
-	named := summary.labels()
+	named := summary.Called()
 	summary.actions = newActions()
 	names := []*folding{}
 	for _, folder := range answer.Folders {
@@ -224,13 +225,12 @@ func Of(answer *finding.Answer) *Summary {
 // lengthOfShort is how much of an id tells devices of one name apart.
 const lengthOfShort = 7
 
-// labels gives each device's name for a person: the configured one, with the id's beginning where two have the same.
-func (s *Summary) labels() labels {
-	count := map[string]int{}
+// Called gives each device's name for a person: the configured one, with the id's beginning where two have the same.
+func (s *Summary) Called() print.Names {
+	count, named := map[string]int{}, map[string]string{}
 	for _, device := range s.Devices {
 		count[device.Name]++
 	}
-	named := labels{}
 	for _, device := range s.Devices {
 		short := device.ID
 		if len(short) > lengthOfShort {
@@ -243,7 +243,12 @@ func (s *Summary) labels() labels {
 			named[device.ID] += " (" + short + ")"
 		}
 	}
-	return named
+	return func(id string) string {
+		if name := named[id]; name != "" {
+			return name
+		}
+		return id
+	}
 }
 
 func verdictOf(answer *finding.Answer) string {
@@ -336,6 +341,3 @@ func askedOf(answer *finding.Answer) map[string]choice.Names {
 func (s *Summary) WriteJSON(to io.Writer) error {
 	return outside.PrintJSON(to, s)
 }
-
-// Called gives how a person reads each device's id: by the device's name.
-func (s *Summary) Called() func(device string) string { return s.labels().of }

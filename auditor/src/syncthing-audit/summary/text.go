@@ -10,36 +10,32 @@ import (
 	"golang.org/x/exp/slices"
 	"syncthing-audit/damage"
 	"syncthing-audit/finding"
-	"syncthing-audit/outside"
 	"syncthing-audit/print"
 	"syncthing-audit/shell"
 )
 
 // printer prints a summary for a person.
 type printer struct {
-	to    io.Writer
-	named labels
-	zone  *time.Location
-	now   time.Time
+	*print.Person
+	now time.Time
 }
 
 // Print prints a summary for a person, with times of this zone.
 func (s *Summary) Print(to io.Writer, zone *time.Location, now time.Time) {
 	noticed := &noticing{to: to}
-	p := &printer{noticed, s.labels(), zone, now}
+	p := &printer{&print.Person{To: noticed, Called: s.Called(), Zone: zone}, now}
 	for _, folder := range s.Folders {
 		p.folder(folder)
 	}
 	p.history(s.Since)
 	p.first(s)
-	foretold := &print.Person{To: p.to, Called: p.named.of, Zone: zone}
 	for _, folder := range s.Folders {
-		foretold.Outlook(shell.Folder(folder.ID, folder.Label), folder.Verdict != NotInStep, folder.Outlook)
+		p.Outlook(shell.Folder(folder.ID, folder.Label), folder.Verdict != NotInStep, folder.Outlook)
 		if folder.Converging == finding.Converges {
-			foretold.Converging(shell.Folder(folder.ID, folder.Label), folder.Outlook, folder.Pairs)
+			p.Converging(shell.Folder(folder.ID, folder.Label), folder.Outlook, folder.Pairs)
 		}
 		if folder.lacksOutlook {
-			foretold.NoOutlook(shell.Folder(folder.ID, folder.Label))
+			p.NoOutlook(shell.Folder(folder.ID, folder.Label))
 		}
 	}
 	p.entries(s)
@@ -48,10 +44,6 @@ func (s *Summary) Print(to io.Writer, zone *time.Location, now time.Time) {
 	}
 	p.rest(s)
 	p.forReading(noticed)
-}
-
-func (p *printer) line(format string, words ...interface{}) {
-	outside.Printf(p.to, format+"\n", words...)
 }
 
 // verdict says whether a folder is in step, and firm.
@@ -90,7 +82,7 @@ func (p *printer) folder(folder *Folder) {
 	if folder.Going > 0 {
 		deleted += ", " + thousands(folder.Going) + " being deleted"
 	}
-	p.line("%s: %s; %s (%s), %s hashed on %s%s", shell.Folder(folder.ID, folder.Label), verdict, names, deleted, size(folder.Bytes), p.named.all(devicesIn(folder)), moving)
+	p.Line("%s: %s; %s (%s), %s hashed on %s%s", shell.Folder(folder.ID, folder.Label), verdict, names, deleted, size(folder.Bytes), p.Called.All(devicesIn(folder)), moving)
 }
 
 // wordsOf say what is wrong.
@@ -185,7 +177,7 @@ func (p *printer) since(fault *Fault) string {
 	if of == nil || of.Modified == nil { // as of a symlink
 		return ""
 	}
-	return " (" + word + p.when(*of.Modified) + ")"
+	return " (" + word + p.When(*of.Modified) + ")"
 }
 
 // dated gives the state whose time is told, and a word before that. Of a deletion it is when that was.
@@ -211,8 +203,6 @@ func (f *Fault) dated() (string, *State) {
 
 // datedByDisk are the causes of which a file on the disk tells the time.
 var datedByDisk = []Cause{Changed, NotScanned, OtherTime, Back, LocalAddition}
-
-func (p *printer) when(at time.Time) string { return at.In(p.zone).Format("2006-01-02 15:04:05 MST") }
 
 // differing says which blocks differ.
 func differing(blocks *Blocks) string {
@@ -254,13 +244,13 @@ func (p *printer) modes(all []Mode) {
 	}
 	words := []string{}
 	for _, mode := range all {
-		word := p.named.of(mode.Device) + " " + mode.Index
+		word := p.Called(mode.Device) + " " + mode.Index
 		if mode.Disk != "" && mode.Disk != mode.Index {
 			word += " recorded, " + mode.Disk + " on the disk"
 		}
 		words = append(words, word)
 	}
-	p.line("  permissions differ (they don't count for the verdict): %s", strings.Join(words, "; "))
+	p.Line("  permissions differ (they don't count for the verdict): %s", strings.Join(words, "; "))
 }
 
 // foretold prints what becomes of a name if nobody does anything.

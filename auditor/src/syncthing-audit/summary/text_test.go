@@ -239,26 +239,26 @@ not for typing: a name in [not-for-typing:..] has bytes that can't be typed in o
 not compared: owners, extended attributes, old versions
 `},
 	{"many conflict copies", 2, func(folder *finding.Folder) {
-		for next := 0; next <= mostCopies+6; next++ {
+		for next := 0; next <= mostOfList+6; next++ {
 			folder.Conflicts = append(folder.Conflicts, finding.Conflict{Name: "a", Bytes: 1})
 		}
 	}, `docs (Documents): in step and firm; 1,204 names (4 deleted), 335.2 MB hashed on laptop, server
 
 17 conflict copies in docs, 17 bytes: compare each with its file, and keep what you want of both
-` + strings.Repeat("  a\n", mostCopies) + `  and 7 more (--json has all)
+` + strings.Repeat("  a\n", mostOfList) + `  and 7 more (--json has all)
 not compared: owners, extended attributes, old versions
 `},
 	{"more than is listed", 2, func(folder *finding.Folder) {
 		folder.LeftOut = []*finding.LeftOut{{Name: "a", Names: 1, Bytes: 1000, Why: []finding.Reason{{Member: 0, Kind: part.Unreadable, Why: "it can't be read"}}}}
 		folder.Unlisted.LeftOut = finding.Count{Names: 1234, Bytes: 3000000}
-		for next := 0; next <= mostCopies; next++ {
+		for next := 0; next <= mostOfList; next++ {
 			folder.Conflicts = append(folder.Conflicts, finding.Conflict{Name: "a", Bytes: 1})
 		}
 		folder.Unlisted.Conflicts = finding.Count{Names: 5, Bytes: 1000}
 	}, `docs (Documents): in step and firm as far as audited; 1,204 names (4 deleted), 335.2 MB hashed on laptop, server
 
 16 conflict copies in docs, 1.0 kB: compare each with its file, and keep what you want of both
-` + strings.Repeat("  a\n", mostCopies) + `  and 6 more (--json has the first 11)
+` + strings.Repeat("  a\n", mostOfList) + `  and 6 more (--json has the first 11)
 left out of docs: 1,235 names, 3.0 MB
   a, 1.0 kB: laptop: it can't be read
   and 1,234 names more, 3.0 MB

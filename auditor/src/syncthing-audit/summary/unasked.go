@@ -45,9 +45,9 @@ func (p *printer) otherNames(s *Summary) {
 		case device.asked.IsAll():
 			continue
 		case s.byNames:
-			p.line("not asked for: %s%s", device.asked.Others(), s.ofAll(device.asked))
+			p.Line("not asked for: %s%s", device.asked.Others(), s.ofAll(device.asked))
 		default:
-			p.line("not audited: %s; no part has them%s", device.asked.Others(), s.ofAll(device.asked))
+			p.Line("not audited: %s; no part has them%s", device.asked.Others(), s.ofAll(device.asked))
 			p.advice([]string{"make the parts without " + device.asked.Unlike(choice.Names{}) + "; or say by " + device.asked.Command() +
 				" that only these are to be audited"})
 		}
@@ -79,14 +79,14 @@ func (p *printer) notAsked(s *Summary) {
 	for _, notAsked := range s.NotAsked {
 		folders.add(shell.Folder(notAsked.Folder, notAsked.Label), notAsked.Device)
 	}
-	folders.each(p.named, func(folder, devices string) { words = append(words, folder+" on "+devices) })
+	folders.each(p.Called, func(folder, devices string) { words = append(words, folder+" on "+devices) })
 	count := counted(int64(len(words)), "folder", "folders")
 	switch {
 	case len(words) == 0:
 	case s.isByName:
-		p.line("not asked for: %s: %s", count, strings.Join(words, "; "))
+		p.Line("not asked for: %s: %s", count, strings.Join(words, "; "))
 	default:
-		p.line("not audited: %s that these devices share and no part has: %s", count, strings.Join(words, "; "))
+		p.Line("not audited: %s that these devices share and no part has: %s", count, strings.Join(words, "; "))
 		p.advice([]string{"make the parts without --folder, or with it for each of these folders; or name with --folder which ones to audit"})
 	}
 	p.notTold(s)
@@ -99,7 +99,7 @@ func (p *printer) notTold(s *Summary) {
 	}
 	overWire, older := s.notToldOverWire()
 	if len(overWire) > 0 {
-		p.line("not told: which other folders %s may share; over the wire a device tells those alone that it shares with the observer", p.named.all(overWire))
+		p.Line("not told: which other folders %s may share; over the wire a device tells those alone that it shares with the observer", p.Called.All(overWire))
 	}
 	if len(older) == 0 {
 		return
@@ -108,7 +108,7 @@ func (p *printer) notTold(s *Summary) {
 	if len(older) > 1 {
 		parts, them = "their parts", "them"
 	}
-	p.line("not told: which other folders %s may share; an older syncthing-audit made %s", p.named.all(older), parts)
+	p.Line("not told: which other folders %s may share; an older syncthing-audit made %s", p.Called.All(older), parts)
 	if !s.isByName {
 		p.advice([]string{"make " + them + " anew; or name with --folder which ones to audit"})
 	}

@@ -51,18 +51,14 @@ var whatToDo = map[string]string{
 
 // unsure prints what may change a folder in step.
 func (p *printer) unsure(folder *Folder) {
-	told := map[string]*places{}
-	for _, unsure := range folder.Unsure {
-		if told[unsure.Kind] == nil {
-			told[unsure.Kind] = &places{}
-		}
-		told[unsure.Kind].add(unsure.Why, unsure.Device)
-	}
 	for _, kind := range finding.KindsOfUnsure {
-		if told[kind] == nil {
-			continue
+		told := places{}
+		for _, unsure := range folder.Unsure {
+			if unsure.Kind == kind {
+				told.add(unsure.Why, unsure.Device)
+			}
 		}
-		told[kind].each(p.named, func(why, devices string) {
+		told.each(p.Called, func(why, devices string) {
 			p.running(folder.Firm.CallUnsure()+": "+shell.Folder(folder.ID, folder.Label)+" on "+devices+":", why+". "+whatToDo[kind]+".")
 		})
 	}

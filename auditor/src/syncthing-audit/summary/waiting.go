@@ -7,6 +7,7 @@ import (
 	"golang.org/x/exp/slices"
 	"syncthing-audit/damage"
 	"syncthing-audit/finding"
+	"syncthing-audit/print"
 )
 
 // waiting counts the names that wait for a scan on a device that sends what a scan finds, in all folders.
@@ -68,14 +69,14 @@ func countsOfWaiting(names map[string]int64) string {
 }
 
 // sources says from which devices what is recorded can be copied.
-func (w *waiting) sources(named labels) string {
+func (w *waiting) sources(named print.Names) string {
 	ids, words := []string{}, []string{}
 	for id := range w.from {
 		ids = append(ids, id)
 	}
 	sort.Strings(ids)
-	for _, id := range named.rising(ids) {
-		words = append(words, thousands(w.from[id])+" on "+named.of(id))
+	for _, id := range named.Rising(ids) {
+		words = append(words, thousands(w.from[id])+" on "+named(id))
 	}
 	if w.nowhere > 0 {
 		words = append(words, thousands(w.nowhere)+" on no audited device (look among old versions and backups)")
@@ -87,12 +88,12 @@ func (w *waiting) sources(named labels) string {
 }
 
 // firstWaiting says of a device that a start or a scan there would send what no scan has seen.
-func (s *Summary) firstWaiting(device string, named labels) []First {
+func (s *Summary) firstWaiting(device string, named print.Names) []First {
 	waits := s.actions.waits[device]
 	if waits == nil {
 		return nil
 	}
-	return []First{{isUnscanned, []string{device}, waits.sent, "first, on " + named.of(device) + ": before Syncthing starts or scans there, also for an entry below, " +
+	return []First{{isUnscanned, []string{device}, waits.sent, "first, on " + named(device) + ": before Syncthing starts or scans there, also for an entry below, " +
 		"see which names no scan has seen yet ('in motion in " + strings.Join(waits.folders, "', 'in motion in ") + "' below): " + countsOfWaiting(waits.names) +
 		". A scan may delete on all devices what is missing there, and send to all what stands there. As Syncthing starts, it scans all folders. So copy back first " +
 		"what is to stay as it is recorded, while Syncthing is stopped there." + waits.keep() + waits.sources(named)}}
@@ -153,5 +154,5 @@ func (p *printer) wordsOfWaiting(at Moved) string {
 	case len(at.Have) == 0:
 		return told + "; as recorded on no other audited device"
 	}
-	return told + "; as recorded on " + p.named.all(at.Have)
+	return told + "; as recorded on " + p.Called.All(at.Have)
 }

@@ -7,6 +7,7 @@ import (
 	"syncthing-audit/damage"
 	"syncthing-audit/finding"
 	"syncthing-audit/join"
+	"syncthing-audit/print"
 	"syncthing-audit/shell"
 )
 
@@ -62,11 +63,11 @@ func (f *Folder) asFarAs() string {
 func (f *Fault) mayBeEdit() bool { return f.Cause == OtherBytes && f.isOverWire }
 
 // whetherEdit says to find out whether other bytes are an edit, before what is to be done if they aren't.
-func (f *Fault) whetherEdit(file *File, named labels) string {
+func (f *Fault) whetherEdit(file *File, named print.Names) string {
 	if !f.mayBeEdit() {
 		return ""
 	}
-	return "first look at the " + file.say("file's time", "files' times") + " on " + named.of(f.Device) + ", which isn't seen over the wire. If it is the recorded one: "
+	return "first look at the " + file.say("file's time", "files' times") + " on " + named(f.Device) + ", which isn't seen over the wire. If it is the recorded one: "
 }
 
 // ofDamage says why what stands on the disk looks like damage, behind what is wrong there.
@@ -83,11 +84,7 @@ func (f *Fault) ofDamage() string {
 // notToldOverWire gives the devices that don't tell their other folders since they were asked over the wire, and the others of that kind.
 func (s *Summary) notToldOverWire() (overWire, older []string) {
 	is := map[string]bool{}
-	for _, folder := range s.Folders {
-		for _, member := range folder.Devices {
-			is[member.Device] = is[member.Device] || member.OverWire != nil
-		}
-	}
+	s.eachMember(func(_ *Folder, member *Member) { is[member.Device] = is[member.Device] || member.OverWire != nil })
 	for _, device := range s.NotTold {
 		if is[device] {
 			overWire = append(overWire, device)
@@ -98,8 +95,8 @@ func (s *Summary) notToldOverWire() (overWire, older []string) {
 	return overWire, older
 }
 
-// observer names an observer for a person.
-func (l labels) observer(observer join.Observer) string {
+// nameOfObserver names an observer for a person.
+func nameOfObserver(observer join.Observer) string {
 	if observer.Name == "" {
 		return observer.Device
 	}
@@ -108,14 +105,12 @@ func (l labels) observer(observer join.Observer) string {
 
 // wentBack prints which devices' indexes went back since an earlier look over the wire.
 func (p *printer) wentBack(s *Summary) {
-	for _, folder := range s.Folders {
-		for _, member := range folder.Devices {
-			if member.OverWire != nil && member.OverWire.WentBackFrom > 0 {
-				p.line("went back: the index of %s on %s: an earlier look had its change %d, and its last one is %d now, as after an older home was put in its "+
-					"place there. Syncthing doesn't tell the others such changes again by itself", folder.ID, p.named.of(member.Device), member.OverWire.WentBackFrom,
-					member.OverWire.highest)
-				p.advice([]string{"the others may not hear of such changes: stop Syncthing on " + p.named.of(member.Device) + ", and " + resetDeltas})
-			}
+	s.eachMember(func(folder *Folder, member *Member) {
+		if member.OverWire != nil && member.OverWire.WentBackFrom > 0 {
+			p.Line("went back: the index of %s on %s: an earlier look had its change %d, and its last one is %d now, as after an older home was put in its "+
+				"place there. Syncthing doesn't tell the others such changes again by itself", folder.ID, p.Called(member.Device), member.OverWire.WentBackFrom,
+				member.OverWire.highest)
+			p.advice([]string{"the others may not hear of such changes: stop Syncthing on " + p.Called(member.Device) + ", and " + resetDeltas})
 		}
-	}
+	})
 }

@@ -61,7 +61,7 @@ func TestInStepOverTheWire(t *testing.T) {
 func TestOtherBytesOverTheWire(t *testing.T) {
 	for _, isOverWire := range []bool{false, true} {
 		fault := Fault{Cause: OtherBytes, isOverWire: isOverWire, Kind: "send-receive"}
-		if told := fault.whetherEdit(&File{}, labels{}); (told == "") == isOverWire {
+		if told := fault.whetherEdit(&File{}, unnamed); (told == "") == isOverWire {
 			t.Errorf("%v: %s", isOverWire, told)
 		}
 		words := wordsOfFaults([]*Fault{&fault}, false)
@@ -77,7 +77,7 @@ func TestNoTimeOfADiskIsToldOverTheWire(t *testing.T) {
 	for _, kind := range []damage.Kind{damage.Cut, damage.Longer} {
 		for _, isOverWire := range []bool{false, true} {
 			fault := Fault{Cause: Changed, Damage: kind, isOverWire: isOverWire, Recorded: &State{Type: "file", Size: 5, Modified: &at}, Found: &State{Type: "file", Size: 4, Modified: &at}}
-			p := &printer{zone: time.UTC}
+			p := printerOf(nil, nil)
 			told := wordsOfFaults([]*Fault{&fault}, false) + p.since(&fault)
 			if strings.Contains(told, "under the recorded time") == isOverWire || strings.Contains(told, "(recorded as modified ") != isOverWire {
 				t.Error(told)
@@ -92,7 +92,7 @@ func TestWhatIsDueHasItsTimeOverTheWire(t *testing.T) {
 	state := func(at *time.Time) *State { return &State{Type: "file", Size: 5, Modified: at} }
 	for _, isOverWire := range []bool{false, true} {
 		fault := Fault{Cause: Behind, isOverWire: isOverWire, Recorded: state(&at), Found: state(&at), Due: state(&later)}
-		if told := (&printer{zone: time.UTC}).since(&fault); told != " (modified 2023-11-14 22:13:20 UTC)" {
+		if told := printerOf(nil, nil).since(&fault); told != " (modified 2023-11-14 22:13:20 UTC)" {
 			t.Errorf("over the wire %v:%s", isOverWire, told)
 		}
 	}

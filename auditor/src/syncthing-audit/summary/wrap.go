@@ -36,10 +36,10 @@ const widthOfText = 100
 func (p *printer) running(line, text string) {
 	for _, word := range wordsOfText(text) {
 		if len(line)+1+len(word) > widthOfText {
-			p.line("%s", line)
+			p.Line("%s", line)
 			line = "        "
 		}
 		line += " " + word
 	}
-	p.line("%s", line)
+	p.Line("%s", line)
 }
