@@ -18,9 +18,6 @@ import (
 // File is where a folder's patterns stand.
 const File = ".stignore"
 
-// mostLineBytes is how long a line may be: Syncthing takes no longer one (bufio.MaxScanTokenSize).
-const mostLineBytes = bufio.MaxScanTokenSize
-
 // Read reads the lines of a folder's .stignore, and those of files that it includes, each at the place of its '#include'. Syncthing heeds a line once.
 // A folder without the file has no lines. Lines go into a part, and an included file may come from another device. So nothing outside the folder is read:
 // it may be a private key. Syncthing reads it.
@@ -36,7 +33,7 @@ func Read(folder string) ([]string, error) {
 	if err != nil {
 		return nil, reason(err)
 	}
-	reading := &reading{root: root, seen: map[string]bool{}, files: map[string]bool{}}
+	reading := &reading{root: root, leads: os.Geteuid() != 0, seen: map[string]bool{}, files: map[string]bool{}}
 	err = reading.file(path)
 	return reading.lines, err
 }
@@ -44,6 +41,7 @@ func Read(folder string) ([]string, error) {
 // reading is of one .stignore.
 type reading struct {
 	root  string // the folder's directory, without symlinks
+	leads bool   // whether the .stignore itself may lead out of it
 	lines []string
 	seen  map[string]bool
 	files map[string]bool
@@ -52,7 +50,7 @@ type reading struct {
 // checkInside says whether an open file isn't in the folder. The .stignore itself is no device's but this one's: its user may have it lead elsewhere, and
 // root doesn't follow that.
 func (r *reading) checkInside(file *os.File) error {
-	if len(r.files) == 1 && os.Geteuid() != 0 {
+	if len(r.files) == 1 && r.leads {
 		return nil
 	}
 	at, err := directory.PathOf(file)
@@ -76,8 +74,7 @@ func (r *reading) file(path string) error {
 	if err != nil {
 		return fmt.Errorf("%s can't be read: %w", filepath.Base(path), reason(err))
 	}
-	scanner, lines := bufio.NewScanner(file), []string{}
-	scanner.Buffer(nil, mostLineBytes)
+	scanner, lines := bufio.NewScanner(file), []string{} // which takes no longer line than Syncthing's does
 	for scanner.Scan() {
 		lines = append(lines, strings.TrimSpace(scanner.Text()))
 	}

@@ -195,6 +195,38 @@ func TestNothingOutsideTheFolderIsRead(t *testing.T) {
 	}
 }
 
+// The .stignore itself is the user's, and may lead out of the folder; what it includes may not, nor may it where root reads.
+func TestWhoseStignoreMayLeadElsewhere(t *testing.T) {
+	room := t.TempDir()
+	root, secret := filepath.Join(room, "folder"), filepath.Join(room, "secret")
+	if err := os.Mkdir(root, 0o755); err != nil {
+		t.Fatal(err)
+	}
+	for path, text := range map[string]string{secret: "a", filepath.Join(room, "more"): "#include secret", filepath.Join(root, "own"): "#include ../secret"} {
+		if err := os.WriteFile(path, []byte(text), 0o600); err != nil {
+			t.Fatal(err)
+		}
+	}
+	for place, row := range []struct {
+		path          string
+		leads, isRead bool
+	}{{secret, true, true}, {secret, false, false}, {filepath.Join(room, "more"), true, false}, {filepath.Join(root, "own"), true, false}, {filepath.Join(root, "own"), false, false}} {
+		begun := &reading{root: root, leads: row.leads, seen: map[string]bool{}, files: map[string]bool{}}
+		if err := begun.file(row.path); (err == nil) != row.isRead || (len(begun.lines) == 1) != row.isRead {
+			t.Errorf("%d: %q, %v", place, begun.lines, err)
+		}
+	}
+}
+
+// What is no pattern is told as it stands, and why it is none.
+func TestWhatIsNoPatternIsTold(t *testing.T) {
+	for line, due := range map[string]string{"a[": "it has the pattern \"a[\", which is none: ", "!": "it has the pattern \"!\", which is none: it is empty", "#x": "it has the line \"#x\", which this program doesn't know"} {
+		if patterns, err := Parse([]string{"a", line}, false); patterns != nil || err == nil || !strings.HasPrefix(err.Error(), due) {
+			t.Errorf("%s: %v", line, err)
+		}
+	}
+}
+
 // A folder may be named from where the program was begun; what it includes is in it all the same.
 func TestAFolderThatIsNamedFromHere(t *testing.T) {
 	room := t.TempDir()

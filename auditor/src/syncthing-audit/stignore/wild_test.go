@@ -110,6 +110,7 @@ func TestWhatAPatternMeans(t *testing.T) {
 		{"*[!b-d]*c", "bbbbc", false}, {"*[!b-d]*c", "bbabc", true}, {"[^a]x", "^x", true}, {"[^a]x", "bx", false}, {"[a\\]x", "\\x", true}, {"[a-]x", "-x", true},
 		{"\\*x", "*x", true}, {"\\*x", "ax", false}, {"a.c", "abc", false}, {"a,b", "a,b", true}, {"{a,{b,c}d}", "cd", true}, {"{a,{b,c}d}", "c", false}, {"?", "é", true},
 		{"?", "/", false}, {"*", "a\nb", true}, {"{a", "a", false}, {"[a", "a", false}, {"a\\", "a", false}, {"é*", "éa", true}, {"a}", "a}", true},
+		{"\\éx", "éx", true}, {"\\éx", "\\éx", false}, {"x{[a", "x", false}, {"x{a{b", "x", false}, {"x{\\", "x", false}, {"", "", true}, {"[", "", false},
 	} {
 		if is := (&linear{pattern: row.pattern}).fits(row.name); is != row.is {
 			t.Errorf("%q fits %.40q: %v", row.pattern, row.name, is)

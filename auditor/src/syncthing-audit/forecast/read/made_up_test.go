@@ -48,31 +48,31 @@ func partFrom(folder *join.Folder, place int) {
 
 // madeUpRecord gives what all devices of a row have, or now and then something else.
 func madeUpRecord(random *rand.Rand, base part.Record, isStill bool) *part.Record {
-	made := base
-	made.Sequence = int64(1 + random.Intn(9))
+	record := base
+	record.Sequence = int64(1 + random.Intn(9))
 	if isStill || random.Intn(9) > 0 {
-		return &made
+		return &record
 	}
 	switch random.Intn(8) {
 	case 0:
-		made.Version = [][2]uint64{{1, 2}, {3, 1}}
+		record.Version = [][2]uint64{{1, 2}, {3, 1}}
 	case 1:
-		made.Deleted, made.Content = true, nil
+		record.Deleted, record.Content = true, nil
 	case 2:
-		made.Invalid = true
+		record.Invalid = true
 	case 3:
-		made.Invalid, made.Local = true, [][2]uint64{{2, 5}}
+		record.Invalid, record.Local = true, [][2]uint64{{2, 5}}
 	case 4:
-		made.Type, made.Content = 1-made.Type%2, nil
+		record.Type, record.Content = 1-record.Type%2, nil
 	case 5:
-		made.ModifiedNs, made.Target = 7, "there"
+		record.ModifiedNs, record.Target = 7, "there"
 	case 6:
-		made.Content = &part.Content{Size: 5, BlockSize: 1 << 17, Hash: part.Hash{byte(1 + random.Intn(3))}}
+		record.Content = &part.Content{Size: 5, BlockSize: 1 << 17, Hash: part.Hash{byte(1 + random.Intn(3))}}
 	case 7:
 		bits := uint32(0o1601)
-		made.Permissions = &bits
+		record.Permissions = &bits
 	}
-	return &made
+	return &record
 }
 
 // madeUpNode gives what a record says, or now and then something else.
@@ -83,37 +83,37 @@ func madeUpNode(random *rand.Rand, of *part.Record, isStill bool) *part.Node {
 		}
 		return pick(random, nil, nil, nil, nil, nil, &part.Node{Type: 1, Permissions: 0o1755}, &part.Node{Size: 5, Contents: []part.Content{{Size: 5, BlockSize: 1 << 17}}})
 	}
-	made := &part.Node{Type: of.Type, ModifiedS: of.ModifiedS, ModifiedNs: of.ModifiedNs, Target: of.Target, Permissions: 0o644}
+	node := &part.Node{Type: of.Type, ModifiedS: of.ModifiedS, ModifiedNs: of.ModifiedNs, Target: of.Target, Permissions: 0o644}
 	if of.Permissions != nil {
-		made.Permissions = *of.Permissions ^ 0o1000
+		node.Permissions = *of.Permissions ^ 0o1000
 	}
 	if of.Content != nil {
-		made.Size, made.Contents = of.Content.Size, []part.Content{*of.Content}
+		node.Size, node.Contents = of.Content.Size, []part.Content{*of.Content}
 	}
 	if isStill {
-		return made
+		return node
 	}
 	switch random.Intn(20) {
 	case 0:
 		return nil
 	case 1:
-		made.ModifiedS++
+		node.ModifiedS++
 	case 2:
-		made.Permissions ^= 0o001
+		node.Permissions ^= 0o001
 	case 3:
-		made.Type = 4
+		node.Type = 4
 	case 4:
-		made.Lost = "lost"
+		node.Lost = "lost"
 	case 5:
-		made.Unread = 1
+		node.Unread = 1
 	case 6:
-		if made.Contents != nil {
-			made.Contents = append(made.Contents, part.Content{Size: 5, BlockSize: 1 << 18, Hash: part.Hash{byte(random.Intn(3))}})
+		if node.Contents != nil {
+			node.Contents = append(node.Contents, part.Content{Size: 5, BlockSize: 1 << 18, Hash: part.Hash{byte(random.Intn(3))}})
 		}
 	case 7:
-		made.Size, made.Contents = 0, nil
+		node.Size, node.Contents = 0, nil
 	}
-	return made
+	return node
 }
 
 // madeUpRow gives what the devices of a folder have of a name: often all the same.
@@ -164,7 +164,7 @@ func madeUpRow(random *rand.Rand, folder *join.Folder, name string) *join.Row {
 		}
 		row.At = append(row.At, at)
 	}
-	if isStill && base.Deleted && random.Intn(2) == 0 {
+	if isStill && random.Intn(4) == 0 {
 		forget(row, folder, random.Intn(len(row.At)))
 	}
 	if random.Intn(20) == 0 {
@@ -182,7 +182,7 @@ func madeUpRow(random *rand.Rand, folder *join.Folder, name string) *join.Row {
 
 // forget has a device never have had a name, and nobody know of that.
 func forget(row *join.Row, folder *join.Folder, device int) {
-	row.At[device].Own = nil
+	row.At[device].Own, row.At[device].Disk = nil, nil
 	for place, member := range folder.Members {
 		var views []part.Seen
 		for _, seen := range row.At[place].Views {

@@ -15,7 +15,7 @@ func id(place int) string { return protocol.DeviceID{7: byte(place + 1)}.String(
 
 // folderOf gives a folder that so many devices share.
 func folderOf(count int) *join.Folder {
-	made := &join.Folder{ID: "docs"}
+	folder := &join.Folder{ID: "docs"}
 	for place := 0; place < count; place++ {
 		about := &part.Folder{ID: "docs", Kind: "send-receive", IndexID: uint64(place + 1), Max: 9, Options: &part.Options{MaxConflicts: 10}}
 		for other := 0; other < count; other++ {
@@ -25,31 +25,31 @@ func folderOf(count int) *join.Folder {
 			}
 		}
 		head := &part.Head{Device: id(place), Runs: "v1.29.5", Folders: []part.Folder{*about}}
-		made.Members = append(made.Members, join.Member{Device: &join.Device{Head: head, Number: head.Number()}, About: about})
+		folder.Members = append(folder.Members, join.Member{Device: &join.Device{Head: head, Number: head.Number()}, About: about})
 	}
-	return made
+	return folder
 }
 
 func told(change func(*part.Record)) *part.Record {
-	made := &part.Record{ModifiedS: 100, ModifiedBy: 1, Version: [][2]uint64{{1, 1}}, Sequence: 5,
+	record := &part.Record{ModifiedS: 100, ModifiedBy: 1, Version: [][2]uint64{{1, 1}}, Sequence: 5,
 		Content: &part.Content{Size: 5, BlockSize: protocol.MinBlockSize, Hash: part.Hash{1}}}
 	if change != nil {
-		change(made)
+		change(record)
 	}
-	return made
+	return record
 }
 
 // calm gives a name of two devices that is at rest, after a change.
 func calm(name string, change func(row *join.Row)) *join.Row {
-	made := &join.Row{Name: name}
+	row := &join.Row{Name: name}
 	for place := 0; place < 2; place++ {
-		made.At = append(made.At, &part.Name{Name: part.Bytes(name), Own: told(nil), Views: []part.Seen{{Record: told(nil)}},
+		row.At = append(row.At, &part.Name{Name: part.Bytes(name), Own: told(nil), Views: []part.Seen{{Record: told(nil)}},
 			Disk: &part.Node{ModifiedS: 100, Size: 5, Contents: []part.Content{*told(nil).Content}}})
 	}
 	if change != nil {
-		change(made)
+		change(row)
 	}
-	return made
+	return row
 }
 
 func delete(row *join.Row, member int) {
@@ -72,6 +72,7 @@ var restless = []struct {
 	{"a local change", func(row *join.Row) { row.At[1].Own.Invalid, row.At[1].Own.Local = true, [][2]uint64{{1, 1}} }},
 	{"one hasn't heard of it", func(row *join.Row) { row.At[0].Views = nil }},
 	{"one has heard of another version", func(row *join.Row) { row.At[0].Views[0].Record.Version = [][2]uint64{{2, 2}} }},
+	{"one has heard of it, and hasn't taken it", func(row *join.Row) { row.At[0].Views, row.At[1].Own, row.At[1].Disk = nil, nil, nil }},
 	{"a name that no scan has seen", func(row *join.Row) { row.At[0].Own, row.At[0].Views, row.At[1] = nil, nil, nil }},
 	{"a name that one has heard of", func(row *join.Row) { row.At[0].Own, row.At[0].Disk, row.At[1] = nil, nil, nil }},
 }
@@ -91,11 +92,11 @@ func TestWhatIsAtRest(t *testing.T) {
 	if world := rows.World(); len(world.Names) != 0 {
 		t.Errorf("%+v aren't at rest", world.Names)
 	}
-	for _, one := range restless {
+	for _, restless := range restless {
 		rows := NewRows(folderOf(2))
-		rows.Take(calm("a", one.change))
+		rows.Take(calm("a", restless.change))
 		if len(rows.World().Names) != 1 {
-			t.Errorf("%s: it is at rest", one.why)
+			t.Errorf("%s: it is at rest", restless.why)
 		}
 	}
 }
@@ -150,14 +151,14 @@ var unknowns = []struct {
 
 // Where something of a folder isn't known, nothing of it is foretold, and the names are counted.
 func TestWhatIsNotKnownOfAFolder(t *testing.T) {
-	for _, one := range unknowns {
+	for _, unknown := range unknowns {
 		folder := folderOf(2)
-		one.change(folder)
+		unknown.change(folder)
 		rows := NewRows(folder)
 		rows.Take(calm("a", restless[1].change))
 		rows.Take(calm("b", nil))
-		if len(rows.World().Names) != 0 || len(rows.All) != 1 || rows.All[0].Why != one.why || rows.Count[one.why] != 1 {
-			t.Errorf("%s: %+v, %v, %d names", one.why, rows.All, rows.Count, len(rows.World().Names))
+		if len(rows.World().Names) != 0 || len(rows.All) != 1 || rows.All[0].Why != unknown.why || rows.Count[unknown.why] != 1 {
+			t.Errorf("%s: %+v, %v, %d names", unknown.why, rows.All, rows.Count, len(rows.World().Names))
 		}
 	}
 }
@@ -176,11 +177,11 @@ var unknownNames = []struct {
 
 // Where something of a name isn't known, nothing is foretold of it.
 func TestWhatIsNotKnownOfAName(t *testing.T) {
-	for _, one := range unknownNames {
+	for _, unknown := range unknownNames {
 		rows := NewRows(folderOf(2))
-		rows.Take(calm("a", one.change))
-		if len(rows.World().Names) != 1 || rows.Unknown["a"] != one.why {
-			t.Errorf("%q: %v, %d names", one.why, rows.Unknown, len(rows.World().Names))
+		rows.Take(calm("a", unknown.change))
+		if len(rows.World().Names) != 1 || rows.Unknown["a"] != unknown.why {
+			t.Errorf("%q: %v, %d names", unknown.why, rows.Unknown, len(rows.World().Names))
 		}
 	}
 }
@@ -234,19 +235,19 @@ func TestFilter(t *testing.T) {
 			at.Own.Content.Hash[0], at.Views[0].Record.Content.Hash[0], at.Disk.Contents[0].Hash[0] = 3, 3, 3
 		}
 	}))
-	for _, one := range []struct {
+	for _, due := range []struct {
 		hash byte
 		has  bool
 	}{{1, true}, {2, false}, {3, false}} {
 		other := NewRows(folderOf(2))
 		other.Take(calm("b", func(row *join.Row) {
 			for _, at := range row.At {
-				at.Own.Content.Hash[0], at.Views[0].Record.Content.Hash[0], at.Disk.Contents[0].Hash[0] = one.hash, one.hash, one.hash
+				at.Own.Content.Hash[0], at.Views[0].Record.Content.Hash[0], at.Disk.Contents[0].Hash[0] = due.hash, due.hash, due.hash
 			}
 			row.At[1].Disk = nil
 		}))
-		if rows.HasTwin(other.World().Names) != one.has {
-			t.Errorf("hash %d: %v", one.hash, !one.has)
+		if rows.HasTwin(other.World().Names) != due.has {
+			t.Errorf("hash %d: %v", due.hash, !due.has)
 		}
 	}
 }
@@ -255,19 +256,18 @@ func TestFilter(t *testing.T) {
 func TestFilterOfMany(t *testing.T) {
 	var many filter
 	content := func(number int) part.Content {
-		made := part.Content{Size: 1}
-		binary.LittleEndian.PutUint64(made.Hash[:], uint64(number)*0x9e3779b97f4a7c15)
-		binary.LittleEndian.PutUint64(made.Hash[8:], uint64(number)*0xc2b2ae3d27d4eb4f)
-		return made
+		content := part.Content{Size: 1}
+		binary.LittleEndian.PutUint64(content.Hash[:], uint64(number)*0x9e3779b97f4a7c15)
+		binary.LittleEndian.PutUint64(content.Hash[8:], uint64(number)*0xc2b2ae3d27d4eb4f)
+		return content
 	}
 	for number := 0; number < 3*mostExact; number++ {
-		one := content(number)
-		many.add(&one)
+		added := content(number)
+		many.add(&added)
 	}
 	wrong := 0
 	for number := 0; number < 6*mostExact; number++ {
-		one := content(number)
-		has := many.has(forecast.Content{Size: 1, Hash: one.Hash.String()})
+		has := many.has(forecast.Content{Size: 1, Hash: content(number).Hash.String()})
 		if number < 3*mostExact && !has {
 			t.Fatal("the filter lacks what was added:", number)
 		}
@@ -322,7 +322,7 @@ func TestOptions(t *testing.T) {
 	folder := folderOf(2)
 	folder.Members[0].Head.Folders[0].Options = &part.Options{MaxConflicts: 3, IgnoresDeletions: true}
 	devices := NewRows(folder).World().Devices
-	if one, other := devices[0], devices[1]; one.MaxConflicts != 3 || !one.IgnoreDelete || other.MaxConflicts != 10 || other.IgnoreDelete {
+	if first, other := devices[0], devices[1]; first.MaxConflicts != 3 || !first.IgnoreDelete || other.MaxConflicts != 10 || other.IgnoreDelete {
 		t.Errorf("%+v", devices)
 	}
 }
@@ -339,11 +339,11 @@ func TestAHub(t *testing.T) {
 		t.Errorf("%+v, %+v", rows.All, devices)
 	}
 	row := &join.Row{Name: "a"}
-	for member, one := range folder.Members {
+	for place, member := range folder.Members {
 		at := calm("a", nil).At[0]
 		at.Views = nil
-		for view := range one.About.Views {
-			if member == 0 || view == 0 {
+		for view := range member.About.Views {
+			if place == 0 || view == 0 {
 				at.Views = append(at.Views, part.Seen{View: view, Record: told(nil)})
 			}
 		}
