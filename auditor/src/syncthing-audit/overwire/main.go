@@ -8,6 +8,7 @@ import (
 	"context"
 	"encoding/json"
 	"fmt"
+	"io"
 	"os"
 	"sort"
 
@@ -41,13 +42,13 @@ type name struct {
 }
 
 func main() {
-	if err := run(os.Args[1:]); err != nil {
+	if err := run(os.Args[1:], os.Stdout); err != nil {
 		fmt.Fprintln(os.Stderr, "overwire:", err)
 		os.Exit(2)
 	}
 }
 
-func run(words []string) error {
+func run(words []string, output io.Writer) error {
 	if len(words) != 1 && len(words) != 4 {
 		return fmt.Errorf("usage: overwire DIRECTORY [FOLDER DEVICE ADDRESS]")
 	}
@@ -56,46 +57,53 @@ func run(words []string) error {
 		return err
 	}
 	if len(words) == 1 {
-		fmt.Println(observer.ID)
-		return nil
+		_, err := fmt.Fprintln(output, observer.ID)
+		return err
 	}
 	id, err := protocol.DeviceIDFromString(words[2])
 	if err != nil {
 		return err
 	}
-	made, err := ask(observer, words[1], id, words[3])
+	said, err := ask(observer, words[1], id, words[3])
 	if err != nil {
 		return err
 	}
-	return json.NewEncoder(os.Stdout).Encode(made)
+	return json.NewEncoder(output).Encode(said)
 }
 
-// ask asks a device for its index and its bytes, and then for what is new.
+// ask asks a device for its index and its bytes, and then, on another connection, for what is new.
 func ask(observer *wire.Observer, folder string, id protocol.DeviceID, address string) (*told, error) {
 	ctx := context.Background()
-	connection, err := observer.Dial(ctx, address, id, wire.Look{Folders: []string{folder}}, wire.Usual)
+	said, index, err := askFirst(ctx, observer, folder, id, address)
 	if err != nil {
 		return nil, err
 	}
+	return said, askAgain(ctx, observer, said, id, address, index)
+}
+
+// askFirst asks for all.
+func askFirst(ctx context.Context, observer *wire.Observer, folder string, id protocol.DeviceID, address string) (*told, *wire.Index, error) {
+	connection, err := observer.Dial(ctx, address, id, wire.Look{Folders: []string{folder}}, wire.Usual)
+	if err != nil {
+		return nil, nil, err
+	}
+	defer connection.Close()
 	shared := connection.Folders[0]
 	index, err := shared.Index(ctx)
 	if err != nil {
-		return nil, err
+		return nil, nil, err
 	}
-	made := &told{Version: connection.Hello.Version, Folder: shared.Folder, IndexID: index.ID, Highest: index.Highest}
-	if made.Names, err = names(ctx, shared, index); err != nil {
-		return nil, err
-	}
-	made.Asked = connection.Asked()
-	connection.Close()
-	return made, askAgain(ctx, observer, made, id, address, index)
+	said := &told{Version: connection.Hello.Version, Folder: shared.Folder, IndexID: index.ID, Highest: index.Highest}
+	said.Names, err = names(ctx, shared, index)
+	said.Asked = connection.Asked()
+	return said, index, err
 }
 
 // askAgain asks for what came since.
-func askAgain(ctx context.Context, observer *wire.Observer, made *told, id protocol.DeviceID, address string, known *wire.Index) error {
+func askAgain(ctx context.Context, observer *wire.Observer, to *told, id protocol.DeviceID, address string, known *wire.Index) error {
 	kept := wire.NewIndex(known.ID)
 	kept.Highest = known.Highest
-	look := wire.Look{Folders: []string{made.Folder.ID}, Kept: func(string) (*wire.Index, error) { return kept, nil }}
+	look := wire.Look{Folders: []string{to.Folder.ID}, Kept: func(string) (*wire.Index, error) { return kept, nil }}
 	connection, err := observer.Dial(ctx, address, id, look, wire.Usual)
 	if err != nil {
 		return err
@@ -109,31 +117,31 @@ func askAgain(ctx context.Context, observer *wire.Observer, made *told, id proto
 	if err != nil {
 		return err
 	}
-	made.SinceThen = int(count)
-	made.Asked += connection.Asked()
+	to.SinceThen = int(count)
+	to.Asked += connection.Asked()
 	return nil
 }
 
 // names gives all names of an index with what is found of them.
 func names(ctx context.Context, shared *wire.Shared, index *wire.Index) ([]name, error) {
-	made := []name{}
+	found := []name{}
 	err := index.Each(func(entry device.Entry) error {
 		if limits.CheckName(entry.Name) != nil {
-			made = append(made, name{Name: part.Bytes(entry.Name), Out: entry.Out})
+			found = append(found, name{Name: part.Bytes(entry.Name), Out: entry.Out})
 		}
 		return nil
 	})
 	if err != nil {
 		return nil, err
 	}
-	err = shared.Bytes(ctx, index, func(device.Entry) (bool, error) { return true, nil }, func(entry device.Entry, found wire.Found) error {
-		one := name{Name: part.Bytes(entry.Name), Own: entry.Record, Out: entry.Out, State: found.State, Differ: found.Differ}
-		if found.Blocks != nil {
-			one.Content = &part.Content{Size: found.Size, BlockSize: found.BlockSize, Hash: disk.HashOf(found.Blocks)}
+	err = shared.Bytes(ctx, index, func(device.Entry) (bool, error) { return true, nil }, func(entry device.Entry, bytes wire.Found) error {
+		next := name{Name: part.Bytes(entry.Name), Own: entry.Record, Out: entry.Out, State: bytes.State, Differ: bytes.Differ}
+		if bytes.Blocks != nil {
+			next.Content = &part.Content{Size: bytes.Size, BlockSize: bytes.BlockSize, Hash: disk.HashOf(bytes.Blocks)}
 		}
-		made = append(made, one)
+		found = append(found, next)
 		return nil
 	})
-	sort.Slice(made, func(a, b int) bool { return made[a].Name < made[b].Name })
-	return made, err
+	sort.Slice(found, func(a, b int) bool { return found[a].Name < found[b].Name })
+	return found, err
 }

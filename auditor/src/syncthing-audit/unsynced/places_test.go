@@ -25,6 +25,9 @@ func TestDirectoriesStayOutsideTheFolders(t *testing.T) {
 			t.Fatal(err)
 		}
 	}
+	if err := os.Symlink("docs/a", at("link")); err != nil {
+		t.Fatal(err)
+	}
 	place, err := directory.Place(at("docs"))
 	if err != nil {
 		t.Fatal(err)
@@ -36,7 +39,8 @@ func TestDirectoriesStayOutsideTheFolders(t *testing.T) {
 	for name, told := range map[string]string{
 		"free/a/b/new": "", "docs-more": "",
 		"docs": "folder docs (Papers) of laptop (CCCCCCC)", "docs/new": "folder docs (Papers) of laptop (CCCCCCC)", "docs/a/b/c/new/er": "folder docs (Papers) of laptop (CCCCCCC)",
-		"pics": "folder pics (Photos) of /homes/second", "pics/a/b/c/new": "folder pics (Photos) of /homes/second", "other/a/b/c": "the Syncthing folder " + at("other") + " (.stfolder is there)",
+		"link/new": "folder docs (Papers) of laptop (CCCCCCC)",
+		"pics":     "folder pics (Photos) of /homes/second", "pics/a/b/c/new": "folder pics (Photos) of /homes/second", "other/a/b/c": "the Syncthing folder " + at("other") + " (.stfolder is there)",
 	} {
 		err := CheckDirectory(at(name), "the history", devices, homes)
 		if due := "refused: " + at(name) + " would be in " + told + why; (err == nil) != (told == "") || err != nil && err.Error() != due {
@@ -84,6 +88,7 @@ func TestWhereTheOutputGoes(t *testing.T) {
 	}
 	there, gone, replaced, closed := open("there"), open("gone"), open("replaced"), open("closed")
 	_ = os.Remove(gone.Name())
+	open("gone (deleted)") // as Linux calls the one that is gone
 	_ = os.Remove(replaced.Name())
 	open("replaced")
 	closed.Close()

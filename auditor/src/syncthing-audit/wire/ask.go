@@ -3,8 +3,10 @@ package wire
 import (
 	"context"
 	"fmt"
-	"syncthing-audit/request"
+	"math"
 	"time"
+
+	"syncthing-audit/request"
 )
 
 // ask sends a request on a folder, and gives what the device answers.
@@ -35,16 +37,14 @@ func (c *Connection) ask(ctx context.Context, folder string, asked request.Reque
 }
 
 // expect gives a request its number.
-func (c *Connection) expect(waiting chan response) (int32, error) {
+func (c *Connection) expect(waiting chan response) (id int32, err error) {
 	c.mutex.Lock()
 	defer c.mutex.Unlock()
 	if c.failure != nil {
-		return 0, c.failure
+		return id, c.failure
 	}
-	for c.next++; c.waiting[c.next] != nil || c.next <= 0; c.next++ {
-		if c.next < 0 {
-			c.next = 0
-		}
+	for isFree := false; !isFree; isFree = c.waiting[c.next] == nil {
+		c.next = c.next%math.MaxInt32 + 1 // above 0, and behind the greatest one anew
 	}
 	c.waiting[c.next] = waiting
 	return c.next, nil

@@ -55,8 +55,8 @@ func TestBoundsOfAMessage(t *testing.T) {
 		"nothing":                        {framed(ping, 0, nil), 0, nil},
 		"as much as is taken":            {framed(ping, most, zeros[:most]), most, nil},
 		"one byte more":                  {framed(ping, most+1, zeros), 0, TooLong},
-		"the longest header":             {framed(padded(longestHeader), 0, nil), 0, nil},
-		"a longer header":                {framed(padded(longestHeader+1), 0, nil), 0, TooLong},
+		"the longest header":             {framed(padded(1024), 0, nil), 0, nil},
+		"a longer header":                {framed(padded(1025), 0, nil), 0, TooLong},
 		"nothing, compressed":            {framed(packed, 4, zeros[:4]), 0, nil},
 		"a header that is none":          {framed([]byte{0xff}, 0, nil), 0, BadMessage},
 		"compressed in an unknown way":   {framed(message.AppendNumber(ping, headerCompression, 2), 0, nil), 0, BadMessage},
@@ -136,7 +136,7 @@ func TestBoundsOfAConfiguration(t *testing.T) {
 		return text
 	}
 	limits := &Limits{Folders: 2, Devices: 2}
-	long := strings.Repeat("f", longestFolderID)
+	long := strings.Repeat("f", 1024)
 	for why, row := range map[string]struct {
 		text  []byte
 		asked []string
@@ -219,13 +219,13 @@ func TestBoundsOfARecord(t *testing.T) {
 	for why, row := range map[string]struct {
 		text []byte
 		err  error
-	}{"the longest name": {name(9), nil}, "a longer one": {name(10), NameTooLong}, "as many counters": {counters(mostCounters), nil}, "one more": {counters(mostCounters + 1), BadMessage},
+	}{"the longest name": {name(9), nil}, "a longer one": {name(10), NameTooLong}, "as many counters": {counters(4096), nil}, "one more": {counters(4097), BadMessage},
 		"a block": {blocks(1), nil}, "many blocks of nothing": {blocks(1000), BadMessage}} {
 		read, err := entryIn(row.text, 9)
 		if !errors.Is(err, row.err) {
 			t.Errorf("%s: %v", why, err)
 		}
-		if why == "as many counters" && (len(read.Version.Counters) != mostCounters || read.Version.Counters[8] != (protocol.Counter{ID: 9, Value: 7})) {
+		if why == "as many counters" && (len(read.Version.Counters) != 4096 || read.Version.Counters[8] != (protocol.Counter{ID: 9, Value: 7})) {
 			t.Errorf("%d counters", len(read.Version.Counters))
 		}
 	}

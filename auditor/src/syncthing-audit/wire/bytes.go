@@ -134,7 +134,7 @@ func (a *asker) lookWhereNone(ctx context.Context, name string) (Found, error) {
 		return Found{State: state}, err
 	}
 	found, err := a.read(ctx, name, 0, 0)
-	if err == nil && found.State == Same {
+	if found.State == Same {
 		found.State = Present
 	}
 	return found, err
@@ -198,19 +198,19 @@ func (a *asker) blocks(ctx context.Context, name string, most, blockSize int64) 
 }
 
 // length finds how many bytes a file has: those that are recorded, mostly.
-func (a *asker) length(ctx context.Context, name string, recorded int64) (int64, State, error) {
+func (a *asker) length(ctx context.Context, name string, recorded int64) (size int64, state State, err error) {
 	isWithin, state, err := a.upTo(ctx, name, recorded)
 	if err != nil || state != Same {
-		return 0, state, err
+		return size, state, err
 	}
 	low, high := int64(-1), recorded // over low bytes, at most high
 	if !isWithin {
 		if low, high, state, err = a.above(ctx, name, recorded); err != nil || state != Same {
-			return 0, state, err
+			return size, state, err
 		}
 	} else if recorded > 0 {
 		if isWithin, state, err = a.upTo(ctx, name, recorded-1); err != nil || state != Same {
-			return 0, state, err
+			return size, state, err
 		}
 		if !isWithin {
 			return recorded, Same, nil
@@ -222,17 +222,17 @@ func (a *asker) length(ctx context.Context, name string, recorded int64) (int64,
 
 // above finds a length that a file that is longer than its record doesn't go over. A device that says of all lengths that the file goes over
 // them has no file there, or doesn't answer such requests.
-func (a *asker) above(ctx context.Context, name string, low int64) (int64, int64, State, error) {
+func (a *asker) above(ctx context.Context, name string, low int64) (over, atMost int64, state State, err error) {
 	isWithin, state, err := a.upTo(ctx, name, farBehind)
 	if err != nil || state != Same {
-		return 0, 0, state, err
+		return over, atMost, state, err
 	}
 	if !isWithin {
 		state, err := a.probe(ctx, name)
 		if state == Present {
 			state = NotKnown // a device that knows no weak hashes
 		}
-		return 0, 0, state, err
+		return over, atMost, state, err
 	}
 	for step := int64(1); low+step < farBehind; step *= 4 {
 		high := low + step
@@ -246,7 +246,7 @@ func (a *asker) above(ctx context.Context, name string, low int64) (int64, int64
 
 // probe says whether a regular file stands at a name, by its first byte, which is made up if the file is empty.
 func (a *asker) probe(ctx context.Context, name string) (State, error) {
-	said, err := a.one(ctx, request.ForBlock(name, 0, 1))
+	said, err := a.ask(ctx, request.ForBlock(name, 0, 1))
 	if err != nil {
 		return "", err
 	}
@@ -257,12 +257,12 @@ func (a *asker) probe(ctx context.Context, name string) (State, error) {
 }
 
 // halve finds a length between two.
-func (a *asker) halve(ctx context.Context, name string, low, high int64) (int64, State, error) {
+func (a *asker) halve(ctx context.Context, name string, low, high int64) (size int64, state State, err error) {
 	for high-low > 1 {
 		middle := low + (high-low)/2
 		isWithin, state, err := a.upTo(ctx, name, middle)
 		if err != nil || state != Same {
-			return 0, state, err
+			return size, state, err
 		}
 		if isWithin {
 			high = middle
@@ -279,7 +279,7 @@ func (a *asker) upTo(ctx context.Context, name string, length int64) (bool, Stat
 	if err != nil {
 		return false, "", err
 	}
-	said, err := a.one(ctx, asked)
+	said, err := a.ask(ctx, asked)
 	if err != nil {
 		return false, "", err
 	}
@@ -293,8 +293,8 @@ func (a *asker) upTo(ctx context.Context, name string, length int64) (bool, Stat
 	}
 }
 
-// one sends a request once there is room for it.
-func (a *asker) one(ctx context.Context, asked request.Request) (response, error) {
+// ask sends a request once there is room for it.
+func (a *asker) ask(ctx context.Context, asked request.Request) (response, error) {
 	a.room.enter(asked)
 	defer a.room.leave(asked)
 	return a.of.over.ask(ctx, a.of.ID, asked)

@@ -6,6 +6,7 @@ import (
 	"sort"
 	"strings"
 	"testing"
+	"time"
 
 	"github.com/syncthing/syncthing/lib/protocol"
 	entries "syncthing-audit/device"
@@ -202,19 +203,37 @@ func TestChangesMeanwhile(t *testing.T) {
 	}
 }
 
-// Two requests of 16 MiB and one of the rest fill the room; a request that is too large for it goes alone.
+// Requests wait while others fill the room, by their count or their bytes; one that is too large for it goes alone.
 func TestRoom(t *testing.T) {
-	room := newRoom()
-	for n := 0; n < 4; n++ {
-		room.enter(request.ForBlock("a", 0, 16<<20))
+	const large = 16 << 20
+	for why, row := range map[string]struct {
+		first []int32 // these enter
+		next  int32   // this one waits, until the first one leaves
+	}{
+		"many": {make([]int32, 64), 0}, "four large ones": {[]int32{large, large, large, large}, 1}, "a very large one": {[]int32{100 << 20}, 1}, "large ones": {[]int32{large, large, large, large - 1}, 2},
+	} {
+		room := newRoom()
+		for _, size := range row.first {
+			room.enter(request.ForBlock("a", 0, size))
+		}
+		entered := make(chan bool, 1)
+		go func() { room.enter(request.ForBlock("b", 0, row.next)); entered <- true }()
+		select {
+		case <-entered:
+			t.Errorf("%s: one more entered", why)
+			continue
+		case <-time.After(20 * time.Millisecond):
+		}
+		room.leave(request.ForBlock("a", 0, row.first[0]))
+		<-entered
+		bytes := int64(row.next)
+		for _, size := range row.first[1:] {
+			bytes += int64(size)
+		}
+		room.mutex.Lock()
+		if room.requests != len(row.first) || room.bytes != bytes {
+			t.Errorf("%s: %d requests of %d bytes, not %d", why, room.requests, room.bytes, bytes)
+		}
+		room.mutex.Unlock()
 	}
-	entered := make(chan bool)
-	go func() { room.enter(request.ForBlock("b", 0, 1)); entered <- true }()
-	select {
-	case <-entered:
-		t.Fatal("a fifth one entered")
-	default:
-	}
-	room.leave(request.ForBlock("a", 0, 16<<20))
-	<-entered
 }

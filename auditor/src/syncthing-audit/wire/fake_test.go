@@ -82,6 +82,7 @@ type fake struct {
 	after    func(request int) // called before each request is answered
 	slower   time.Duration     // how many times longer it pauses than it is asked for
 	lie      func(offset int64, request int) (code uint64)
+	hears    func(offset, size int64) (code uint64) // called with each request; another code than none is the answer
 	script   func(*fake)
 	mutex    sync.Mutex
 	rescans  []string // names that were asked for with a recorded hash
@@ -91,13 +92,21 @@ type fake struct {
 	over     chan struct{} // closed once the script is over
 }
 
+// certificateOfFakes is one of all fake devices: to make one takes a while.
+var certificateOfFakes struct {
+	once sync.Once
+	is   tls.Certificate
+	err  error
+}
+
 // newFake makes a device that runs a script on the first connection.
 func newFake(t *testing.T, script func(*fake)) *fake {
 	t.Helper()
-	certificate, err := tlsutil.NewCertificateInMemory("syncthing", 1)
-	if err != nil {
-		t.Fatal(err)
+	certificateOfFakes.once.Do(func() { certificateOfFakes.is, certificateOfFakes.err = tlsutil.NewCertificateInMemory("syncthing", 1) })
+	if certificateOfFakes.err != nil {
+		t.Fatal(certificateOfFakes.err)
 	}
+	certificate := certificateOfFakes.is
 	listener, err := net.Listen("tcp", "127.0.0.1:0")
 	if err != nil {
 		t.Fatal(err)
@@ -230,6 +239,11 @@ func (f *fake) give(name string, offset int64, size int, hash []byte, weak uint3
 	defer f.mutex.Unlock()
 	if f.requests++; f.after != nil {
 		f.after(f.requests)
+	}
+	if f.hears != nil {
+		if code := f.hears(offset, int64(size)); code != codeNone {
+			return nil, code
+		}
 	}
 	if f.lie != nil {
 		return make([]byte, size), f.lie(offset, f.requests)

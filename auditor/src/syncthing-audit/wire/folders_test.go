@@ -114,11 +114,11 @@ func TestNoFolder(t *testing.T) {
 		want   Refusal
 	}{
 		{[]string{"a", "docs", "z"}, pausing, Paused}, {nil, pausing, Paused}, {[]string{"a"}, pausing, NotShared}, {nil, many, TooManyFolders},
-		{nil, odd("a\x00b"), BadMessage}, {nil, odd(string(make([]byte, longestFolderID+1))), BadMessage},
+		{nil, odd("a\x00b"), BadMessage}, {nil, odd(string(make([]byte, 1025))), BadMessage},
 		{nil, func(*fake, protocol.DeviceID) []byte { return nil }, NotShared},
 		{nil, func(f *fake, observer protocol.DeviceID) []byte {
 			return f.config("docs", observer, 50, 1, func(b []byte) []byte {
-				other := message.AppendText(message.AppendText(nil, deviceID, f.id[:]), deviceToken, make([]byte, longestToken+1))
+				other := message.AppendText(message.AppendText(nil, deviceID, f.id[:]), deviceToken, make([]byte, 2049))
 				return message.AppendText(b, folderDevice, other)
 			})
 		}, BadMessage},

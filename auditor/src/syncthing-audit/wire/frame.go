@@ -36,35 +36,35 @@ const (
 const longestHeader = 1024
 
 // readFrame reads a message: the length of its header, the header, the message's length, the message. It calls begun behind the first bytes.
-func readFrame(from io.Reader, most int, begun func()) (kind, []byte, error) {
+func readFrame(from io.Reader, most int, begun func()) (what kind, text []byte, err error) {
 	var length [4]byte
 	if _, err := io.ReadFull(from, length[:2]); err != nil {
-		return 0, nil, err
+		return what, nil, err
 	}
 	begun()
 	of := int(binary.BigEndian.Uint16(length[:2]))
 	if of > longestHeader {
-		return 0, nil, fmt.Errorf("%w: a header of %d bytes", TooLong, of)
+		return what, nil, fmt.Errorf("%w: a header of %d bytes", TooLong, of)
 	}
 	header := make([]byte, of)
 	if _, err := io.ReadFull(from, header); err != nil {
-		return 0, nil, err
+		return what, nil, err
 	}
-	var what, compression uint64
-	err := message.Each(header, func(field message.Field) error {
+	var compression uint64
+	err = message.Each(header, func(field message.Field) error {
 		switch field.Number {
 		case headerType:
-			what = field.Value
+			what = kind(field.Value)
 		case headerCompression:
 			compression = field.Value
 		}
 		return nil
 	})
 	if err != nil {
-		return 0, nil, fmt.Errorf("%w: its header: %v", BadMessage, err)
+		return what, nil, fmt.Errorf("%w: its header: %v", BadMessage, err)
 	}
-	body, err := readBody(from, most, compression)
-	return kind(what), body, err
+	text, err = readBody(from, most, compression)
+	return what, text, err
 }
 
 // readBody reads a message behind its header, and decompresses it.

@@ -30,7 +30,7 @@ type response struct {
 func (c *Connection) read() {
 	defer close(c.ended)
 	for {
-		err := c.readOne()
+		err := c.readNext()
 		if err == nil {
 			continue
 		}
@@ -48,8 +48,8 @@ func (c *Connection) read() {
 	}
 }
 
-// readOne reads a message, and does what it asks for.
-func (c *Connection) readOne() error {
+// readNext reads a message, and does what it asks for.
+func (c *Connection) readNext() error {
 	_ = c.stream.SetReadDeadline(time.Now().Add(c.limits.Silence))
 	what, text, err := readFrame(c.stream, c.limits.Message, func() { _ = c.stream.SetReadDeadline(time.Now().Add(c.limits.Frame)) })
 	if err != nil {
