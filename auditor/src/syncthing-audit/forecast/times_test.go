@@ -21,3 +21,43 @@ func TestItMattersWhoDeletesLater(t *testing.T) {
 		}
 	}
 }
+
+// Of two devices with a newer version one has other bytes than it recorded. Whether that is found depends on which of them is asked first, whichever it is.
+func TestWhichSourceIsAsked(t *testing.T) {
+	newer := &Record{Type: File, Version: []Counter{{10, 5}, {20, 7}}, Time: 6, Content: Content{5, "newer"}, Mode: 0o644}
+	for _, rotten := range []int{1, 2} {
+		name := inStep("a", "old", 3, 5)
+		for _, i := range []int{1, 2} {
+			name.Own[i], name.Views[i][3-i] = newer, newer
+			name.Disk[i] = &Node{File, 6, newer.Content, "", 0o644}
+		}
+		answer := New(Usual).OfGroup(three(), []Name{name.changed(rotten, "wrong", 6)})
+		texts := map[string]bool{}
+		for _, end := range answer.Ends {
+			text, _ := textAt(end, 0)
+			texts[text] = true
+		}
+		if !answer.IsAll || !texts["newer"] || !texts["wrong"] || len(texts) != 2 {
+			t.Errorf("%d is rotten: it comes to %v", rotten, texts)
+		}
+	}
+}
+
+// What a device has begun to fetch is dropped where other bytes are due, also where no device has those.
+func TestWhatWasBegunIsDropped(t *testing.T) {
+	name := inStep("a", "old", 3, 5)
+	newer := &Record{Type: File, Version: []Counter{{10, 5}, {20, 7}}, Time: 6, Content: Content{5, "newer"}, Mode: 0o644}
+	name.Own[0], name.Views[1][0] = newer, newer
+	l, s := loaded(name)
+	s, _ = s.withList(1)
+	s.on = s.may
+	s.setTemp(1, 0, l.contentOf(Content{7, "another"}))
+	p := s.newPull(1)
+	if why := p.takeFile(0); why != NoSource || s.temp(1, 0) != 0 {
+		t.Errorf("%q: %d is left", why, s.temp(1, 0))
+	}
+	s.write(0, 0, node{kind: File, time: 6, content: l.contentOf(newer.Content), mode: 0o644})
+	if why := s.newPull(1).takeFile(0); why != NoReason || s.temp(1, 0) != 0 || s.at(1, 0).content != l.contentOf(newer.Content) {
+		t.Errorf("%q: %+v", why, s.at(1, 0))
+	}
+}

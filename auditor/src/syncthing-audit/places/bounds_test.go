@@ -5,6 +5,7 @@ import (
 	"os"
 	"path/filepath"
 	"strings"
+	"sync"
 	"testing"
 	"time"
 
@@ -24,25 +25,30 @@ func standInForSSH(t *testing.T, script string) *place {
 // A machine that writes without an end, hangs or trickles is refused with words that name it, in the question and in both looks.
 func TestAMachineWithoutAnEnd(t *testing.T) {
 	limits := bounded.Limits{Output: 1 << 20, Told: 1 << 16, Silence: 700 * time.Millisecond, Whole: 2 * time.Second}
-	for _, test := range []struct{ why, script, told string }{
+	var ended sync.WaitGroup
+	for _, row := range []struct{ why, script, told string }{
 		{"writes forever", "exec cat /dev/zero", "wrote more output than any real device does (over 1048576 bytes)"},
 		{"says forever", "exec yes >&2", "wrote more standard error than any real device does (over 65536 bytes)"},
 		{"hangs", "exec sleep 600", "wrote nothing for 700ms"},
 		{"trickles", "while :; do printf x; sleep 0.1; done", "wasn't done after 2s"},
 	} {
-		there := standInForSSH(t, test.script)
+		there := standInForSSH(t, row.script)
 		for look, words := range map[string][]string{"about": there.about(commandline.Options{}), "begin": there.begin(commandline.Options{}), "end": there.end(commandline.Options{})} {
-			path := filepath.Join(t.TempDir(), look)
-			_, err := there.run(words, strings.NewReader(""), path, limits)
-			var passed *bounded.Passed
-			if !errors.As(err, &passed) || err.Error() != "refused: laptop: its command "+test.told+", and was ended" {
-				t.Errorf("%s, as one %s: %v", look, test.why, err)
-			}
-			if about, err := os.Stat(path); err != nil || about.Size() > limits.Output {
-				t.Errorf("%s, as one %s: %v, %v", look, test.why, about.Size(), err)
-			}
+			ended.Add(1)
+			go func(why, told, look, path string, words []string) {
+				defer ended.Done()
+				_, err := there.run(words, strings.NewReader(""), path, limits)
+				var passed *bounded.Passed
+				if !errors.As(err, &passed) || err.Error() != "refused: laptop: its command "+told+", and was ended" {
+					t.Errorf("%s, as one %s: %v", look, why, err)
+				}
+				if about, err := os.Stat(path); err != nil || about.Size() > limits.Output {
+					t.Errorf("%s, as one %s: %v, %v", look, why, about, err)
+				}
+			}(row.why, row.told, look, filepath.Join(t.TempDir(), look), words)
 		}
 	}
+	ended.Wait()
 }
 
 // Real folders are within the limits: a part of 10,000,000 names, and a file that takes a day to be hashed.
