@@ -60,15 +60,15 @@ func diskHead(system string) *part.Head {
 // Halves of other devices, other looks, other walks, other names and other folders aren't joined.
 func TestWhatIsNoTwoHalves(t *testing.T) {
 	for told, change := range map[string]func(wire, disks *part.Head){
-		"other one of":                  func(_, disks *part.Head) { disks.Device = idOf(3) },
-		"first look":                    func(_, disks *part.Head) { disks.Half.After = walk },
-		"another walk":                  func(wire, _ *part.Head) { wire.Wire.Half = look },
-		"they aren't":                   func(wire, _ *part.Head) { wire.Wire.Half = "" },
-		"they aren't a part over":       func(_, disks *part.Head) { disks.Half = nil },
-		"the same --slice":              func(_, disks *part.Head) { disks.Names = choice.Names{Slice: 1, Slices: 2} },
-		"whose directory wasn't walked": func(wire, _ *part.Head) { wire.Folders = append(wire.Folders, part.Folder{ID: "more"}) },
-		"at which the observer didn't":  func(_, disks *part.Head) { disks.Folders = append(disks.Folders, part.Folder{ID: "more"}) },
-		"the disks have folder others":  func(_, disks *part.Head) { disks.Folders[0].ID = "others" },
+		"one is of device " + idOf(1) + ", the other one of " + idOf(3): func(_, disks *part.Head) { disks.Device = idOf(3) },
+		"first look":              func(_, disks *part.Head) { disks.Half.After = walk },
+		"another walk":            func(wire, _ *part.Head) { wire.Wire.Half = look },
+		"they aren't":             func(wire, _ *part.Head) { wire.Wire.Half = "" },
+		"they aren't a part over": func(_, disks *part.Head) { disks.Half = nil },
+		"the same --slice":        func(_, disks *part.Head) { disks.Names = choice.Names{Slice: 1, Slices: 2} },
+		"looked at folder more (More), whose directory wasn't walked": func(wire, _ *part.Head) { wire.Folders = append(wire.Folders, part.Folder{ID: "more", Label: "More"}) },
+		"at which the observer didn't":                                func(_, disks *part.Head) { disks.Folders = append(disks.Folders, part.Folder{ID: "more"}) },
+		"the disks have folder others":                                func(_, disks *part.Head) { disks.Folders[0].ID = "others" },
 	} {
 		wire, disks := wireHead(), diskHead("linux")
 		change(wire, disks)
@@ -134,8 +134,8 @@ func TestNames(t *testing.T) {
 		t.Errorf("one block: %+v", d)
 	}
 	for name, disk := range map[string]bool{"e": false, "f": true} {
-		if one := names[name]; one.Waits == nil || (one.Waits.Disk != nil) != disk {
-			t.Errorf("%s: %+v", name, one)
+		if found := names[name]; found.Waits == nil || (found.Waits.Disk != nil) != disk {
+			t.Errorf("%s: %+v", name, found)
 		}
 	}
 	if g := names["g"]; strings.Join(g.Moved, " ") != "record disk" {
@@ -158,8 +158,9 @@ func TestUnknownPatterns(t *testing.T) {
 		if old := names["old"]; old == nil || old.Own != record || old.Disk == nil || len(old.Out)+len(old.Moved) > 0 {
 			t.Errorf("%+v: %+v", ignores, old)
 		}
-		if one := names["new"]; len(one.Out) != 1 || one.Out[0].Kind != part.Unknown || len(one.Moved) > 0 {
-			t.Errorf("%+v: %+v", ignores, one)
+		found := names["new"]
+		if len(found.Out) != 1 || found.Out[0].Kind != part.Unknown || len(found.Moved) > 0 || strings.HasSuffix(found.Out[0].Why, ": ") || !strings.HasSuffix(found.Out[0].Why, ignores.Unknown) {
+			t.Errorf("%+v: %+v", ignores, found)
 		}
 	}
 }
@@ -200,8 +201,8 @@ func TestLinesThatDontFit(t *testing.T) {
 		for err == nil {
 			_, err = stream.Next()
 		}
-		if err == io.EOF {
-			t.Errorf("%s, and nobody is told", what)
+		if err == io.EOF || what == "the disks go on" && err.Error() != "its half of the disks goes on where that over the wire ends: <nil>, EOF" {
+			t.Errorf("%s: %v", what, err)
 		}
 	}
 }

@@ -257,8 +257,9 @@ func TestWhatIsConfiguredThere(t *testing.T) {
 		wire.Folders[0].Kind = "receive-only"
 		half.Folders[0].Kind = kind
 		half.Folders[0].TimeWindow = 2
+		wire.Folders[0].Label = "My docs"
 		stream, err := Join(giving(wire), giving(half))
-		if (err == nil) != (told == "") || err != nil && !strings.HasSuffix(err.Error(), told) {
+		if (err == nil) != (told == "") || err != nil && (!strings.HasSuffix(err.Error(), told) || !strings.HasPrefix(err.Error(), "folder docs (My docs): ")) {
 			t.Errorf("%q: %v", kind, err)
 		}
 		if err == nil && (stream.Head().Folders[0].TimeWindow == 2) != (kind != "") {

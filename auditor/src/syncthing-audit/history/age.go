@@ -1,7 +1,6 @@
 package history
 
 import (
-	"errors"
 	"time"
 
 	"github.com/syndtr/goleveldb/leveldb"
@@ -16,7 +15,7 @@ func (t *taking) compareAge() error {
 	key := keyOfPart(t.folder, t.head.Number())
 	value, err := t.to.Get(key, nil)
 	switch {
-	case errors.Is(err, leveldb.ErrNotFound):
+	case err == leveldb.ErrNotFound:
 	case err == nil && len(value) != 8:
 		return errValue
 	case err != nil:

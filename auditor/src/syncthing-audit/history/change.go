@@ -1,8 +1,6 @@
 package history
 
 import (
-	"errors"
-
 	"github.com/syndtr/goleveldb/leveldb"
 	"golang.org/x/exp/slices"
 )
@@ -16,21 +14,13 @@ func readChange(value []byte) (*Change, error) {
 	if len(value) != 2*lengthOfReading {
 		return nil, errValue
 	}
-	before, err := readReading(value[:lengthOfReading])
-	if err != nil {
-		return nil, err
-	}
-	since, err := readReading(value[lengthOfReading:])
-	if err != nil {
-		return nil, err
-	}
-	return &Change{*before, *since}, nil
+	return &Change{readingIn(value[:lengthOfReading]), readingIn(value[lengthOfReading:])}, nil
 }
 
 // changeAt gives the change that a key has; nothing if there is none.
 func changeAt(db *leveldb.DB, key []byte) (*Change, error) {
 	value, err := db.Get(key, nil)
-	if errors.Is(err, leveldb.ErrNotFound) {
+	if err == leveldb.ErrNotFound {
 		return nil, nil
 	}
 	if err != nil {
@@ -117,7 +107,7 @@ func (h *History) isSpread(spread *Spread, devices []uint64) (bool, error) {
 	var first *Reading
 	for _, device := range devices {
 		value, err := h.db.Get(keyOfReading(spread.Folder, device, spread.Name), nil)
-		if errors.Is(err, leveldb.ErrNotFound) {
+		if err == leveldb.ErrNotFound {
 			continue
 		}
 		if err != nil {

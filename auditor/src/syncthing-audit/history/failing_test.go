@@ -292,31 +292,3 @@ func keyAt(t *testing.T, history *History, place int) []byte {
 	}
 	return nil
 }
-
-// What is kept of one folder, device and name stands under another key for each kind of it.
-func TestEachKindHasItsKeys(t *testing.T) {
-	kinds := map[byte]bool{}
-	keys := [][]byte{keyOfFormat(), keyOfLast(), keyOfReading("docs", 7, "a"), keyOfAsked("docs", 7, "a"), keyOfPart("docs", 7), keyOfChange("docs", "a", 7), keyOfTaken("docs", "a", 7),
-		keyOfFault(Fault{"docs", "a", 7, "x"})}
-	for _, key := range keys {
-		kinds[key[0]] = true
-	}
-	if len(kinds) != len(keys) {
-		t.Errorf("%d keys are of %d kinds", len(keys), len(kinds))
-	}
-}
-
-// A key that is none of a name's is told as that.
-func TestKeysOfNoName(t *testing.T) {
-	if folder, name, device, _, err := readName(keyOfChange("docs", "a", 7)); err != nil || folder != "docs" || name != "a" || device != 7 {
-		t.Errorf("%s, %s, %d, %v", folder, name, device, err)
-	}
-	for end := 1; end < len(keyOfChange("docs", "a", 7)); end++ {
-		if _, _, _, _, err := readName(keyOfChange("docs", "a", 7)[:end]); err == nil {
-			t.Errorf("%d bytes are read as a key", end)
-		}
-	}
-	if fmt.Sprint(sorted(map[string][]uint64{"b": nil, "c": nil, "a": nil, "d": nil})) != "[a b c d]" {
-		t.Error("folders aren't in their order")
-	}
-}

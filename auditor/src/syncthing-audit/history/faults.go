@@ -2,7 +2,6 @@ package history
 
 import (
 	"encoding/binary"
-	"errors"
 	"time"
 
 	"github.com/syndtr/goleveldb/leveldb"
@@ -111,7 +110,7 @@ func (k *keeping) compare(key, value []byte, isAudited func(Fault) bool) error {
 func (h *History) Last() (time.Time, error) {
 	value, err := h.db.Get(keyOfLast(), nil)
 	switch {
-	case errors.Is(err, leveldb.ErrNotFound):
+	case err == leveldb.ErrNotFound:
 		return time.Time{}, nil
 	case err == nil && len(value) != 8:
 		err = errValue
@@ -125,7 +124,7 @@ func (h *History) Last() (time.Time, error) {
 // Seen says since when a fault is found; nothing if it isn't.
 func (h *History) Seen(fault Fault) (*Seen, error) {
 	value, err := h.db.Get(keyOfFault(fault), nil)
-	if errors.Is(err, leveldb.ErrNotFound) {
+	if err == leveldb.ErrNotFound {
 		return nil, nil
 	}
 	if err != nil {

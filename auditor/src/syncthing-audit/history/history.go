@@ -60,7 +60,7 @@ func openIn(files storage.Storage) (*History, error) {
 		return nil, err
 	}
 	is, err := db.Get(keyOfFormat(), nil)
-	if errors.Is(err, leveldb.ErrNotFound) {
+	if err == leveldb.ErrNotFound {
 		err = db.Put(keyOfFormat(), []byte(format), &opt.WriteOptions{Sync: true})
 	} else if err == nil && string(is) != format {
 		err = fmt.Errorf("its format is %q, and this program knows %s", is, format)
@@ -107,8 +107,8 @@ type writes struct {
 	batch leveldb.Batch
 }
 
-// mostWaiting is how many bytes wait at most until they are written.
-const mostWaiting = 1 << 20
+// mostWaiting is how many bytes wait at most until they are written; in tests fewer do.
+var mostWaiting = 1 << 20
 
 func (w *writes) put(key, value []byte) error {
 	w.batch.Put(key, value)

@@ -79,7 +79,7 @@ func readName(key []byte) (folder, name string, device uint64, rest string, err 
 
 // isBusy says whether a directory can't be opened since another process has it open.
 func isBusy(err error) bool {
-	return errors.Is(err, syscall.EAGAIN) || errors.Is(err, syscall.EWOULDBLOCK) || errors.Is(err, storage.ErrLocked)
+	return errors.Is(err, syscall.EWOULDBLOCK) || errors.Is(err, storage.ErrLocked)
 }
 
 // sorted gives the folders, rising.

@@ -52,9 +52,15 @@ func readReading(value []byte) (*Reading, error) {
 	if len(value) != lengthOfReading {
 		return nil, errValue
 	}
+	reading := readingIn(value)
+	return &reading, nil
+}
+
+// readingIn gives the reading of a value that is as long as one.
+func readingIn(value []byte) Reading {
 	number := func(place int) int64 { return int64(binary.BigEndian.Uint64(value[8*place:])) }
-	reading := &Reading{At: time.Unix(number(0), 0).UTC(), ModifiedS: number(1), ModifiedNs: int(number(2))}
+	reading := Reading{At: time.Unix(number(0), 0).UTC(), ModifiedS: number(1), ModifiedNs: int(number(2))}
 	reading.Content = part.Content{Size: number(3), BlockSize: number(4)}
 	copy(reading.Content.Hash[:], value[5*8:])
-	return reading, nil
+	return reading
 }

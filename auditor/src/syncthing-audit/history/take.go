@@ -2,7 +2,6 @@ package history
 
 import (
 	"bytes"
-	"errors"
 	"io"
 	"time"
 
@@ -29,7 +28,7 @@ func (h *History) Take(stream part.Stream, at time.Time) error {
 	defer taken.release()
 	for {
 		line, err := stream.Next()
-		if errors.Is(err, io.EOF) {
+		if err == io.EOF {
 			return taken.end()
 		}
 		if err == nil {

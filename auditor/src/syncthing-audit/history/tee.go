@@ -1,7 +1,6 @@
 package history
 
 import (
-	"errors"
 	"io"
 	"sync"
 
@@ -32,7 +31,7 @@ func (t *Tee) Next() (part.Line, error) {
 	line, err := t.Stream.Next()
 	switch {
 	case t.err != nil || t.ended:
-	case errors.Is(err, io.EOF):
+	case err == io.EOF:
 		t.ended = true
 		t.err = t.taken.end()
 		t.taken.release()
