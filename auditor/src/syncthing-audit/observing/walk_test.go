@@ -108,7 +108,22 @@ func TestADeviceWhoseDisksAreWalked(t *testing.T) {
 	log.await(t, "it isn't what this run waits for: it is of device "+here.devices[0].ID.String()+"; waiting for another file there")
 	walk(t, found[1], id+":0123456789abcdef0123456789abcdef", directory, path)
 	log.await(t, "its walk came after another look than this run's; waiting for another file there")
-	walk(t, found[1], "", directory, path)
+	whole := filepath.Join(t.TempDir(), "whole")
+	walk(t, found[1], "", directory, whole)
+	text, err := os.ReadFile(whole)
+	if err == nil {
+		err = os.WriteFile(path+".new", text[:len(text)/2], 0o600) // one that is being copied
+	}
+	if err == nil {
+		err = os.Rename(path+".new", path)
+	}
+	if err != nil {
+		t.Fatal(err)
+	}
+	time.Sleep(20 * time.Millisecond)
+	if err := os.Rename(whole, path); err != nil {
+		t.Fatal(err)
+	}
 	if err := <-ended; err != nil || status != exit.NotSettled {
 		t.Fatal(status, err, log.String())
 	}

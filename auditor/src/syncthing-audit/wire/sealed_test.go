@@ -253,9 +253,9 @@ func TestWhereSealedBlocksStand(t *testing.T) {
 	if err != nil {
 		t.Fatal(err)
 	}
-	asked := map[int64]bool{}
+	asked := map[int64]int64{}
 	device.mutex.Lock()
-	device.lie = func(offset int64, _ int) uint64 { asked[offset] = true; return codeNoSuchFile }
+	device.hears = func(offset, size int64) uint64 { asked[offset] = size; return codeNoSuchFile }
 	device.mutex.Unlock()
 	index, err := connection.Folders[0].Index(context.Background())
 	if err != nil {
@@ -269,7 +269,8 @@ func TestWhereSealedBlocksStand(t *testing.T) {
 	}); err != nil {
 		t.Fatal(err)
 	}
-	if !asked[0] || !asked[protocol.MinBlockSize+secret.Overhead] || len(asked) != 2 {
+	const whole = protocol.MinBlockSize + secret.Overhead
+	if asked[0] != whole || asked[whole] != 1024+secret.Overhead || len(asked) != 2 { // none has less than 1024 bytes in it
 		t.Errorf("%v", asked)
 	}
 }
