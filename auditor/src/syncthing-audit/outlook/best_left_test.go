@@ -79,11 +79,11 @@ func TestNothingIsReplacedByNothing(t *testing.T) {
 func (j *judge) findReplacedByNothing(t *testing.T, seed int64, name *forecast.Name) int {
 	gone := 0
 	for _, thing := range thingsNow(anyDevices, name) {
-		if j.survives(name.Name, &thing) {
+		if j.survives(name.Name, thing) {
 			continue
 		}
 		gone++
-		if !j.hasSuccessor(name, &thing) {
+		if !j.hasSuccessor(name, thing) {
 			t.Errorf("seed %d, %s: %+v goes, and nothing came after it", seed, name.Name, thing)
 		}
 	}
@@ -91,7 +91,7 @@ func (j *judge) findReplacedByNothing(t *testing.T, seed int64, name *forecast.N
 }
 
 // hasSuccessor says whether a record of a deletion, other recorded bytes that stay, or a change on a disk may have come after something.
-func (j *judge) hasSuccessor(name *forecast.Name, thing *Thing) bool {
+func (j *judge) hasSuccessor(name *forecast.Name, thing Thing) bool {
 	for member, own := range name.Own {
 		if own == nil || own.Flag != forecast.Valid {
 			continue

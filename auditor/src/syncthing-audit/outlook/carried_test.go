@@ -48,16 +48,16 @@ func TestRottenBytesThatARenameCarries(t *testing.T) {
 			}
 		}
 		var plan *Plan
-		for place := range made.Plans {
-			if made.Plans[place].Goal != nil && made.Plans[place].Names[0] == "b" {
-				plan = &made.Plans[place]
+		for _, found := range made.Plans {
+			if found.Goal != nil && found.Names[0] == "b" {
+				plan = found
 			}
 		}
 		if plan == nil || !reflect.DeepEqual(plan.Goal.Devices, at(0)) {
 			t.Fatalf("over %v: %+v", over, made.Plans)
 		}
-		saved := slices.IndexFunc(made.Plans, func(one Plan) bool {
-			return one.Goal == nil && one.Names[0] == "a" && reflect.DeepEqual(one.Steps, []Step{{Act: Save, Device: idOf(1)}})
+		saved := slices.IndexFunc(made.Plans, func(plan *Plan) bool {
+			return plan.Goal == nil && plan.Names[0] == "a" && reflect.DeepEqual(plan.Steps, []Step{{Act: Save, Device: idOf(1)}})
 		})
 		if saved < 0 {
 			t.Errorf("over %v: the rotten bytes aren't saved: %+v", over, made.Plans)

@@ -2,6 +2,7 @@ package outlook
 
 import (
 	"reflect"
+	"sort"
 
 	"golang.org/x/exp/slices"
 	"syncthing-audit/damage"
@@ -138,45 +139,42 @@ func (c *Choice) take(before *Name, after Name, devices int) {
 		c.Alike++
 	}
 	var loses []Thing
-	for place := range after.Loses {
-		if !isAmong(before.Loses, &after.Loses[place]) {
-			loses = append(loses, after.Loses[place])
+	for _, thing := range after.Loses {
+		if !isAmong(before.Loses, thing) {
+			loses = append(loses, thing)
 		}
 	}
-	if len(loses) == 0 {
-		return
-	}
-	c.Lost++
-	if len(c.Loses) < MostListed {
-		c.Loses = append(c.Loses, Loss{after.Name, loses})
-	}
+	note(&c.Loses, &c.Lost, after.Name, loses)
 }
 
 // takeReplaced counts what goes by a choice since something recorded replaces it.
 func (c *Choice) takeReplaced(name *forecast.Name, before, after *judge) {
 	var goes []Thing
-	for _, thing := range filesOf(thingsNow(before.group.Devices, name)) {
-		if before.survives(name.Name, &thing) && !after.survives(name.Name, &thing) && after.wayOf(name, &thing) != byNothing {
+	for _, thing := range filesOf(after.goesBy(name, byRecord, byUnscanned)) {
+		if before.survives(name.Name, thing) {
 			goes = append(goes, thing)
 		}
 	}
+	note(&c.Goes, &c.Gone, part.Bytes(name.Name), goes)
+}
+
+// note counts a name of which something goes, and lists it if it is one of the first.
+func note(listed *[]Loss, count *int64, name part.Bytes, goes []Thing) {
 	if len(goes) == 0 {
 		return
 	}
-	c.Gone++
-	if len(c.Goes) < MostListed {
-		c.Goes = append(c.Goes, Loss{part.Bytes(name.Name), goes})
+	if *count++; len(*listed) < MostListed {
+		*listed = append(*listed, Loss{name, goes})
 	}
 }
 
 // all gives them in the order of their devices.
-func (c *choices) all() []Choice {
-	var choices []Choice
-	for member := 0; member < 32; member++ {
-		for _, step := range c.order {
-			if choice := c.found[step]; step.member == member && choice.Names+choice.Unknown > 0 {
-				choices = append(choices, *c.found[step])
-			}
+func (c *choices) all() []*Choice {
+	var choices []*Choice
+	sort.SliceStable(c.order, func(a, b int) bool { return c.order[a].member < c.order[b].member })
+	for _, step := range c.order {
+		if choice := c.found[step]; choice.Names+choice.Unknown > 0 {
+			choices = append(choices, choice)
 		}
 	}
 	return choices

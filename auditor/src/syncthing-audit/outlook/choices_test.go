@@ -45,7 +45,7 @@ func TestChoicesOfADeviceThatOnlyReceives(t *testing.T) {
 	if made.Stays != 1 || len(made.Plans) != 0 {
 		t.Fatalf("%+v", made)
 	}
-	told := map[Act]Choice{}
+	told := map[Act]*Choice{}
 	for _, choice := range made.Choices {
 		told[choice.Act] = choice
 	}

@@ -165,7 +165,7 @@ func TestTheOrderOfNames(t *testing.T) {
 		return made
 	}
 	rising := []Name{{Name: "b", Fate: Lost, Loses: loses(3, 4)}, {Name: "a", Fate: Lost, Loses: loses(6)}, {Name: "c", Fate: Lost, Loses: loses(1, 5)}, {Name: "a", Fate: Unknown}, {Name: "a", Fate: Depends},
-		{Name: "a", Fate: Changed}, {Name: "a", Fate: Deleted}, {Name: "a", Fate: Stays}, {Name: "a", Fate: ByItself}, {Name: "b", Fate: ByItself}, {Name: "a", Fate: "another"}}
+		{Name: "a", Fate: Changed}, {Name: "a", Fate: Deleted}, {Name: "a", Fate: Stays}, {Name: "a", Fate: ByItself}, {Name: "b", Fate: ByItself}}
 	for one := range rising {
 		for other := range rising {
 			if is := rising[one].isBefore(&rising[other]); is != (one < other) {

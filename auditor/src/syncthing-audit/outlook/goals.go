@@ -58,8 +58,7 @@ func recordedOf(name *forecast.Name, told *Name) *forecast.Node {
 func comesTo(name *forecast.Name, told *Name) *forecast.Node {
 	var there *forecast.Node
 	most := 0
-	for place := range told.Ends[0] {
-		thing := &told.Ends[0][place]
+	for _, thing := range told.Ends[0] {
 		isKept := slices.IndexFunc(told.Kept, func(kept Kept) bool { return slices.Contains(thing.Devices, kept.Device) }) >= 0
 		if node := nodeOf(name, thing); node != nil && !thing.IsCopy && !isKept && len(thing.Devices) > most {
 			there, most = node, len(thing.Devices)
@@ -73,15 +72,15 @@ func comesTo(name *forecast.Name, told *Name) *forecast.Node {
 func lastRecorded(name *forecast.Name, things []Thing) *forecast.Node {
 	var found *forecast.Record
 	var node *forecast.Node
-	for place := range things {
+	for _, thing := range things {
 		for _, own := range name.Own {
-			if own != nil && own.Flag == forecast.Valid && isOf(own, &things[place]) && own.Type != forecast.Directory && (found == nil || found.IsBelow(own)) {
-				found, node = own, nodeOf(name, &things[place])
+			if isValid(own) && isOf(own, thing) && own.Type != forecast.Directory && (found == nil || found.IsBelow(own)) {
+				found, node = own, nodeOf(name, thing)
 			}
 		}
 	}
 	for _, own := range name.Own {
-		if found != nil && own != nil && own.Flag == forecast.Valid && !own.Deleted && found.IsBelow(own) &&
+		if found != nil && isValid(own) && !own.Deleted && found.IsBelow(own) &&
 			(nodeOf(name, thingOfRecord(own)) == nil || isEmptied(own, thingOf(node))) {
 			return nil
 		}
@@ -89,8 +88,8 @@ func lastRecorded(name *forecast.Name, things []Thing) *forecast.Node {
 	return node
 }
 
-func nodeOf(name *forecast.Name, thing *Thing) *forecast.Node {
-	return nodeWhere(name, func(what *forecast.Node) bool { return thing.IsSame(*thingOf(what)) })
+func nodeOf(name *forecast.Name, thing Thing) *forecast.Node {
+	return nodeWhere(name, func(what *forecast.Node) bool { return thing.IsSame(thingOf(what)) })
 }
 
 // nodeWhere gives what stands at a name on the first device where this is so of it; nothing where it is on none.
@@ -108,9 +107,9 @@ func nodeWhere(name *forecast.Name, is func(what *forecast.Node) bool) *forecast
 func laterOf(name *forecast.Name, told *Name) *forecast.Node {
 	var later *forecast.Node
 	for _, end := range told.Ends {
-		for place := range end {
-			node := nodeOf(name, &end[place])
-			if node != nil && !end[place].IsCopy && (later == nil || node.Time > later.Time) {
+		for _, thing := range end {
+			node := nodeOf(name, thing)
+			if node != nil && !thing.IsCopy && (later == nil || node.Time > later.Time) {
 				later = node
 			}
 		}

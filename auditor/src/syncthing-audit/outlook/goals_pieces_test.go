@@ -62,7 +62,7 @@ func TestWhatWasRecordedLast(t *testing.T) {
 		var candidates []*forecast.Record
 		for _, own := range name.Own {
 			for place := range things {
-				if own != nil && own.Flag == forecast.Valid && own.Type != forecast.Directory && isOf(own, &things[place]) {
+				if isValid(own) && own.Type != forecast.Directory && isOf(own, things[place]) {
 					candidates = append(candidates, own)
 				}
 			}
@@ -78,7 +78,7 @@ func TestWhatWasRecordedLast(t *testing.T) {
 			}
 		}
 		for _, own := range name.Own {
-			isLater := own != nil && own.Flag == forecast.Valid && !own.Deleted && isAbove(own, candidates, thingOf(node))
+			isLater := isValid(own) && !own.Deleted && isAbove(own, candidates, thingOf(node))
 			if isLater && (nodeOf(name, thingOfRecord(own)) == nil || own.Content.Size == 0 && own.Type == forecast.File && node.Content.Size > 0) {
 				t.Fatalf("%d: %+v, and nobody has what %+v says", seed, node, own)
 			}
@@ -93,7 +93,7 @@ func TestWhatWasRecordedLast(t *testing.T) {
 }
 
 // isBelowAll says whether all records of a thing among these are below another record.
-func isBelowAll(other *forecast.Record, records []*forecast.Record, thing *Thing) bool {
+func isBelowAll(other *forecast.Record, records []*forecast.Record, thing Thing) bool {
 	for _, own := range records {
 		if isOf(own, thing) && !own.IsBelow(other) {
 			return false
@@ -103,7 +103,7 @@ func isBelowAll(other *forecast.Record, records []*forecast.Record, thing *Thing
 }
 
 // isAbove says whether a record is above all records of a thing among these.
-func isAbove(other *forecast.Record, records []*forecast.Record, thing *Thing) bool {
+func isAbove(other *forecast.Record, records []*forecast.Record, thing Thing) bool {
 	return isBelowAll(other, records, thing)
 }
 
@@ -264,7 +264,7 @@ func TestWhatIsACopyAtAllEnds(t *testing.T) {
 				due = due && is
 			}
 			thing := thing
-			if is := judge.isCopyAtAll("a", &thing); is != due {
+			if is := judge.isCopyAtAll("a", thing); is != due {
 				t.Fatalf("%d: %+v: %v", seed, thing, is)
 			}
 			found[due]++

@@ -47,9 +47,11 @@ func keptOf(end *forecast.End) map[string]map[int]forecast.Why {
 
 // name says what becomes of a name.
 func (j *judge) name(name *forecast.Name) Name {
-	told := Name{Name: part.Bytes(name.Name), IsAll: j.answer.IsAll, Ends: j.endsOf(name), Loses: j.losesOf(name), Kept: j.keptOf(name), Now: thingsNow(j.group.Devices, name)}
+	told := Name{Name: part.Bytes(name.Name), IsAll: j.answer.IsAll, Ends: j.endsOf(name), Loses: j.goesBy(name, byNothing), Kept: j.keptOf(name), Now: thingsNow(j.group.Devices, name)}
 	told.certain = j.losesWithoutMeeting(name, told.Loses)
-	told.deleted = j.deletedOf(name, told.Ends)
+	if slices.IndexFunc(told.Ends, isEmptyEnd) >= 0 {
+		told.deleted = filesOf(j.goesBy(name, byRecord))
+	}
 	switch {
 	case len(told.Loses) > 0:
 		told.Fate = Lost
@@ -57,7 +59,7 @@ func (j *judge) name(name *forecast.Name) Name {
 		told.Fate = Depends
 	case len(told.Kept) > 0:
 		told.Fate = Stays
-	case j.goesBy(name, byUnscanned):
+	case len(j.goesBy(name, byUnscanned)) > 0:
 		told.Fate = Changed
 	case len(told.Ends[0]) == 0 && isOnSomeDisk(name):
 		told.Fate = Deleted
@@ -171,7 +173,7 @@ func (j *judge) staysAsItIs(name *forecast.Name, told *Name) bool {
 	}
 	for member, what := range name.Disk {
 		device := j.group.Devices[member].ID
-		isSame := func(thing Thing) bool { return slices.Contains(thing.Devices, device) && thing.IsSame(*thingOf(what)) }
+		isSame := func(thing Thing) bool { return slices.Contains(thing.Devices, device) && thing.IsSame(thingOf(what)) }
 		if what == nil && stands(told.Ends[0], device) || what != nil && slices.IndexFunc(told.Ends[0], isSame) < 0 {
 			return false
 		}

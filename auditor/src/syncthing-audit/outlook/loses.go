@@ -15,22 +15,11 @@ const (
 	byUnscanned            // a change that no scan has seen yet came after it
 )
 
-// losesOf gives what stands at a name on some disk now and on none at some end, and that nothing recorded replaced.
-func (j *judge) losesOf(name *forecast.Name) []Thing {
-	var lost []Thing
-	for _, thing := range thingsNow(j.group.Devices, name) {
-		if !j.survives(name.Name, &thing) && j.wayOf(name, &thing) == byNothing {
-			lost = append(lost, thing)
-		}
-	}
-	return lost
-}
-
-// deletedOf gives what goes by a recorded deletion: nothing stands at the name at some end.
-func (j *judge) deletedOf(name *forecast.Name, ends [][]Thing) []Thing {
+// goesBy gives what stands at a name on some disk now and on none at some end, and goes in one of these ways.
+func (j *judge) goesBy(name *forecast.Name, ways ...way) []Thing {
 	var gone []Thing
-	for _, thing := range filesOf(thingsNow(j.group.Devices, name)) {
-		if slices.IndexFunc(ends, isEmptyEnd) >= 0 && !j.survives(name.Name, &thing) && j.wayOf(name, &thing) == byRecord {
+	for _, thing := range thingsNow(j.group.Devices, name) {
+		if !j.survives(name.Name, thing) && slices.Contains(ways, j.wayOf(name, thing)) {
 			gone = append(gone, thing)
 		}
 	}
@@ -42,23 +31,18 @@ func isEmptyEnd(end []Thing) bool {
 	return slices.IndexFunc(end, func(thing Thing) bool { return !thing.IsCopy }) < 0
 }
 
-// goesBy says whether something that stands at a name goes in this way.
-func (j *judge) goesBy(name *forecast.Name, by way) bool {
-	return slices.IndexFunc(thingsNow(j.group.Devices, name), func(thing Thing) bool { return !j.survives(name.Name, &thing) && j.wayOf(name, &thing) == by }) >= 0
-}
-
 // survives says whether something stands on some disk at each end, even where conflict copies meet: a file's bytes under any name that hangs together
 // with this one, anything else under its name or in a copy.
-func (j *judge) survives(name string, thing *Thing) bool {
+func (j *judge) survives(name string, thing Thing) bool {
 	return j.staysIn(j.sure, name, thing, func(things []Thing, at int) bool { return !mayGoByMeeting(things, at) })
 }
 
 // staysIn says the same of such bytes, and of such things at a name.
-func (j *judge) staysIn(bytes []map[forecast.Content]bool, name string, thing *Thing, counts func(things []Thing, at int) bool) bool {
+func (j *judge) staysIn(bytes []map[forecast.Content]bool, name string, thing Thing, counts func(things []Thing, at int) bool) bool {
 	for place, end := range j.ends {
 		is := thing.Content.Size > 0 && bytes[place][thing.Content]
 		for at, other := range end[name] {
-			is = is || thing.IsLike(&other) && counts(end[name], at)
+			is = is || thing.IsLike(other) && counts(end[name], at)
 		}
 		if !is {
 			return false
@@ -69,10 +53,10 @@ func (j *judge) staysIn(bytes []map[forecast.Content]bool, name string, thing *T
 
 // wayOf says what came after something that stands at a name. What no device has recorded nothing can have replaced, and a recorded change whose bytes
 // are harmed has replaced nothing: what was there before it is the best that is left. Neither has an empty file, as in showsChange, nor what looks damaged.
-func (j *judge) wayOf(name *forecast.Name, thing *Thing) way {
+func (j *judge) wayOf(name *forecast.Name, thing Thing) way {
 	var of []*forecast.Record
 	for _, own := range name.Own {
-		if own != nil && own.Flag == forecast.Valid && isOf(own, thing) {
+		if isValid(own) && isOf(own, thing) {
 			of = append(of, own)
 		}
 	}
@@ -80,13 +64,13 @@ func (j *judge) wayOf(name *forecast.Name, thing *Thing) way {
 		return byNothing
 	}
 	for _, own := range name.Own {
-		isKept := own != nil && own.Flag == forecast.Valid && !isOf(own, thing) && (own.Deleted || !isEmptied(own, thing) && j.survives(name.Name, thingOfRecord(own)))
+		isKept := isValid(own) && !isOf(own, thing) && (own.Deleted || !isEmptied(own, thing) && j.survives(name.Name, thingOfRecord(own)))
 		if isKept && areAll(of, func(record *forecast.Record) bool { return record.IsBelow(own) }) {
 			return byRecord
 		}
 	}
 	for i, own := range name.Own {
-		if own != nil && own.Flag == forecast.Valid && showsChange(own, name.Disk[i]) && kindOf(j.damage, name.Name, i) == damage.None && areAll(of, func(record *forecast.Record) bool { return record.IsAtMost(own) }) {
+		if isValid(own) && showsChange(own, name.Disk[i]) && kindOf(j.damage, name.Name, i) == damage.None && areAll(of, func(record *forecast.Record) bool { return record.IsAtMost(own) }) {
 			return byUnscanned
 		}
 	}
@@ -106,11 +90,14 @@ func areAll(records []*forecast.Record, is func(*forecast.Record) bool) bool {
 }
 
 // isEmptied says whether an empty file is recorded in place of a file's bytes: a scan may have taken a harmed file for a change.
-func isEmptied(record *forecast.Record, thing *Thing) bool {
+func isEmptied(record *forecast.Record, thing Thing) bool {
 	return !record.Deleted && record.Type == forecast.File && record.Content.Size == 0 && thing.Type == forecast.File && thing.Content.Size > 0
 }
 
-func isOf(record *forecast.Record, thing *Thing) bool {
+// isValid says whether there is a record that other devices may take.
+func isValid(record *forecast.Record) bool { return record != nil && record.Flag == forecast.Valid }
+
+func isOf(record *forecast.Record, thing Thing) bool {
 	return !record.Deleted && record.Type == thing.Type && record.Content == thing.Content && record.Target == string(thing.Target)
 }
 

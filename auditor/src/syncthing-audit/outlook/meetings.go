@@ -53,9 +53,9 @@ func sureBytesOf(end map[string][]Thing) map[forecast.Content]bool {
 // losesWithoutMeeting gives what is lost of a name where no copies meet, too.
 func (j *judge) losesWithoutMeeting(name *forecast.Name, loses []Thing) []Thing {
 	var lost []Thing
-	for place := range loses {
-		if !j.staysIn(j.bytes, name.Name, &loses[place], func([]Thing, int) bool { return true }) {
-			lost = append(lost, loses[place])
+	for _, thing := range loses {
+		if !j.staysIn(j.bytes, name.Name, thing, func([]Thing, int) bool { return true }) {
+			lost = append(lost, thing)
 		}
 	}
 	return lost

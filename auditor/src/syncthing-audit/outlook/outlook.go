@@ -7,6 +7,7 @@ package outlook
 import (
 	"sort"
 
+	"golang.org/x/exp/slices"
 	"syncthing-audit/forecast"
 	"syncthing-audit/forecast/read"
 	"syncthing-audit/part"
@@ -51,14 +52,14 @@ type Outlook struct {
 	Stays    int64 `json:"stays"`
 	NotKnown int64 `json:"not_known"`
 
-	Walked       int64    `json:"not_all_orders_tried"` // of the names whose fate is known: those of which some orders were tried, and not all
-	Unknown      []Group  `json:"why_not_known"`        // a name counts once
-	Kept         []Group  `json:"why_stays"`            // a name counts once for each reason
-	Listed       []Name   `json:"fates"`                // by danger
-	MoreNames    int64    `json:"fates_unlisted"`
-	Plans        []Plan   `json:"plans"`                   // for names that need a hand; those of the names in most danger come first
-	WithoutSteps int64    `json:"without_steps,omitempty"` // names that something is to be done for before a start, and that no plan has
-	Choices      []Choice `json:"choices,omitempty"`       // for the whole folder, on devices that only send or only receive
+	Walked       int64     `json:"not_all_orders_tried"` // of the names whose fate is known: those of which some orders were tried, and not all
+	Unknown      []Group   `json:"why_not_known"`        // a name counts once
+	Kept         []Group   `json:"why_stays"`            // a name counts once for each reason
+	Listed       []Name    `json:"fates"`                // by danger
+	MoreNames    int64     `json:"fates_unlisted"`
+	Plans        []*Plan   `json:"plans"`                   // for names that need a hand; those of the names in most danger come first
+	WithoutSteps int64     `json:"without_steps,omitempty"` // names that something is to be done for before a start, and that no plan has
+	Choices      []*Choice `json:"choices,omitempty"`       // for the whole folder, on devices that only send or only receive
 
 	FirstWithout []part.Bytes `json:"-"` // the first of the names without steps, which a person reads
 }
@@ -277,21 +278,12 @@ func (g *Group) isBefore(other *Group) bool {
 // isBefore says whether a name is in more danger than another one: by its fate, then by how many bytes it loses, then by its name.
 func (n *Name) isBefore(other *Name) bool {
 	if n.Fate != other.Fate {
-		return n.Fate.place() < other.Fate.place()
+		return slices.Index(Fates, n.Fate) < slices.Index(Fates, other.Fate)
 	}
 	if a, b := n.bytesLost(), other.bytesLost(); a != b {
 		return a > b
 	}
 	return n.Name < other.Name
-}
-
-func (f Fate) place() int {
-	for place, fate := range Fates {
-		if f == fate {
-			return place
-		}
-	}
-	return len(Fates)
 }
 
 func (n *Name) bytesLost() int64 {

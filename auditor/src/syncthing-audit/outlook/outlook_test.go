@@ -238,7 +238,7 @@ func disksOf(row *join.Row) []*part.Node {
 	return made
 }
 
-func isContent(thing *Thing, node *part.Node) bool {
+func isContent(thing Thing, node *part.Node) bool {
 	return thing.Content.Hash == node.Contents[0].Hash.String()
 }
 
@@ -246,7 +246,7 @@ func isAtAllEnds(name *Name, node *part.Node) bool {
 	for _, end := range name.Ends {
 		is := false
 		for place := range end {
-			is = is || isContent(&end[place], node)
+			is = is || isContent(end[place], node)
 		}
 		if !is {
 			return false
@@ -257,7 +257,7 @@ func isAtAllEnds(name *Name, node *part.Node) bool {
 
 func isTold(name *Name, node *part.Node) bool {
 	for place := range name.Loses {
-		if isContent(&name.Loses[place], node) {
+		if isContent(name.Loses[place], node) {
 			return true
 		}
 	}

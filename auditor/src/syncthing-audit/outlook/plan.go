@@ -238,7 +238,7 @@ func (n *Name) goes() []Thing {
 	var gone []Thing
 	for _, thing := range filesOf(n.Now) {
 		isGone := func(end []Thing) bool {
-			return !isAmongAll(end, &thing) && slices.IndexFunc(thing.Devices, func(device string) bool { return !stands(end, device) }) >= 0
+			return !isAmong(end, thing) && slices.IndexFunc(thing.Devices, func(device string) bool { return !stands(end, device) }) >= 0
 		}
 		if slices.IndexFunc(n.Ends, isGone) >= 0 {
 			gone = append(gone, thing)
@@ -247,17 +247,12 @@ func (n *Name) goes() []Thing {
 	return gone
 }
 
-// isAmongAll says whether a thing is one of some things, or a copy that is kept of it.
-func isAmongAll(things []Thing, thing *Thing) bool {
-	return slices.IndexFunc(things, func(other Thing) bool { return other.IsLike(thing) }) >= 0
-}
-
 // savesOf saves things that are lost else, and what may be right where the record may be the damage. An empty file has nothing to save.
 func savesOf(devices []forecast.Device, name *forecast.Name, things []Thing, kinds []damage.Kind) []Step {
 	var steps []Step
-	for place := range things {
-		if !things[place].isEmpty() {
-			steps = append(steps, Step{Act: Save, Device: things[place].Devices[0]})
+	for _, thing := range things {
+		if !thing.isEmpty() {
+			steps = append(steps, Step{Act: Save, Device: thing.Devices[0]})
 		}
 	}
 	for member, kind := range kinds {
@@ -275,16 +270,14 @@ func planOf(group *forecast.World, hand hand, found *advice.Plan, damaged map[st
 	name, plan, judge := &group.Names[hand.place], &Plan{IsAll: found.Answer.IsAll}, newJudge(group, &found.Answer, damaged)
 	for _, thing := range thingsNow(group.Devices, name) {
 		if thing.IsLike(thingOf(hand.goal.Node)) {
-			thing := thing
-			plan.Goal = &thing
+			goal := thing
+			plan.Goal = &goal
 		}
-		if !thing.isEmpty() && !judge.survives(name.Name, &thing) && judge.wayOf(name, &thing) != byRecord {
-			plan.Steps = append(plan.Steps, Step{Act: Save, Device: thing.Devices[0]})
-		}
-		if judge.isCopyAtAll(name.Name, &thing) {
+		if judge.isCopyAtAll(name.Name, thing) {
 			plan.Copies = append(plan.Copies, thing.Devices...)
 		}
 	}
+	plan.Steps = savesOf(group.Devices, name, judge.goesBy(name, byNothing, byUnscanned), nil)
 	for _, step := range found.Steps {
 		next := Step{Act: acts[step.Act], Device: group.Devices[step.Device].ID}
 		if next.Act != Touch && !plan.does(Save, next.Device) && hasBelow(group, step.Device, name.Name) {
@@ -312,7 +305,7 @@ func hasBelow(group *forecast.World, member int, name string) bool {
 }
 
 // isCopyAtAll says whether something stands as a conflict copy of a name at each end.
-func (j *judge) isCopyAtAll(name string, thing *Thing) bool {
+func (j *judge) isCopyAtAll(name string, thing Thing) bool {
 	for _, end := range j.ends {
 		at := slices.IndexFunc(end[name], func(other Thing) bool { return other.IsCopy && other.IsLike(thing) })
 		if at < 0 || mayGoByMeeting(end[name], at) {
@@ -324,8 +317,8 @@ func (j *judge) isCopyAtAll(name string, thing *Thing) bool {
 
 // plansOf brings names with the same plan together, in their order. Directories come first, those above others before these: nothing is copied below one that
 // isn't there.
-func plansOf(listed []Name) []Plan {
-	places, ofName, plans := map[string]int{}, map[string]int{}, []Plan{}
+func plansOf(listed []Name) []*Plan {
+	byKey, ofName, plans := map[string]*Plan{}, map[string]*Plan{}, []*Plan{}
 	for place := range listed {
 		plan := listed[place].Plan
 		if plan == nil || len(plan.Steps) == 0 {
@@ -335,25 +328,22 @@ func plansOf(listed []Name) []Plan {
 		if plan.Goal != nil {
 			key += fmt.Sprint(plan.Goal.Devices)
 		}
-		at, is := places[key]
-		if !is {
-			at = len(plans)
-			places[key] = at
-			plans = append(plans, *plan)
-			plans[at].Below = 0
+		all := byKey[key]
+		if all == nil {
+			first := *plan
+			all, first.Below = &first, 0
+			byKey[key], plans = all, append(plans, all)
 		}
-		plans[at].Count++
-		plans[at].Below += plan.Below
-		ofName[string(listed[place].Name)] = at
-		if len(plans[at].Names) < MostListed {
-			plans[at].Names = append(plans[at].Names, listed[place].Name)
+		all.Count++
+		all.Below += plan.Below
+		ofName[string(listed[place].Name)] = all
+		if len(all.Names) < MostListed {
+			all.Names = append(all.Names, listed[place].Name)
 		}
 	}
 	for place := range listed {
-		if plan := listed[place].Plan; plan != nil && plan.by != "" {
-			if at, is := ofName[plan.by]; is {
-				plans[at].Below++
-			}
+		if plan := listed[place].Plan; plan != nil && ofName[plan.by] != nil {
+			ofName[plan.by].Below++
 		}
 	}
 	sort.SliceStable(plans, func(a, b int) bool { return plans[a].depthOf(plans[a].Names[0]) < plans[b].depthOf(plans[b].Names[0]) })

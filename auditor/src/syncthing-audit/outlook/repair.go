@@ -120,7 +120,7 @@ func (r *repair) order() []int {
 // isDirectory says whether a name is a directory by some record.
 func isDirectory(name *forecast.Name) bool {
 	return slices.IndexFunc(name.Own, func(own *forecast.Record) bool {
-		return own != nil && own.Flag == forecast.Valid && !own.Deleted && own.Type == forecast.Directory
+		return isValid(own) && !own.Deleted && own.Type == forecast.Directory
 	}) >= 0
 }
 
@@ -189,7 +189,7 @@ func (r *repair) dueOf(name *forecast.Name, told *Name) (*forecast.Node, int) {
 				due, from = what, member
 			}
 		}
-		if own != nil && own.Flag == forecast.Valid && isLater(own, last) {
+		if isValid(own) && isLater(own, last) {
 			last = own
 		}
 	}

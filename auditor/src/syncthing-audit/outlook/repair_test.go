@@ -148,7 +148,7 @@ var repairs = []struct {
 }
 
 // shown gives plans as a text.
-func shown(all []Plan) string {
+func shown(all []*Plan) string {
 	var made []string
 	for _, plan := range all {
 		var steps []string

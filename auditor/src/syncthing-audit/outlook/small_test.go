@@ -314,7 +314,7 @@ func TestWhatSurvives(t *testing.T) {
 				due = due && is
 			}
 			thing := thing
-			if is := judge.survives("a", &thing); is != due {
+			if is := judge.survives("a", thing); is != due {
 				t.Fatalf("%d: %+v survives: %v", seed, thing, is)
 			}
 			survived[due]++

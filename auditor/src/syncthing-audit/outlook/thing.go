@@ -69,7 +69,7 @@ func (t *Thing) UnmarshalJSON(text []byte) error {
 }
 
 // Modified gives when a file was modified; nothing of what has no time, or is made later.
-func (t *Thing) Modified() *time.Time {
+func (t Thing) Modified() *time.Time {
 	if t.Type != forecast.File || t.Time == forecast.Now {
 		return nil
 	}
@@ -123,38 +123,39 @@ func thingsNow(devices []forecast.Device, name *forecast.Name) []Thing {
 }
 
 // withThing adds a thing on a device: the same on several devices stands once.
-func withThing(things []Thing, thing *Thing, device string) []Thing {
+func withThing(things []Thing, thing Thing, device string) []Thing {
 	if place := slices.IndexFunc(things, thing.IsSame); place >= 0 {
 		things[place].Devices = append(things[place].Devices, device)
 		return things
 	}
 	thing.Devices = []string{device}
-	return append(things, *thing)
+	return append(things, thing)
 }
 
-func thingOf(what *forecast.Node) *Thing {
-	thing := &Thing{Type: what.Type, Content: what.Content, Target: part.Bytes(what.Target)}
+func thingOf(what *forecast.Node) Thing {
+	thing := Thing{Type: what.Type, Content: what.Content, Target: part.Bytes(what.Target)}
 	if what.Type == forecast.File {
 		thing.Time = what.Time
 	}
 	return thing
 }
 
-func thingOfRecord(record *forecast.Record) *Thing {
-	return &Thing{Type: record.Type, Content: record.Content, Target: part.Bytes(record.Target)}
+func thingOfRecord(record *forecast.Record) Thing {
+	return Thing{Type: record.Type, Content: record.Content, Target: part.Bytes(record.Target)}
 }
 
 // IsSame says whether two things are one, whatever their times, and wherever they stand.
-func (t *Thing) IsSame(other Thing) bool { return t.IsLike(&other) && t.IsCopy == other.IsCopy }
+func (t Thing) IsSame(other Thing) bool { return t.IsLike(other) && t.IsCopy == other.IsCopy }
 
 // IsLike says whether two things are alike, be one of them a copy.
-func (t *Thing) IsLike(other *Thing) bool {
+func (t Thing) IsLike(other Thing) bool {
 	return t.Type == other.Type && t.Content == other.Content && t.Target == other.Target
 }
 
-func (t *Thing) isEmpty() bool { return t.Type == forecast.File && t.Content.Size == 0 }
+func (t Thing) isEmpty() bool { return t.Type == forecast.File && t.Content.Size == 0 }
 
-func isAmong(things []Thing, thing *Thing) bool { return slices.IndexFunc(things, thing.IsSame) >= 0 }
+// isAmong says whether a thing is one of some things, or a copy that is kept of it.
+func isAmong(things []Thing, thing Thing) bool { return slices.IndexFunc(things, thing.IsLike) >= 0 }
 
 // filesOf leaves directories out: what is below them are names, too.
 func filesOf(things []Thing) []Thing {

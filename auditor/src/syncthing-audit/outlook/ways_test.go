@@ -90,8 +90,8 @@ func TestWhatReplacesAThing(t *testing.T) {
 		judge := newJudge(group, answer, damaged)
 		for _, thing := range thingsNow(anyDevices, name) {
 			thing := thing
-			due := plainWay(judge, name, &thing, damaged["a"])
-			if by := judge.wayOf(name, &thing); by != due {
+			due := plainWay(judge, name, thing, damaged["a"])
+			if by := judge.wayOf(name, thing); by != due {
 				t.Fatalf("%d: %+v: %v, not %v", seed, thing, by, due)
 			}
 			ways[due]++
@@ -102,10 +102,10 @@ func TestWhatReplacesAThing(t *testing.T) {
 	}
 }
 
-func plainWay(judge *judge, name *forecast.Name, thing *Thing, kinds []damage.Kind) way {
+func plainWay(judge *judge, name *forecast.Name, thing Thing, kinds []damage.Kind) way {
 	var valid, of []*forecast.Record
 	for _, own := range name.Own {
-		if own != nil && own.Flag == forecast.Valid {
+		if isValid(own) {
 			if valid = append(valid, own); isOf(own, thing) {
 				of = append(of, own)
 			}
@@ -126,7 +126,7 @@ func plainWay(judge *judge, name *forecast.Name, thing *Thing, kinds []damage.Ki
 		}
 	}
 	for member, own := range name.Own {
-		if own != nil && own.Flag == forecast.Valid && isAfterAll(own, true) && showsChange(own, name.Disk[member]) && (kinds == nil || kinds[member] == damage.None) {
+		if isValid(own) && isAfterAll(own, true) && showsChange(own, name.Disk[member]) && (kinds == nil || kinds[member] == damage.None) {
 			return byUnscanned
 		}
 	}
@@ -229,7 +229,7 @@ func TestWhatGoesByAChoice(t *testing.T) {
 		one, other, due := newJudge(group, answer, nil), newJudge(group, after, nil), []Thing(nil)
 		for _, thing := range thingsNow(anyDevices, name) {
 			thing := thing
-			if thing.Type != forecast.Directory && one.survives("a", &thing) && !other.survives("a", &thing) && other.wayOf(name, &thing) != byNothing {
+			if thing.Type != forecast.Directory && one.survives("a", thing) && !other.survives("a", thing) && other.wayOf(name, thing) != byNothing {
 				due = append(due, thing)
 			}
 		}

@@ -14,8 +14,7 @@ func (p *Person) choices(folder string, o *outlook.Outlook) {
 		return
 	}
 	last := ""
-	for place := range o.Choices {
-		choice := &o.Choices[place]
+	for _, choice := range o.Choices {
 		if choice.Device != last {
 			p.Line("\nto choose in %s on %s, for the whole folder, once all that is to stay is saved; or neither:", folder, p.Called(choice.Device))
 		}
@@ -33,8 +32,7 @@ func (p *Person) choices(folder string, o *outlook.Outlook) {
 // choosers names what may be chosen and the devices.
 func (p *Person) choosers(o *outlook.Outlook) string {
 	var words []string
-	for place := range o.Choices {
-		choice := &o.Choices[place]
+	for _, choice := range o.Choices {
 		words = append(words, namesOfChoice[choice.Act]+" on "+p.Called(choice.Device))
 	}
 	return strings.Join(words, ", ")
@@ -74,8 +72,7 @@ func (p *Person) losses(all []outlook.Loss, count int64, of string) {
 			break
 		}
 		var words []string
-		for at := range loss.Loses {
-			thing := &loss.Loses[at]
+		for _, thing := range loss.Loses {
 			words = append(words, what(thing)+" on "+p.Called.AsTheyStand(thing.Devices)+p.modified(thing))
 		}
 		p.Line("      %s: %s", shell.Path(string(loss.Name)), strings.Join(words, "; "))

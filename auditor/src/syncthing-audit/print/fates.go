@@ -45,8 +45,8 @@ func Foretold(name *outlook.Name, devices []string, called Names, isMany bool) s
 func (f *fate) end(end []outlook.Thing) string {
 	var words []string
 	left := append([]string{}, f.devices...)
-	for place := range end {
-		if thing := &end[place]; !thing.IsCopy {
+	for _, thing := range end {
+		if !thing.IsCopy {
 			words = append(words, f.holders(thing))
 			left = without(left, thing.Devices)
 		}
@@ -57,13 +57,13 @@ func (f *fate) end(end []outlook.Thing) string {
 	case len(left) > 0:
 		words = append(words, f.called.All(left)+" then "+oneOf(int64(len(left)), "has", "have")+" nothing there")
 	}
-	for place := range end {
-		if thing := &end[place]; thing.IsCopy {
+	for _, thing := range end {
+		if thing.IsCopy {
 			words = append(words, f.now(thing)+" is kept as a conflict copy on "+f.called.All(thing.Devices))
 		}
 	}
-	for place := range f.Now {
-		if thing := &f.Now[place]; slices.IndexFunc(end, func(other outlook.Thing) bool { return other.IsLike(thing) }) < 0 && thing.Type != forecast.Directory {
+	for _, thing := range f.Now {
+		if slices.IndexFunc(end, thing.IsLike) < 0 && thing.Type != forecast.Directory {
 			words = append(words, f.now(thing)+" goes")
 		}
 	}
@@ -71,7 +71,7 @@ func (f *fate) end(end []outlook.Thing) string {
 }
 
 // holders says which devices have something then.
-func (f *fate) holders(thing *outlook.Thing) string {
+func (f *fate) holders(thing outlook.Thing) string {
 	now := f.find(thing)
 	switch {
 	case len(thing.Devices) == len(f.devices):
@@ -83,7 +83,7 @@ func (f *fate) holders(thing *outlook.Thing) string {
 }
 
 // now says what something is by who has it now.
-func (f *fate) now(thing *outlook.Thing) string {
+func (f *fate) now(thing outlook.Thing) string {
 	if len(f.Now) == 0 { // of an export of before
 		return what(thing)
 	}
@@ -96,8 +96,8 @@ func (f *fate) now(thing *outlook.Thing) string {
 	return "a " + outlook.WordsOfTypes[thing.Type] + " that no disk has there now"
 }
 
-func (f *fate) find(thing *outlook.Thing) *outlook.Thing {
-	if place := slices.IndexFunc(f.Now, func(now outlook.Thing) bool { return now.IsLike(thing) }); place >= 0 {
+func (f *fate) find(thing outlook.Thing) *outlook.Thing {
+	if place := slices.IndexFunc(f.Now, thing.IsLike); place >= 0 {
 		return &f.Now[place]
 	}
 	return nil

@@ -18,8 +18,8 @@ func (p *Person) plans(folder string, o *outlook.Outlook) {
 	}
 	p.Line("\nto do in %s, from the top, while Syncthing is stopped on all its devices:", folder)
 	number := int64(0)
-	for place := range o.Plans {
-		number = p.plan(&o.Plans[place], number)
+	for _, plan := range o.Plans {
+		number = p.plan(plan, number)
 	}
 	if o.WithoutSteps > 0 {
 		number++
@@ -30,7 +30,7 @@ func (p *Person) plans(folder string, o *outlook.Outlook) {
 	if len(o.Choices) > 0 {
 		p.Line("  %s. audit again, once they are idle. What may be chosen for the whole folder (%s) is told then: these steps change what it does", Thousands(number+2), p.choosers(o))
 	}
-	if slices.IndexFunc(o.Plans, func(plan outlook.Plan) bool { return plan.Goal != nil }) >= 0 {
+	if slices.IndexFunc(o.Plans, func(plan *outlook.Plan) bool { return plan.Goal != nil }) >= 0 {
 		p.Line("  what these steps put right needs nothing that the entries below say to do")
 	}
 }
@@ -126,7 +126,7 @@ func (p *Person) timeOf(plan *outlook.Plan) string {
 	if plan.Count > 1 {
 		return ""
 	}
-	return p.modified(plan.Goal)
+	return p.modified(*plan.Goal)
 }
 
 func (p *Person) copies(plan *outlook.Plan) string {
@@ -147,9 +147,9 @@ func tried(allOrders bool) string {
 // PlansByName gives for each name the plan of it: its own, or that of a directory above it which is copied with all below it.
 func PlansByName(o *outlook.Outlook) func(name string) *outlook.Plan {
 	found := map[string]*outlook.Plan{}
-	for place := range o.Plans {
-		for _, name := range o.Plans[place].Names {
-			found[string(name)] = &o.Plans[place]
+	for _, plan := range o.Plans {
+		for _, name := range plan.Names {
+			found[string(name)] = plan
 		}
 	}
 	return func(name string) *outlook.Plan {

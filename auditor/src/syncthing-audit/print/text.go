@@ -73,7 +73,7 @@ func (p *Person) lost(o *outlook.Outlook) {
 	p.Line("  %s something that stands on a disk now:", Counted(o.Lost, "name loses", "names lose"))
 	p.named(o, outlook.Lost, o.Lost, func(name *outlook.Name) {
 		for _, thing := range name.Loses {
-			p.Line("    %s: %s on %s%s; then on no device%s", shell.Path(string(name.Name)), what(&thing), p.Called.AsTheyStand(thing.Devices), p.modified(&thing), some(name))
+			p.Line("    %s: %s on %s%s; then on no device%s", shell.Path(string(name.Name)), what(thing), p.Called.AsTheyStand(thing.Devices), p.modified(thing), some(name))
 		}
 	})
 }
@@ -105,7 +105,7 @@ func (p *Person) more(before string, count int64) {
 	}
 }
 
-func (p *Person) modified(thing *outlook.Thing) string {
+func (p *Person) modified(thing outlook.Thing) string {
 	at := thing.Modified()
 	if at == nil {
 		return ""
@@ -114,7 +114,7 @@ func (p *Person) modified(thing *outlook.Thing) string {
 }
 
 // what names a thing that stands on a disk.
-func what(thing *outlook.Thing) string {
+func what(thing outlook.Thing) string {
 	switch thing.Type {
 	case forecast.File:
 		return Size(thing.Content.Size)

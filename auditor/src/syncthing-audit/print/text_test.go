@@ -88,7 +88,7 @@ if nobody does anything in docs, and all devices scan, then run and reach one an
 // A person reads plans with numbered steps from the top, those of one plan together.
 func TestPlans(t *testing.T) {
 	goal := file(5, "aa", 0, 2)
-	of := outlook.Outlook{Names: 9, NotKnown: 1, Plans: []outlook.Plan{
+	of := outlook.Outlook{Names: 9, NotKnown: 1, Plans: []*outlook.Plan{
 		{Names: []part.Bytes{"my budget"}, Count: 1, Goal: &goal, IsAll: true, Copies: at(1), Steps: []outlook.Step{{Act: outlook.Save, Device: devices[1]}, {Act: outlook.Copy, Device: devices[1], From: devices[0], Over: true}}},
 		{Names: []part.Bytes{"a", "b", "c", "d", "e", "f"}, Count: 7, Goal: &goal, Steps: []outlook.Step{{Act: outlook.Touch, Device: devices[0]}}},
 		{Names: []part.Bytes{"d"}, Count: 1, Below: 2, Goal: &outlook.Thing{Devices: at(2), Type: forecast.Directory}, IsAll: true, Steps: []outlook.Step{{Act: outlook.Copy, Device: devices[0], From: devices[2]}}},
@@ -122,7 +122,7 @@ func TestChoices(t *testing.T) {
 	loss := func(name part.Bytes) outlook.Loss {
 		return outlook.Loss{Name: name, Loses: []outlook.Thing{file(5, "aa", 1)}}
 	}
-	of := outlook.Outlook{Names: 9, Choices: []outlook.Choice{
+	of := outlook.Outlook{Names: 9, Choices: []*outlook.Choice{
 		{Act: outlook.Revert, Device: devices[1], Names: 8, Alike: 8, Lost: 7, IsAll: true, Loses: []outlook.Loss{loss("a b"), loss("b"), loss("c"), loss("d"), loss("e"), loss("f")}},
 		{Act: outlook.Both, Device: devices[1], Names: 3, Alike: 1, Unknown: 1},
 		{Act: outlook.Override, Device: devices[2], Names: 1, Alike: 1, Lost: 1, IsAll: true, Loses: []outlook.Loss{loss("a")}},
@@ -160,7 +160,7 @@ to choose in docs on phone, for the whole folder, once all that is to stay is sa
 // What a choice takes away since something recorded replaces it is named, too.
 func TestWhatGoesByAChoice(t *testing.T) {
 	goes := []outlook.Loss{{Name: "a", Loses: []outlook.Thing{file(5, "aa", 1)}}}
-	of := outlook.Outlook{Names: 9, Choices: []outlook.Choice{{Act: outlook.Both, Device: devices[1], Names: 3, Alike: 3, IsAll: true, Goes: goes, Gone: 1}}}
+	of := outlook.Outlook{Names: 9, Choices: []*outlook.Choice{{Act: outlook.Both, Device: devices[1], Names: 3, Alike: 3, IsAll: true, Goes: goes, Gone: 1}}}
 	var to strings.Builder
 	(&Person{To: &to, Called: strings.ToLower, Zone: time.UTC}).plans("docs", &of)
 	if told := to.String(); !strings.Contains(told, `
@@ -173,8 +173,8 @@ func TestWhatGoesByAChoice(t *testing.T) {
 
 // Where steps are to be taken, what may be chosen is told by another audit: they change what it does, and move what it loses.
 func TestNothingIsChosenBesideSteps(t *testing.T) {
-	of := outlook.Outlook{Names: 9, Plans: []outlook.Plan{{Names: []part.Bytes{"a"}, Count: 1, Steps: []outlook.Step{{Act: outlook.Save, Device: devices[1]}}}},
-		Choices: []outlook.Choice{{Act: outlook.Revert, Device: devices[1], Names: 8, IsAll: true}, {Act: outlook.Both, Device: devices[1], Names: 3, IsAll: true}}}
+	of := outlook.Outlook{Names: 9, Plans: []*outlook.Plan{{Names: []part.Bytes{"a"}, Count: 1, Steps: []outlook.Step{{Act: outlook.Save, Device: devices[1]}}}},
+		Choices: []*outlook.Choice{{Act: outlook.Revert, Device: devices[1], Names: 8, IsAll: true}, {Act: outlook.Both, Device: devices[1], Names: 3, IsAll: true}}}
 	var to strings.Builder
 	(&Person{To: &to, Called: strings.ToLower, Zone: time.UTC}).plans("docs", &of)
 	if told := to.String(); told != `
@@ -229,7 +229,7 @@ func TestAllReasonsHaveWords(t *testing.T) {
 // A directory is copied with all below it, in place of what stands there. What no step puts right comes before the start.
 func TestPlansOfDirectories(t *testing.T) {
 	goal := outlook.Thing{Devices: at(0, 2), Type: forecast.Directory}
-	of := &outlook.Outlook{Plans: []outlook.Plan{{Names: []part.Bytes{"d"}, Count: 1, Below: 3, Goal: &goal, IsAll: true,
+	of := &outlook.Outlook{Plans: []*outlook.Plan{{Names: []part.Bytes{"d"}, Count: 1, Below: 3, Goal: &goal, IsAll: true,
 		Steps: []outlook.Step{{Act: outlook.Delete, Device: devices[1]}, {Act: outlook.Copy, Device: devices[1], From: devices[0]}}}}}
 	of.WithoutSteps, of.FirstWithout = 7, []part.Bytes{"a", "b c", "d", "e", "f"}
 	var to strings.Builder

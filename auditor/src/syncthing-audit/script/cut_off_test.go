@@ -42,7 +42,7 @@ func TestScriptsThatAreCutOff(t *testing.T) {
 	name := part.Bytes("a/b")
 	both := []outlook.Step{{Act: outlook.Save, Device: ids[0]}, {Act: outlook.Copy, Device: ids[0], From: ids[1], Over: true}, {Act: outlook.Touch, Device: ids[0]}}
 	deletes := []outlook.Step{{Act: outlook.Delete, Device: ids[0]}}
-	plans := []outlook.Plan{{Names: []part.Bytes{name}, Count: 1, Steps: both}, {Names: []part.Bytes{"c"}, Count: 1, Steps: deletes}, {Names: []part.Bytes{"d"}, Count: 1, Steps: []outlook.Step{{Act: outlook.Copy, Device: ids[0], From: ids[1]}}}}
+	plans := []*outlook.Plan{{Names: []part.Bytes{name}, Count: 1, Steps: both}, {Names: []part.Bytes{"c"}, Count: 1, Steps: deletes}, {Names: []part.Bytes{"d"}, Count: 1, Steps: []outlook.Step{{Act: outlook.Copy, Device: ids[0], From: ids[1]}}}}
 	scripts := Of(summaryOf(plans), time.Now())
 	if len(scripts) != 1 {
 		t.Fatal(len(scripts))
@@ -80,8 +80,8 @@ func TestScriptsThatAreCutOff(t *testing.T) {
 
 // A script that isn't filled in, or that finds something else than the answer says, ends with a reason and changes nothing more.
 func TestWhatScriptsRefuse(t *testing.T) {
-	copies := func(over bool) []outlook.Plan {
-		return []outlook.Plan{{Names: []part.Bytes{"a/b"}, Count: 1, Steps: []outlook.Step{{Act: outlook.Copy, Device: ids[0], From: ids[1], Over: over}}}}
+	copies := func(over bool) []*outlook.Plan {
+		return []*outlook.Plan{{Names: []part.Bytes{"a/b"}, Count: 1, Steps: []outlook.Step{{Act: outlook.Copy, Device: ids[0], From: ids[1], Over: over}}}}
 	}
 	for _, one := range []struct {
 		over   bool
@@ -136,7 +136,7 @@ func TestScriptsThatCopyFromAMachine(t *testing.T) {
 		t.Fatal(err)
 	}
 	t.Setenv("PATH", bin+":"+os.Getenv("PATH"))
-	plans := []outlook.Plan{{Names: []part.Bytes{part.Bytes(name)}, Count: 1, Steps: []outlook.Step{{Act: outlook.Copy, Device: ids[0], From: ids[1]}}}}
+	plans := []*outlook.Plan{{Names: []part.Bytes{part.Bytes(name)}, Count: 1, Steps: []outlook.Step{{Act: outlook.Copy, Device: ids[0], From: ids[1]}}}}
 	run(t, "sh", here.filled(t, Of(summaryOf(plans), time.Now())[0], func(device string) string { return "nas:" + here.folder(device) }))
 	if text, err := os.ReadFile(here.at(ids[0], name)); err != nil || string(text) != "text" {
 		t.Error(string(text), err)

@@ -33,11 +33,10 @@ type order struct {
 func newOrder() *order { return &order{latest{}, latest{}, latest{}} }
 
 // stepsOf gives the steps of plans, from the top, each in its round.
-func stepsOf(plans []outlook.Plan) []step {
+func stepsOf(plans []*outlook.Plan) []step {
 	var steps []step
 	order := newOrder()
-	for at := range plans {
-		plan := &plans[at]
+	for _, plan := range plans {
 		for _, told := range plan.Steps {
 			for _, name := range plan.Names {
 				next := step{act: told.Act, device: told.Device, from: told.From, over: told.Over, name: string(name), plan: plan}

@@ -83,8 +83,8 @@ type source struct {
 func (w *writing) note(told *outlook.Outlook) {
 	w.without += told.WithoutSteps
 	w.unknown += told.NotKnown
-	for place := range told.Plans {
-		w.hidden += told.Plans[place].Count - int64(len(told.Plans[place].Names))
+	for _, plan := range told.Plans {
+		w.hidden += plan.Count - int64(len(plan.Names))
 	}
 }
 

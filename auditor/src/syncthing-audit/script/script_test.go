@@ -103,12 +103,12 @@ func (d *disks) make(step outlook.Step, name string) bool {
 var present = time.Unix(1e9, 0)
 
 // drawPlans draws plans that can be followed from the top, and follows them.
-func drawPlans(random *rand.Rand, disks *disks) []outlook.Plan {
-	var made []outlook.Plan
+func drawPlans(random *rand.Rand, disks *disks) []*outlook.Plan {
+	var made []*outlook.Plan
 	some := names[:len(names)-random.Intn(2)*(len(names)-3)] // all, or those that stand below one another
 	for try := 0; try < 30; try++ {
 		name := some[random.Intn(len(some))]
-		plan := outlook.Plan{Names: []part.Bytes{part.Bytes(name)}, Count: 1}
+		plan := &outlook.Plan{Names: []part.Bytes{part.Bytes(name)}, Count: 1}
 		for count := 1 + random.Intn(3); count > 0; count-- {
 			device, from := random.Intn(len(ids)), random.Intn(len(ids)-1)
 			acts := []outlook.Act{outlook.Save, outlook.Touch, outlook.Copy, outlook.Copy, outlook.Delete}
@@ -127,7 +127,7 @@ func drawPlans(random *rand.Rand, disks *disks) []outlook.Plan {
 	return made
 }
 
-func summaryOf(plans []outlook.Plan) *summary.Summary {
+func summaryOf(plans []*outlook.Plan) *summary.Summary {
 	made := &summary.Summary{Folders: []*summary.Folder{{ID: "docs", Label: "it's\x1b[2J", Outlook: &outlook.Outlook{Plans: plans}}}}
 	for _, id := range ids {
 		made.Devices = append(made.Devices, summary.Device{ID: id, Name: "it's " + id + "\n\x1b[2J"})

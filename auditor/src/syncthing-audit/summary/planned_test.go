@@ -19,7 +19,7 @@ func planFor(below int64, names ...string) *outlook.Outlook {
 	for _, name := range names {
 		plan.Names = append(plan.Names, part.Bytes(name))
 	}
-	return &outlook.Outlook{Names: 1, Lost: 1, Plans: []outlook.Plan{plan}}
+	return &outlook.Outlook{Names: 1, Lost: 1, Plans: []*outlook.Plan{&plan}}
 }
 
 // The steps end with a start of all devices. Whatever an entry says to do before that, and no step puts right, comes before it.
