@@ -52,12 +52,12 @@ func rottenWith(group *forecast.World, content forecast.Content) *rottenAt {
 
 // saveRotten gives names whose rotten bytes a plan of another one loses steps that save them, where they have none.
 func saveRotten(plans map[int]*Plan, rotten []rottenAt) {
-	for _, one := range rotten {
-		step := Step{Act: Save, Device: one.device}
-		switch plan := plans[one.place]; {
+	for _, at := range rotten {
+		step := Step{Act: Save, Device: at.device}
+		switch plan := plans[at.place]; {
 		case plan == nil:
-			plans[one.place] = &Plan{Steps: []Step{step}, IsAll: true}
-		case !plan.does(Save, one.device):
+			plans[at.place] = &Plan{Steps: []Step{step}, IsAll: true}
+		case !plan.does(Save, at.device):
 			plan.Steps = append([]Step{step}, plan.Steps...)
 		}
 	}

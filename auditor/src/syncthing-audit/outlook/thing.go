@@ -96,14 +96,14 @@ func thingsOf(devices []forecast.Device, end *forecast.End) map[string][]Thing {
 // sortThings puts copies last, and things in the order of their first devices.
 func sortThings(things []Thing, devices []forecast.Device) {
 	sort.SliceStable(things, func(a, b int) bool {
-		one, other := &things[a], &things[b]
-		if one.IsCopy != other.IsCopy {
-			return other.IsCopy
+		first, second := &things[a], &things[b]
+		if first.IsCopy != second.IsCopy {
+			return second.IsCopy
 		}
-		if first, second := placeOf(devices, one.Devices[0]), placeOf(devices, other.Devices[0]); first != second {
-			return first < second
+		if at, then := placeOf(devices, first.Devices[0]), placeOf(devices, second.Devices[0]); at != then {
+			return at < then
 		}
-		return one.Content.Hash < other.Content.Hash
+		return first.Content.Hash < second.Content.Hash
 	})
 }
 

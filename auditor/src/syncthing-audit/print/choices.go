@@ -67,10 +67,7 @@ func (p *Person) losses(all []outlook.Loss, count int64, of string) {
 		return
 	}
 	p.Line("    %s %s: copy %s elsewhere before Syncthing starts, if it is to stay", Counted(count, "name loses", "names lose"), of, oneOf(count, "it", "that"))
-	for place, loss := range all {
-		if place == outlook.MostNamed {
-			break
-		}
+	for _, loss := range AtMost(outlook.MostNamed, all) {
 		var words []string
 		for _, thing := range loss.Loses {
 			words = append(words, what(thing)+" on "+p.Called.AsTheyStand(thing.Devices)+p.modified(thing))

@@ -21,12 +21,11 @@ type fate struct {
 // Foretold says what becomes of a name if nobody does anything, on all of these devices; of several names that become alike, with isMany.
 func Foretold(name *outlook.Name, devices []string, called Names, isMany bool) string {
 	f, ends := fate{name, devices, called}, []string{}
-	for place, end := range f.Ends {
-		if place == mostEnds {
-			ends = append(ends, "to "+Counted(int64(len(f.Ends)-mostEnds), "more end", "more ends"))
-			break
-		}
+	for _, end := range AtMost(mostEnds, f.Ends) {
 		ends = append(ends, f.end(end))
+	}
+	if more := len(f.Ends) - mostEnds; more > 0 {
+		ends = append(ends, "to "+Counted(int64(more), "more end", "more ends"))
 	}
 	told := strings.Join(ends, "; or ")
 	if len(ends) > 1 {
@@ -106,15 +105,11 @@ func (f *fate) find(thing outlook.Thing) *outlook.Thing {
 // reasons say why devices keep it otherwise than others.
 func (f *fate) reasons() string {
 	var words []string
-	devices := map[forecast.Why][]string{}
+	reasons := Places{}
 	for _, kept := range f.Kept {
-		devices[kept.Why] = append(devices[kept.Why], kept.Device)
+		reasons.Add(wordsOfKept[kept.Why], kept.Device)
 	}
-	for _, kept := range f.Kept {
-		if devices[kept.Why][0] == kept.Device {
-			words = append(words, f.called.All(devices[kept.Why])+": "+wordsOfKept[kept.Why])
-		}
-	}
+	reasons.Each(f.called, func(why, devices string) { words = append(words, devices+": "+why) })
 	return strings.Join(words, "; ")
 }
 
@@ -130,20 +125,10 @@ func without(devices, those []string) []string {
 
 // WhyUnknown says why it isn't known what becomes of a name, and what would make it known.
 func WhyUnknown(o *outlook.Outlook, name *outlook.Name, called Names) string {
-	why, devices := "", ""
-	if name != nil {
-		why = string(name.Why)
-	}
-	for _, group := range o.Unknown {
-		if (why == "" || why == group.Why) && len(group.Devices) > 0 && devices == "" {
-			devices = " (" + called.All(group.Devices) + ")"
-		}
-		if why == "" {
-			why = group.Why
-		}
-	}
-	if why == "" {
+	place := slices.IndexFunc(o.Unknown, func(group outlook.Group) bool { return name == nil || group.Why == string(name.Why) })
+	if place < 0 {
 		return "more names differ than are listed"
 	}
-	return wordsOfUnknown[why] + devices + toKnow(why)
+	group := &o.Unknown[place]
+	return wordsOfUnknown[group.Why] + inBrackets(called.All(group.Devices)) + toKnow(group.Why)
 }

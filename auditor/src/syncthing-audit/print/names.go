@@ -3,6 +3,8 @@ package print
 import (
 	"sort"
 	"strings"
+
+	"golang.org/x/exp/slices"
 )
 
 // Names gives each device's name for a person, by its id.
@@ -29,3 +31,43 @@ func (n Names) All(devices []string) string { return n.AsTheyStand(n.Rising(devi
 
 // AsTheyStand gives several names in the order of the devices.
 func (n Names) AsTheyStand(devices []string) string { return strings.Join(n.Each(devices), ", ") }
+
+// Places are devices by what is told of them, in the order in which it comes first.
+type Places struct {
+	told    []string
+	devices map[string][]string
+}
+
+// Add adds a device of which something is told; no device where it is told of all.
+func (p *Places) Add(told, device string) {
+	if p.devices == nil {
+		p.devices = map[string][]string{}
+	}
+	p.told = AddOnce(p.told, told)
+	if device != "" {
+		p.devices[told] = AddOnce(p.devices[told], device)
+	}
+}
+
+// Each says what is told, with the names of the devices, rising.
+func (p *Places) Each(named Names, say func(told, devices string)) {
+	for _, told := range p.told {
+		say(told, named.All(p.devices[told]))
+	}
+}
+
+// AddOnce adds a text that isn't there yet.
+func AddOnce(all []string, text string) []string {
+	if slices.Contains(all, text) {
+		return all
+	}
+	return append(all, text)
+}
+
+// AtMost gives so many of a list, the first ones.
+func AtMost[Item any](most int, list []Item) []Item {
+	if len(list) > most {
+		return list[:most]
+	}
+	return list
+}

@@ -65,10 +65,8 @@ func (p *Person) have(devices []string) string {
 // firstOf gives the first of so many names, and how many more there are.
 func firstOf(all []part.Bytes, count int64) string {
 	var names []string
-	for place, name := range all {
-		if place < outlook.MostNamed {
-			names = append(names, shell.Path(string(name)))
-		}
+	for _, name := range AtMost(outlook.MostNamed, all) {
+		names = append(names, shell.Path(string(name)))
 	}
 	told := strings.Join(names, " ")
 	if more := count - int64(len(names)); more > 0 {

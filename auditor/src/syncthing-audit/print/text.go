@@ -170,7 +170,7 @@ func (p *Person) notKnown(o *outlook.Outlook) {
 	}
 	p.Line("  of %s it isn't known what becomes of %s:", Counted(o.NotKnown, "name", "names"), itOrThem(o.NotKnown))
 	for _, why := range o.Unknown {
-		p.Line("    %s: %s%s%s", Counted(why.Names, "name", "names"), wordsOfUnknown[why.Why], p.of(why.Devices), toKnow(why.Why))
+		p.Line("    %s: %s%s%s", Counted(why.Names, "name", "names"), wordsOfUnknown[why.Why], inBrackets(p.Called.AsTheyStand(why.Devices)), toKnow(why.Why))
 	}
 }
 
@@ -220,10 +220,10 @@ var wordsOfUnknown = map[string]string{
 	"no-end":           "in some orders that were tried it came to no end",
 }
 
-// of names devices behind a reason.
-func (p *Person) of(devices []string) string {
-	if len(devices) == 0 {
+// inBrackets puts the names of devices behind a reason, if there are any.
+func inBrackets(devices string) string {
+	if devices == "" {
 		return ""
 	}
-	return " (" + p.Called.AsTheyStand(devices) + ")"
+	return " (" + devices + ")"
 }

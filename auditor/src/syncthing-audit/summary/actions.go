@@ -3,6 +3,7 @@ package summary
 import (
 	"golang.org/x/exp/slices"
 	"syncthing-audit/outlook"
+	"syncthing-audit/print"
 )
 
 // actions are what all entries of an answer tell to do on devices. A start of Syncthing scans all folders, and each entry speaks of its own names
@@ -39,7 +40,7 @@ func (a *actions) note(file *File, folder string) {
 			a.wrong[at] = &wrongNames{}
 		}
 		a.wrong[at].names++
-		a.wrong[at].folders = addOnce(a.wrong[at].folders, folder)
+		a.wrong[at].folders = print.AddOnce(a.wrong[at].folders, folder)
 	}
 }
 
@@ -70,7 +71,7 @@ func (f *File) toMakeSafe() []string {
 	devices := f.withoutSteps()
 	if plan := f.foretold.plan; plan != nil {
 		for _, step := range plan.Steps {
-			devices = addOnce(devices, step.Device)
+			devices = print.AddOnce(devices, step.Device)
 		}
 	}
 	return devices
@@ -81,12 +82,12 @@ func (f *File) withoutSteps() []string {
 	devices, hasSteps := []string{}, f.foretold.plan != nil
 	for _, fault := range f.Faults {
 		if fault.Cause == Damaged || !hasSteps && (!f.foretold.isKnown() || f.foretold.is(outlook.Lost) || f.looksDamaged()) {
-			devices = addOnce(devices, fault.Device)
+			devices = print.AddOnce(devices, fault.Device)
 		}
 	}
 	for _, mode := range f.Permissions {
 		if len(f.Faults) == 0 && mode.Disk != "" && mode.Disk != mode.Index {
-			devices = addOnce(devices, mode.Device)
+			devices = print.AddOnce(devices, mode.Device)
 		}
 	}
 	return devices

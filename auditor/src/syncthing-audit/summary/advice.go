@@ -7,14 +7,6 @@ import (
 	"syncthing-audit/print"
 )
 
-// addOnce adds a text that isn't there yet.
-func addOnce(all []string, text string) []string {
-	if slices.Contains(all, text) {
-		return all
-	}
-	return append(all, text)
-}
-
 const receiveOnly = "receive-only"
 
 // adviceOf says what to do about a name, each thing once: what to look for elsewhere; the steps that were found for it or, without any, what is to be saved;
@@ -23,7 +15,7 @@ func adviceOf(file *File, named print.Names) []string {
 	advice := append(file.withoutCopy(named), file.beforeStart(named)...)
 	for _, fault := range file.Faults {
 		if told := file.adviceOfFault(fault, named); told != "" {
-			advice = addOnce(advice, told)
+			advice = print.AddOnce(advice, told)
 		}
 	}
 	if len(file.Faults) == 0 && len(file.Permissions) > 0 {
@@ -91,7 +83,7 @@ func (f *File) toSave(named print.Names) []string {
 	for _, fault := range f.Faults {
 		isHolding := !fault.isOfDisk() && fault.Recorded != nil && !fault.Recorded.Deleted && !f.hasAt(fault.Device, Missing)
 		if fault.Found != nil || fault.Cause == Differs || fault.Cause == Damaged || isHolding {
-			on = addOnce(on, fault.Device)
+			on = print.AddOnce(on, fault.Device)
 		}
 	}
 	if len(on) == 0 || len(f.Faults) == 0 {
@@ -123,7 +115,7 @@ func (f *File) withoutCopy(named print.Names) []string {
 	on, most := []string{}, (*Fault)(nil)
 	for _, fault := range f.Faults {
 		if f.isHarmOfDue(fault) && fault.Blocks != nil && fault.Blocks.Count < fault.Blocks.Of {
-			on = addOnce(on, fault.Device)
+			on = print.AddOnce(on, fault.Device)
 			if most == nil || fault.Blocks.Count < most.Blocks.Count {
 				most = fault
 			}

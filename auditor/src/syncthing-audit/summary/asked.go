@@ -4,6 +4,7 @@ import (
 	"strings"
 
 	"syncthing-audit/part"
+	"syncthing-audit/print"
 	"syncthing-audit/shell"
 )
 
@@ -26,13 +27,13 @@ func wantedOf(rest *part.Rest) *Wanted {
 // asked prints what Syncthing itself said of folders where it was asked by --rest, and doesn't stand elsewhere.
 func (p *printer) asked(s *Summary) {
 	for _, folder := range s.Folders {
-		said := places{}
+		said := print.Places{}
 		for _, member := range folder.Devices {
 			if member.Wanted != nil {
-				said.add(member.Kind+", "+shell.Printable(member.Rest)+", "+member.Wanted.words(), member.Device)
+				said.Add(member.Kind+", "+shell.Printable(member.Rest)+", "+member.Wanted.words(), member.Device)
 			}
 		}
-		said.each(p.Called, func(words, devices string) {
+		said.Each(p.Called, func(words, devices string) {
 			p.Line("Syncthing itself says of %s on %s: %s", shell.Folder(folder.ID, folder.Label), devices, words)
 		})
 	}

@@ -12,7 +12,7 @@ func (p *printer) entries(s *Summary) {
 		for _, folder := range s.Folders {
 			for _, group := range folder.Groups {
 				if group.of.danger() == danger {
-					p.group(folder, group, nil)
+					p.group(folder, group)
 				}
 			}
 			p.files(folder, danger)
@@ -24,12 +24,12 @@ func (p *printer) entries(s *Summary) {
 // on which someone worked while Syncthing was off. --json tells each.
 func (p *printer) files(folder *Folder, danger int) {
 	for _, file := range folder.Files {
-		switch all := file.among; {
+		switch group := file.among; {
 		case file.danger() != danger:
-		case all.group.Names <= mostAlone:
+		case group.Names <= mostAlone:
 			p.file(folder, file)
-		case file == all.files[0]:
-			p.group(folder, all.groupOf(p.Called), all.files)
+		case file == group.files[0]:
+			p.group(folder, group.tell(p.Called))
 		}
 	}
 }
@@ -52,19 +52,16 @@ func (p *printer) file(folder *Folder, file *File) {
 	p.advice(file.Advice)
 }
 
-// group prints names of which the very same is told as one entry; with all of these names, where their details are kept.
-func (p *printer) group(folder *Folder, group *Group, all []*File) {
+// group prints names of which the very same is told as one entry.
+func (p *printer) group(folder *Folder, group *Group) {
 	unsized := ""
 	if group.Unsized > 0 {
 		unsized = ", without " + counted(group.Unsized, "name", "names") + " whose details weren't kept"
 	}
 	p.Line("\n%s in %s: %s%s", counted(group.Names, "name", "names"), folder.ID, size(group.Bytes), unsized)
 	for place, fault := range group.of.Faults {
-		faults := faultsAt(all, place)
-		if len(faults) == 0 {
-			faults = []*Fault{fault}
-		}
-		p.Line("  %s: %s%s", p.Called(faults[0].Device), wordsOfFaults(faults, true), differingInAll(faults))
+		faults := faultsAt(group.files, place)
+		p.Line("  %s: %s%s", p.Called(fault.Device), wordsOfFaults(faults, true), differingInAll(faults))
 	}
 	p.same(group.of)
 	p.modes(group.Modes)

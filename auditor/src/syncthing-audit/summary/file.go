@@ -31,7 +31,7 @@ type File struct {
 	isOfAnotherTime bool   // whether those that have what is due have it with another time
 	isOdd           bool   // whether the name isn't in Unicode's form NFC
 	isMany          bool   // whether it stands for many names, which are told as one
-	among           *alike // all of which the very same is told
+	among           *Group // all of which the very same is told
 }
 
 // say gives what is said of one name, or of many where the file stands for these.

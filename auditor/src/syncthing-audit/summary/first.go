@@ -60,7 +60,7 @@ func (s *Summary) firstScans(named print.Names) []First {
 	on := []string{}
 	s.eachMember(func(_ *Folder, member *Member) {
 		if member.isScanning() {
-			on = addOnce(on, member.Device)
+			on = print.AddOnce(on, member.Device)
 		}
 	})
 	if len(on) == 0 {

@@ -27,7 +27,9 @@ type Group struct {
 
 	Foretold string `json:"if_nothing_is_done,omitempty"` // in words, of each
 
-	of *File // what is so of each name
+	of       *File   // what is so of each name
+	files    []*File // these names, rising; the first ones where the others are counted
+	isFolded bool    // whether programs are told of them as one, too
 }
 
 // canFold are the causes that ask for the same everywhere. What else is wrong is to be looked at file by file.
@@ -81,17 +83,10 @@ type folding struct {
 	to    *actions          // of all entries
 	wrong int64             // names with faults
 	modes int64             // names of which the permissions alone differ
-	alike map[string]*alike // by their keys
+	alike map[string]*Group // names of which the very same is told, by their keys
 	keys  []string          // in the order of their first names
-	kinds int               // how many of them are told as one
+	kinds int               // how many of them may be told as one
 	name  string            // of the folder, for a person
-}
-
-// alike are names of which the very same is told, and what is counted of all.
-type alike struct {
-	files    []*File
-	group    Group
-	isFolded bool // whether programs are told of them as one, too
 }
 
 // take takes the next name.
@@ -110,7 +105,7 @@ func (f *folding) take(file *File) {
 		isAlike, key = true, f.keyOf(file)
 	}
 	if f.alike[key] == nil {
-		f.alike[key] = &alike{}
+		f.alike[key] = &Group{}
 		f.keys = append(f.keys, key)
 		if isAlike {
 			f.kinds++
@@ -121,14 +116,14 @@ func (f *folding) take(file *File) {
 }
 
 // take takes one more name; of those that are told as one in JSON, too, only the first ones are kept, and the others counted.
-func (a *alike) take(file *File, isFolded bool) {
-	a.group.Names++
-	a.group.Bytes += file.Size
+func (g *Group) take(file *File, canBeFolded bool) {
+	g.Names++
+	g.Bytes += file.Size
 	if !file.hasDetails {
-		a.group.Unsized++
+		g.Unsized++
 	}
-	if a.isFolded = isFolded && a.group.Names > mostAlone; !a.isFolded {
-		a.files = append(a.files, file)
+	if g.isFolded = canBeFolded && g.Names > mostAlone; !g.isFolded {
+		g.files = append(g.files, file)
 	}
 }
 
@@ -136,10 +131,10 @@ func (a *alike) take(file *File, isFolded bool) {
 func (f *folding) end() ([]*File, []*Group) {
 	files, groups := []*File{}, []*Group{}
 	for _, key := range f.keys {
-		if alike := f.alike[key]; alike.isFolded {
-			groups = append(groups, alike.groupOf(f.named))
+		if group := f.alike[key]; group.isFolded {
+			groups = append(groups, group.tell(f.named))
 		} else {
-			files = append(files, alike.files...)
+			files = append(files, group.files...)
 		}
 	}
 	sort.Slice(files, func(a, b int) bool { return files[a].Name < files[b].Name })
@@ -150,22 +145,22 @@ func (f *folding) end() ([]*File, []*Group) {
 	return files, groups
 }
 
-// groupOf tells names as one.
-func (a *alike) groupOf(named print.Names) *Group {
-	many, group := a.files[0].asMany(), a.group
-	group.of, group.Cause, group.Devices, group.First, group.Have, group.Modes = many, Permissions, []string{}, []Text{}, many.Have, many.Permissions
-	group.Foretold, group.Advice = many.tell(named), adviceOf(many, named)
+// tell gives what is told of these names as one.
+func (g *Group) tell(named print.Names) *Group {
+	many := g.files[0].asMany()
+	g.of, g.Cause, g.Devices, g.First, g.Have, g.Modes = many, Permissions, []string{}, []Text{}, many.Have, many.Permissions
+	g.Foretold, g.Advice = many.tell(named), adviceOf(many, named)
 	if len(many.Faults) > 0 {
-		group.Cause = many.Faults[0].Cause
-		group.Deleted = group.Cause == Behind && many.Faults[0].Deletion
+		g.Cause = many.Faults[0].Cause
+		g.Deleted = g.Cause == Behind && many.Faults[0].Deletion
 	}
 	for _, fault := range many.Faults {
-		group.Devices = append(group.Devices, fault.Device)
+		g.Devices = append(g.Devices, fault.Device)
 	}
-	for _, file := range a.files[:mostAlone] {
-		group.First = append(group.First, file.Name)
+	for _, file := range g.files[:mostAlone] {
+		g.First = append(g.First, file.Name)
 	}
-	return &group
+	return g
 }
 
 // modesOf gives the permissions of a name.

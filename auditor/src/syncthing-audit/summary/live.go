@@ -8,6 +8,7 @@ import (
 	"golang.org/x/exp/slices"
 	"syncthing-audit/finding"
 	"syncthing-audit/part"
+	"syncthing-audit/print"
 	"syncthing-audit/shell"
 )
 
@@ -37,7 +38,8 @@ type Moved struct {
 	Recorded *State   `json:"recorded,omitempty"`
 	Found    *State   `json:"found,omitempty"`
 	Have     []string `json:"have_recorded,omitempty"` // the other devices that have what is recorded
-	fault    *Fault   // of what waits: the same as a fault
+
+	isOverWire bool // as of a fault
 }
 
 // Unheard counts the still names whose record a device hadn't heard of from another one.
@@ -68,11 +70,10 @@ func liveOf(from *finding.Folder) *Live {
 	for _, moving := range from.Live.Names {
 		next := Moving{Name: moving.Name, Devices: []Moved{}}
 		for _, at := range moving.At {
-			moved := Moved{Device: id(at.Member), Why: at.Why, Waits: at.Waits}
+			moved := Moved{Device: id(at.Member), Why: at.Why, Waits: at.Waits, isOverWire: from.Members[at.Member].Head.IsOverWireAlone()}
 			if at.As != nil {
 				moved.Recorded, moved.Found = recorded(at.As.Own), found(at.As.Disk)
 			}
-			moved.fault = moved.asFault(from.Members[at.Member].Head.IsOverWireAlone())
 			for _, other := range at.Have {
 				moved.Have = append(moved.Have, id(other))
 			}
@@ -175,7 +176,7 @@ func (p *printer) movingNames(folder *Folder, live *Live) {
 	if isWaiting {
 		p.running("  before a scan:", beforeScan)
 	}
-	told := first(live.worst(), mostOfList)
+	told := print.AtMost(mostOfList, live.worst())
 	for _, moving := range told {
 		words := []string{}
 		for _, at := range moving.Devices {

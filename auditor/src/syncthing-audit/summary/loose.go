@@ -4,6 +4,7 @@ import (
 	"strings"
 
 	"syncthing-audit/finding"
+	"syncthing-audit/print"
 	"syncthing-audit/shell"
 )
 
@@ -63,7 +64,7 @@ func (p *printer) loose(folder *Folder) {
 		return
 	}
 	p.Line("\n%s %s from being firm", counted(folder.Loose, "name keeps", "names keep"), folder.ID)
-	told := first(folder.NotFirm, mostOfList)
+	told := print.AtMost(mostOfList, folder.NotFirm)
 	for _, loose := range told {
 		words := []string{}
 		for _, at := range loose.Devices {

@@ -7,6 +7,7 @@ import (
 	"golang.org/x/exp/slices"
 	"syncthing-audit/finding"
 	"syncthing-audit/part"
+	"syncthing-audit/print"
 	"syncthing-audit/shell"
 )
 
@@ -58,13 +59,13 @@ func (s *Summary) eachMember(take func(folder *Folder, member *Member)) {
 
 // ofMembers prints something of members of folders, each text once with all devices of which it is told.
 func (p *printer) ofMembers(s *Summary, format string, tell func(folder *Folder, member *Member) []string) {
-	told := places{}
+	told := print.Places{}
 	s.eachMember(func(folder *Folder, member *Member) {
 		for _, text := range tell(folder, member) {
-			told.add(text, member.Device)
+			told.Add(text, member.Device)
 		}
 	})
-	told.each(p.Called, func(text, devices string) { p.Line(format, text, devices) })
+	told.Each(p.Called, func(text, devices string) { p.Line(format, text, devices) })
 }
 
 // folderIf names a folder of which something is so.
@@ -176,7 +177,7 @@ func (p *printer) copies(folder *Folder) {
 	}
 	p.Line("%s in %s, %s: compare each with its file, and keep what you want of both", counted(count, "conflict copy", "conflict copies"),
 		folder.ID, size(bytes))
-	told := first(folder.Copies, mostOfList)
+	told := print.AtMost(mostOfList, folder.Copies)
 	for _, conflict := range told {
 		p.Line("  %s", shell.Path(string(conflict.Name)))
 	}
@@ -185,14 +186,6 @@ func (p *printer) copies(folder *Folder) {
 
 // mostOfList is how many names of a list are told, one by one.
 const mostOfList = 10
-
-// first gives the first ones of a list.
-func first[Item any](list []Item, most int) []Item {
-	if len(list) > most {
-		return list[:most]
-	}
-	return list
-}
 
 // more says how many more there are than are told, if any, and where they are.
 func (p *printer) more(count int64, where string) {
@@ -268,11 +261,11 @@ func (p *printer) kindsOf(names Names) string {
 
 // byDevices gives reasons as texts, each once with the devices at which it is.
 func (p *printer) byDevices(all []WhyLeft, text func(WhyLeft) string, say func(text, devices string) string) string {
-	reasons, words := places{}, []string{}
+	reasons, words := print.Places{}, []string{}
 	for _, why := range all {
-		reasons.add(text(why), why.Device)
+		reasons.Add(text(why), why.Device)
 	}
-	reasons.each(p.Called, func(text, devices string) { words = append(words, say(text, devices)) })
+	reasons.Each(p.Called, func(text, devices string) { words = append(words, say(text, devices)) })
 	return strings.Join(words, "; ")
 }
 
@@ -307,7 +300,7 @@ func (p *printer) stopped(s *Summary) {
 	told := map[string][]string{}
 	s.eachMember(func(folder *Folder, member *Member) {
 		if member.Rest == part.RestStopped {
-			told[member.Device] = addOnce(told[member.Device], folder.ID)
+			told[member.Device] = print.AddOnce(told[member.Device], folder.ID)
 		}
 	})
 	for _, device := range s.Devices {

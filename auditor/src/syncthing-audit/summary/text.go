@@ -219,10 +219,7 @@ const mostRanges = 8
 func ranges(blocks *Blocks) string {
 	words := []string{}
 	told := int64(0)
-	for _, span := range blocks.Ranges {
-		if len(words) == mostRanges {
-			break
-		}
+	for _, span := range print.AtMost(mostRanges, blocks.Ranges) {
 		told += span[1] - span[0] + 1
 		if span[0] == span[1] {
 			words = append(words, strconv.FormatInt(span[0], 10))

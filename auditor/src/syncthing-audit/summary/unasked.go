@@ -5,6 +5,7 @@ import (
 
 	"syncthing-audit/choice"
 	"syncthing-audit/finding"
+	"syncthing-audit/print"
 	"syncthing-audit/shell"
 )
 
@@ -75,11 +76,11 @@ func (s *Summary) ofAll(asked choice.Names) string {
 
 // notAsked prints which folders of the devices weren't audited, or that this isn't known.
 func (p *printer) notAsked(s *Summary) {
-	folders, words := places{}, []string{}
+	folders, words := print.Places{}, []string{}
 	for _, notAsked := range s.NotAsked {
-		folders.add(shell.Folder(notAsked.Folder, notAsked.Label), notAsked.Device)
+		folders.Add(shell.Folder(notAsked.Folder, notAsked.Label), notAsked.Device)
 	}
-	folders.each(p.Called, func(folder, devices string) { words = append(words, folder+" on "+devices) })
+	folders.Each(p.Called, func(folder, devices string) { words = append(words, folder+" on "+devices) })
 	count := counted(int64(len(words)), "folder", "folders")
 	switch {
 	case len(words) == 0:

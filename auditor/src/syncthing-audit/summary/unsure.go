@@ -2,6 +2,7 @@ package summary
 
 import (
 	"syncthing-audit/finding"
+	"syncthing-audit/print"
 	"syncthing-audit/shell"
 )
 
@@ -52,13 +53,13 @@ var whatToDo = map[string]string{
 // unsure prints what may change a folder in step.
 func (p *printer) unsure(folder *Folder) {
 	for _, kind := range finding.KindsOfUnsure {
-		told := places{}
+		told := print.Places{}
 		for _, unsure := range folder.Unsure {
 			if unsure.Kind == kind {
-				told.add(unsure.Why, unsure.Device)
+				told.Add(unsure.Why, unsure.Device)
 			}
 		}
-		told.each(p.Called, func(why, devices string) {
+		told.Each(p.Called, func(why, devices string) {
 			p.running(folder.Firm.CallUnsure()+": "+shell.Folder(folder.ID, folder.Label)+" on "+devices+":", why+". "+whatToDo[kind]+".")
 		})
 	}

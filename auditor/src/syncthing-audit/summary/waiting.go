@@ -127,27 +127,21 @@ func (l *Live) worst() []Moving {
 	return names
 }
 
-// causesOfWaiting are the faults as which names wait for a scan; all other ones are changed.
-var causesOfWaiting = map[string]Cause{finding.WaitsMissing: Missing, finding.WaitsBack: Back, finding.WaitsNew: NotScanned, finding.WaitsUnknown: Differs}
+// causesOfWaiting are the faults as which names wait for a scan; all other ones are changed, and look damaged.
+var causesOfWaiting = map[string]Cause{finding.WaitsMissing: Missing, finding.WaitsBack: Back, finding.WaitsNew: NotScanned, finding.WaitsUnknown: Differs, finding.WaitsChanged: Changed}
 
-// asFault gives how a name waits as the fault that it would be if it were still; nothing where it doesn't wait.
-func (m *Moved) asFault(isOverWire bool) *Fault {
-	if m.Waits == "" {
-		return nil
-	}
+// asFault gives how a name waits as the fault that it would be if it were still.
+func (m *Moved) asFault() *Fault {
 	if cause, is := causesOfWaiting[m.Waits]; is {
-		return &Fault{Device: m.Device, Cause: cause, Recorded: m.Recorded, Found: m.Found, isOverWire: isOverWire}
+		return &Fault{Device: m.Device, Cause: cause, Recorded: m.Recorded, Found: m.Found, isOverWire: m.isOverWire}
 	}
-	fault := &Fault{Device: m.Device, Cause: Changed, Recorded: m.Recorded, Found: m.Found, isOverWire: isOverWire}
-	if m.Waits != finding.WaitsChanged {
-		fault.Damage = damage.Kind(m.Waits)
-	}
-	return fault
+	return &Fault{Device: m.Device, Cause: Changed, Damage: damage.Kind(m.Waits), Recorded: m.Recorded, Found: m.Found, isOverWire: m.isOverWire}
 }
 
 // wordsOfWaiting says how a name waits for a scan on a device, and where what is recorded stands.
 func (p *printer) wordsOfWaiting(at Moved) string {
-	told := wordsOfFaults([]*Fault{at.fault}, false) + p.since(at.fault)
+	fault := at.asFault()
+	told := wordsOfFaults([]*Fault{fault}, false) + p.since(fault)
 	switch {
 	case !finding.LosesRecorded(at.Waits) || at.Waits == finding.WaitsUnknown:
 		return told

@@ -10,11 +10,11 @@ import (
 
 // codeOf gives a text as the lines of a QR code, which a phone's camera reads; none where Debian's qrencode isn't there.
 func codeOf(text string) []string {
-	made, err := exec.Command("qrencode", "-t", "UTF8", "--", text).Output()
+	drawn, err := exec.Command("qrencode", "-t", "UTF8", "--", text).Output()
 	if err != nil {
 		return nil
 	}
-	return strings.Split(strings.TrimSuffix(string(made), "\n"), "\n")
+	return strings.Split(strings.TrimSuffix(string(drawn), "\n"), "\n")
 }
 
 // ShowCode shows a text so on a terminal.

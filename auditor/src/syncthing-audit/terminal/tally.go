@@ -41,8 +41,8 @@ func (t *Tally) Take(at int, line string) bool {
 	}
 	t.mutex.Lock()
 	defer t.mutex.Unlock()
-	one := &t.places[at]
-	one.isKnown, one.done, one.whole = true, done, whole
+	place := &t.places[at]
+	place.isKnown, place.done, place.whole = true, done, whole
 	return true
 }
 
@@ -53,8 +53,8 @@ func isAmount(bytes int64) bool { return bytes >= 0 && bytes < 1<<55 }
 func (t *Tally) End(at int) {
 	t.mutex.Lock()
 	defer t.mutex.Unlock()
-	one := &t.places[at]
-	one.isOver, one.whole = true, one.done
+	place := &t.places[at]
+	place.isOver, place.whole = true, place.done
 }
 
 // Line says how far all of them are: how many bytes are hashed, how long the slowest one takes yet, and of which places that isn't known.
@@ -64,19 +64,19 @@ func (t *Tally) Line(now time.Time) string {
 	known, done, whole, isWhole := 0, int64(0), int64(0), true
 	longest, slowest, unknown := time.Duration(-1), "", []string{}
 	for at := range t.places {
-		one := &t.places[at]
-		if !one.isKnown {
-			if !one.isOver {
-				unknown = append(unknown, one.called)
+		place := &t.places[at]
+		if !place.isKnown {
+			if !place.isOver {
+				unknown = append(unknown, place.called)
 			}
 			continue
 		}
 		known++
-		one.pace.add(now, one.done)
-		done, whole = done+one.done, whole+one.whole
-		isWhole = isWhole && (one.whole >= one.done && (one.whole > 0 || one.isOver))
-		if left, is := one.pace.left(one.whole - one.done); is && left > longest {
-			longest, slowest = left, one.called
+		place.pace.add(now, place.done)
+		done, whole = done+place.done, whole+place.whole
+		isWhole = isWhole && (place.whole >= place.done && (place.whole > 0 || place.isOver))
+		if left, is := place.pace.left(place.whole - place.done); is && left > longest {
+			longest, slowest = left, place.called
 		}
 	}
 	told := []string{}
