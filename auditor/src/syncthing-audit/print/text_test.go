@@ -3,7 +3,6 @@ package print
 import (
 	"strings"
 	"testing"
-	"time"
 
 	"syncthing-audit/forecast"
 	"syncthing-audit/forecast/read"
@@ -94,9 +93,7 @@ func TestPlans(t *testing.T) {
 		{Names: []part.Bytes{"d"}, Count: 1, Below: 2, Goal: &outlook.Thing{Devices: at(2), Type: forecast.Directory}, IsAll: true, Steps: []outlook.Step{{Act: outlook.Copy, Device: devices[0], From: devices[2]}}},
 		{Names: []part.Bytes{"z"}, Count: 1, Steps: []outlook.Step{{Act: outlook.Save, Device: devices[1]}}},
 	}}
-	var to strings.Builder
-	(&Person{To: &to, Called: strings.ToLower, Zone: time.UTC}).plans("docs", &of)
-	if told := to.String(); told != `
+	if told := readBy(func(p *Person) { p.plans("docs", &of) }); told != `
 to do in docs, from the top, while Syncthing is stopped on all its devices:
   for 'my budget':
     1. on server: copy it elsewhere if what stands there may be right: it goes by the steps below
@@ -128,9 +125,7 @@ func TestChoices(t *testing.T) {
 		{Act: outlook.Override, Device: devices[2], Names: 1, Alike: 1, Lost: 1, IsAll: true, Loses: []outlook.Loss{loss("a")}},
 		{Act: outlook.Both, Device: devices[2], IsAll: true},
 	}}
-	var to strings.Builder
-	(&Person{To: &to, Called: strings.ToLower, Zone: time.UTC}).plans("docs", &of)
-	if told := to.String(); told != `
+	if told := readBy(func(p *Person) { p.plans("docs", &of) }); told != `
 to choose in docs on server, for the whole folder, once all that is to stay is saved; or neither:
   'Revert Local Changes', once Syncthing has scanned and taken what the others have:
     8 names come to another end, and all devices then have one thing of each
@@ -161,9 +156,7 @@ to choose in docs on phone, for the whole folder, once all that is to stay is sa
 func TestWhatGoesByAChoice(t *testing.T) {
 	goes := []outlook.Loss{{Name: "a", Loses: []outlook.Thing{file(5, "aa", 1)}}}
 	of := outlook.Outlook{Names: 9, Choices: []*outlook.Choice{{Act: outlook.Both, Device: devices[1], Names: 3, Alike: 3, IsAll: true, Goes: goes, Gone: 1}}}
-	var to strings.Builder
-	(&Person{To: &to, Called: strings.ToLower, Zone: time.UTC}).plans("docs", &of)
-	if told := to.String(); !strings.Contains(told, `
+	if told := readBy(func(p *Person) { p.plans("docs", &of) }); !strings.Contains(told, `
     1 name loses what a recorded change or deletion then replaces: copy it elsewhere before Syncthing starts, if it is to stay
       a: 5 bytes on server (modified 2020-09-13 12:26:40 UTC)
 `) {
@@ -175,9 +168,7 @@ func TestWhatGoesByAChoice(t *testing.T) {
 func TestNothingIsChosenBesideSteps(t *testing.T) {
 	of := outlook.Outlook{Names: 9, Plans: []*outlook.Plan{{Names: []part.Bytes{"a"}, Count: 1, Steps: []outlook.Step{{Act: outlook.Save, Device: devices[1]}}}},
 		Choices: []*outlook.Choice{{Act: outlook.Revert, Device: devices[1], Names: 8, IsAll: true}, {Act: outlook.Both, Device: devices[1], Names: 3, IsAll: true}}}
-	var to strings.Builder
-	(&Person{To: &to, Called: strings.ToLower, Zone: time.UTC}).plans("docs", &of)
-	if told := to.String(); told != `
+	if told := readBy(func(p *Person) { p.plans("docs", &of) }); told != `
 to do in docs, from the top, while Syncthing is stopped on all its devices:
   for a:
     1. on server: copy it elsewhere, if it is to stay: the start may take it away
@@ -189,11 +180,10 @@ to do in docs, from the top, while Syncthing is stopped on all its devices:
 }
 
 func TestWhatAPersonReads(t *testing.T) {
-	for _, one := range texts {
-		var to strings.Builder
-		person := &Person{To: &to, Called: strings.ToLower, Zone: time.UTC}
-		if person.Outlook("docs", false, &one.of); to.String() != one.text {
-			t.Errorf("%s:\n%s\nis to be\n%s", one.why, to.String(), one.text)
+	for place := range texts {
+		row := &texts[place]
+		if told := readBy(func(p *Person) { p.Outlook("docs", false, &row.of) }); told != row.text {
+			t.Errorf("%s:\n%s\nis to be\n%s", row.why, told, row.text)
 		}
 	}
 }
@@ -201,10 +191,9 @@ func TestWhatAPersonReads(t *testing.T) {
 // Of a folder in step that stays so nothing is said.
 func TestAFolderInStep(t *testing.T) {
 	for count, isQuiet := range map[int64]bool{2: true, 1: false} {
-		var to strings.Builder
 		of := outlook.Outlook{Names: 2, Right: count, Lost: 2 - count}
-		if (&Person{To: &to}).Outlook("docs", true, &of); (to.String() == "") != isQuiet {
-			t.Error(to.String())
+		if told := readBy(func(p *Person) { p.Outlook("docs", true, &of) }); (told == "") != isQuiet {
+			t.Error(told)
 		}
 	}
 }
@@ -232,9 +221,7 @@ func TestPlansOfDirectories(t *testing.T) {
 	of := &outlook.Outlook{Plans: []*outlook.Plan{{Names: []part.Bytes{"d"}, Count: 1, Below: 3, Goal: &goal, IsAll: true,
 		Steps: []outlook.Step{{Act: outlook.Delete, Device: devices[1]}, {Act: outlook.Copy, Device: devices[1], From: devices[0]}}}}}
 	of.WithoutSteps, of.FirstWithout = 7, []part.Bytes{"a", "b c", "d", "e", "f"}
-	var to strings.Builder
-	(&Person{To: &to, Called: strings.ToLower, Zone: time.UTC}).plans("docs", of)
-	if told := to.String(); told != `
+	if told := readBy(func(p *Person) { p.plans("docs", of) }); told != `
 to do in docs, from the top, while Syncthing is stopped on all its devices:
   for d, with 3 names below it:
     1. on server: delete what stands there in its place
