@@ -57,12 +57,15 @@ func Run(command *exec.Cmd, output io.Writer, limits Limits) (string, error) {
 	return told.String(), ended
 }
 
+// pipe makes one.
+var pipe = os.Pipe
+
 // start starts the command with pipes to its output.
 func (r *running) start(output, told io.Writer) error {
 	var ends []*os.File
 	defer func() { closeAll(ends) }()
 	for len(ends) < 2 {
-		from, end, err := os.Pipe()
+		from, end, err := pipe()
 		if err != nil {
 			closeAll(r.pipes)
 			return err

@@ -1,8 +1,10 @@
 package bounded
 
 import (
+	"errors"
 	"io"
 	"math/rand"
+	"os"
 	"os/exec"
 	"reflect"
 	"strings"
@@ -61,35 +63,24 @@ func TestLinesInPieces(t *testing.T) {
 	}
 }
 
-// Whatever is wanting of descriptors, a command that can't be started is an error, and nothing of it stays open.
-func TestWantOfDescriptors(t *testing.T) {
-	limit := syscall.Rlimit{}
-	if err := syscall.Getrlimit(syscall.RLIMIT_NOFILE, &limit); err != nil {
-		t.Fatal(err)
-	}
-	defer syscall.Setrlimit(syscall.RLIMIT_NOFILE, &limit)
-	run := func() error { _, err := Run(exec.Command("true"), io.Discard, wide); return err }
-	if err := run(); err != nil { // what Go opens once is open behind it
-		t.Fatal(err)
-	}
-	refused, before := 0, fixture.CountOpened(t, fixture.Any)
-	for most := uint64(3); ; most++ {
-		if err := syscall.Setrlimit(syscall.RLIMIT_NOFILE, &syscall.Rlimit{Cur: most, Max: limit.Max}); err != nil {
-			t.Fatal(err)
+// Where there is no pipe for a command's output, or no such command, that is an error, and nothing stays open.
+func TestWhatIsNotStarted(t *testing.T) {
+	had := pipe
+	defer func() { pipe = had }()
+	for pipes := 0; pipes <= 2; pipes++ {
+		left, before := pipes, fixture.CountOpened(t, fixture.Any)
+		pipe = func() (*os.File, *os.File, error) {
+			if left--; left < 0 {
+				return nil, nil, syscall.EMFILE
+			}
+			return os.Pipe()
 		}
-		err := run()
-		if err := syscall.Setrlimit(syscall.RLIMIT_NOFILE, &limit); err != nil {
-			t.Fatal(err)
+		due := map[bool]error{true: syscall.EMFILE, false: os.ErrNotExist}[pipes < 2]
+		if _, err := Run(exec.Command("/nowhere/at-all"), io.Discard, wide); !errors.Is(err, due) {
+			t.Errorf("%d pipes: %v", pipes, err)
 		}
 		if opened := fixture.CountOpened(t, fixture.Any); opened != before {
-			t.Errorf("up to descriptor %d: %d are open, and %d were: %v", most, opened, before, err)
+			t.Errorf("%d pipes: %d are open, and %d were", pipes, opened, before)
 		}
-		if err == nil {
-			break
-		}
-		refused++
-	}
-	if refused < 4 {
-		t.Errorf("only %d were refused", refused)
 	}
 }

@@ -203,8 +203,10 @@ func TestUnknownPatterns(t *testing.T) {
 // A file of several blocks is cut into those for its size, and into others that were asked for.
 func TestBlockSizes(t *testing.T) {
 	room := roomWith(t, "a")
-	if err := os.WriteFile(filepath.Join(room, "large"), make([]byte, 3*bep.MinBlockSize), 0o644); err != nil {
-		t.Fatal(err)
+	for name, blocks := range map[string]int{"large": 3, "block": 1} {
+		if err := os.WriteFile(filepath.Join(room, name), make([]byte, blocks*bep.MinBlockSize), 0o644); err != nil {
+			t.Fatal(err)
+		}
 	}
 	asked := askedFor(room)
 	asked.BlockSizes = []int64{2 * bep.MinBlockSize, bep.MaxBlockSize}
@@ -213,7 +215,7 @@ func TestBlockSizes(t *testing.T) {
 	for _, content := range names["large"].Disk.Contents {
 		sizes = append(sizes, content.BlockSize)
 	}
-	if len(sizes) != 3 || sizes[0] != bep.MinBlockSize || len(names["a"].Disk.Contents) != 1 {
+	if len(sizes) != 3 || sizes[0] != bep.MinBlockSize || len(names["a"].Disk.Contents) != 1 || len(names["block"].Disk.Contents) != 1 {
 		t.Errorf("%v, %v", sizes, names["a"].Disk.Contents)
 	}
 }

@@ -2,15 +2,21 @@ package diskhalf
 
 import (
 	"bytes"
+	"encoding/hex"
 	"errors"
 	"flag"
 	"fmt"
+	"math/rand"
 	"os"
 	"path/filepath"
+	"runtime"
 	"sort"
 	"strings"
+	"syscall"
 	"testing"
+	"time"
 
+	"syncthing-audit/bep"
 	"syncthing-audit/disk"
 	"syncthing-audit/part"
 	"syncthing-audit/shell"
@@ -235,6 +241,85 @@ func TestNamesThatAreNotWanted(t *testing.T) {
 		}
 		if names, _ := walking.to.Waiting(); names > 0 {
 			t.Errorf("%s: %d names wait for nobody", name, names)
+		}
+	}
+}
+
+// What was found at the first look is kept in a file. Where that can't be written, or read from its begin, it is told.
+func TestAFirstLookThatIsNotKept(t *testing.T) {
+	room := roomWith(t, "a")
+	maker := &maker{asked: askedFor(room)}
+	opened, err := maker.open(maker.asked.Folders[0])
+	if err != nil {
+		t.Fatal(err)
+	}
+	shut, err := os.Create(filepath.Join(t.TempDir(), "shut"))
+	if err != nil {
+		t.Fatal(err)
+	}
+	shut.Close()
+	if err := maker.glanceAt(opened, shut); !errors.Is(err, os.ErrClosed) || !strings.HasPrefix(err.Error(), "write ") {
+		t.Error(err)
+	}
+	reading, pipe, err := os.Pipe()
+	if err != nil {
+		t.Fatal(err)
+	}
+	defer reading.Close()
+	defer pipe.Close()
+	if err := maker.glanceAt(opened, pipe); !errors.Is(err, syscall.ESPIPE) {
+		t.Error(err)
+	}
+}
+
+// removing takes a directory away once something is written.
+type removing struct{ room string }
+
+func (r removing) Write(data []byte) (int, error) { return len(data), os.RemoveAll(r.room) }
+
+// A directory that goes once the head of the part is written has no part.
+func TestADirectoryThatGoesBehindTheHead(t *testing.T) {
+	room, random, lines := roomWith(t, "a"), rand.New(rand.NewSource(1)), ""
+	for len(lines) < 180000 { // more than is kept back before it is written
+		line := make([]byte, 2000)
+		random.Read(line)
+		lines += hex.EncodeToString(line) + "\n"
+	}
+	if err := os.WriteFile(filepath.Join(room, ".stignore"), []byte(lines), 0o600); err != nil {
+		t.Fatal(err)
+	}
+	pool := disk.NewPool(1)
+	defer pool.Close()
+	if told, err := Write(removing{room}, askedFor(room), pool); err == nil || told != nil {
+		t.Errorf("%+v, %v", told, err)
+	}
+}
+
+// Where a name isn't taken no walk goes on, also where it waits for room for the next one.
+func TestNoWalkGoesOnBehindARefusal(t *testing.T) {
+	room := roomWith(t, "a", "b", "c")
+	for _, name := range []string{"a", "b", "c"} {
+		if err := os.Truncate(filepath.Join(room, name), 100<<30); err != nil {
+			t.Skip("no file here is so long: ", err)
+		}
+	}
+	pool := disk.NewPool(1)
+	defer pool.Close()
+	pool.Skip()
+	asked, full := askedFor(room), errors.New("no room")
+	asked.BlockSizes = []int64{bep.MinBlockSize} // the hashes of one file have no room beside those of another
+	maker := &maker{asked: asked, pool: pool}
+	opened, err := maker.open(asked.Folders[0])
+	if err != nil {
+		t.Fatal(err)
+	}
+	before := runtime.NumGoroutine()
+	if err := maker.names(opened, &part.End{}, func(part.Line) error { return full }); err != full {
+		t.Error(err)
+	}
+	for until := time.Now().Add(10 * time.Second); runtime.NumGoroutine() > before; time.Sleep(time.Millisecond) {
+		if time.Now().After(until) {
+			t.Fatal("a walk goes on")
 		}
 	}
 }

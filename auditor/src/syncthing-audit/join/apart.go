@@ -82,16 +82,12 @@ func (p *Plan) checkApart(folder *Folder) {
 // several such groups it is the one of most members; of two with as many the one with the first member.
 func (f *Folder) together() map[string]bool {
 	var best map[string]bool
-	most, seen := 0, map[string]bool{}
+	most := 0
 	for _, member := range f.Members {
-		if seen[member.Head.Device] {
-			continue
-		}
 		reached, members := map[string]bool{}, 0
 		f.reach(member.Head.Device, reached)
 		for _, other := range f.Members {
 			if reached[other.Head.Device] {
-				seen[other.Head.Device] = true
 				members++
 			}
 		}

@@ -229,3 +229,21 @@ func TestPartsThatDoNotGoTogether(t *testing.T) {
 		t.Errorf("the parts are of one slice: %v", err)
 	}
 }
+
+// In whatever order the parts are given, the devices stand in that of their numbers; and it is kept whether folders were asked for.
+func TestThePlaceOfEachDevice(t *testing.T) {
+	for _, wanted := range [][]string{nil, {"docs"}} {
+		for turn := 0; turn < 3; turn++ {
+			devices := sharing(map[byte]string{1: "123", 2: "123", 3: "123"}, unchanged)
+			plan, err := NewPlan(append(devices[turn:len(devices):len(devices)], devices[:turn]...), wanted)
+			if err != nil || len(plan.Folders) != 1 || plan.IsByName != (wanted != nil) {
+				t.Fatal(plan, err)
+			}
+			for place, member := range plan.Folders[0].Members {
+				if member.Head.Device != devices[place].Head.Device || plan.Devices[place] != devices[place] {
+					t.Errorf("turn %d: %s stands in place %d", turn, member.Head.Device, place)
+				}
+			}
+		}
+	}
+}

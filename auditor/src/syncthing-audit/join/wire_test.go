@@ -183,3 +183,54 @@ func TestWhatIsNotJoinedOverTheWire(t *testing.T) {
 		t.Error("a look over the wire is joined with one at the device")
 	}
 }
+
+// ignoring is a part of disks whose patterns ignore a name.
+type ignoring struct {
+	lines
+	name string
+}
+
+func (i *ignoring) IsIgnored(name string) bool { return name == i.name }
+
+// A name that a member has in its views alone is ignored there where its patterns say so. Patterns that aren't known ignore nothing.
+func TestNamesThatOthersTell(t *testing.T) {
+	for name, isIgnored := range map[string]bool{"a": true, "b": false} {
+		told := (&Member{Device: &Device{Stream: &ignoring{name: "a"}}}).namedByOthers(name)
+		if string(told.Name) != name || (len(told.Out) == 1 && told.Out[0].Kind == part.Ignored) != isIgnored || len(told.Out) > 1 {
+			t.Errorf("%+v", told)
+		}
+		if told := (&Member{Device: &Device{Stream: &lines{}}}).namedByOthers(name); string(told.Name) != name || len(told.Out) > 0 {
+			t.Errorf("without patterns: %+v", told)
+		}
+	}
+}
+
+// Of a name of which a member can't tell what it has, or that moved there, its views aren't filled: whatever it is for which that is so.
+func TestViewsOfWhatIsLeftOut(t *testing.T) {
+	out, moved := part.LeftOut{Kind: part.Unreadable, Why: "x"}, part.MovedDisk
+	for count := 0; count < 3; count++ {
+		for _, row := range []part.Name{{Out: []part.LeftOut{out, out}[:count]}, {Moved: []string{moved, moved}[:count]}} {
+			row.Name = "a"
+			_, rows := rowsOf(t, partOf(0, true, true, 9, 9, row), partOf(1, true, true, 9, 9, part.Name{Name: "a", Own: record(1, 1)}))
+			if at := rows["a"].At[0]; (len(at.Views) == 0) != (count > 0) {
+				t.Errorf("%d left out, %d moved: %+v", len(row.Out), len(row.Moved), at)
+			}
+		}
+	}
+}
+
+// A record without permissions stands for a file without any.
+func TestPermissionsThatAreNotRecorded(t *testing.T) {
+	bits := uint32(0o600)
+	for _, permissions := range []*uint32{nil, &bits, new(uint32)} {
+		own := record(1, 0)
+		own.Permissions = permissions
+		due := uint32(0)
+		if permissions != nil {
+			due = *permissions
+		}
+		if node := (&Member{Device: &Device{}}).asRecorded(own); node.Permissions != due || node.Size != 3 {
+			t.Errorf("%+v, not %o", node, due)
+		}
+	}
+}
