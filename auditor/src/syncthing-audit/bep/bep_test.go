@@ -72,11 +72,11 @@ func TestNamesAndTimes(t *testing.T) {
 			t.Errorf("%s: internal %v, temporary %v", name, IsInternal(name), IsTemporary(name))
 		}
 	}
-	one := time.Unix(1000, 5)
-	for _, other := range []time.Time{one, one.Add(1), one.Add(-1), one.Add(time.Second), one.Add(time.Second - 1), one.Add(-time.Second)} {
+	first := time.Unix(1000, 5)
+	for _, other := range []time.Time{first, first.Add(1), first.Add(-1), first.Add(time.Second), first.Add(time.Second - 1), first.Add(-time.Second)} {
 		for _, window := range []time.Duration{0, 1, 2, time.Second} {
-			if IsTimeEqual(one, other, window) != protocol.ModTimeEqual(one, other, window) {
-				t.Errorf("%v and %v within %v: %v", one, other, window, IsTimeEqual(one, other, window))
+			if IsTimeEqual(first, other, window) != protocol.ModTimeEqual(first, other, window) {
+				t.Errorf("%v and %v within %v: %v", first, other, window, IsTimeEqual(first, other, window))
 			}
 		}
 	}

@@ -15,18 +15,18 @@ import (
 
 // fileOf gives a record of a file as it is sent.
 func fileOf(name string, size, sequence int64) []byte {
-	made := message.AppendText(nil, 1, []byte(name))
-	made = message.AppendNumber(made, 3, uint64(size))
-	made = message.AppendText(made, 9, message.AppendText(nil, 1, message.AppendNumber(message.AppendNumber(nil, 1, 1), 2, 1)))
-	made = message.AppendNumber(message.AppendNumber(made, 10, uint64(sequence)), 12, 1)
+	text := message.AppendText(nil, 1, []byte(name))
+	text = message.AppendNumber(text, 3, uint64(size))
+	text = message.AppendText(text, 9, message.AppendText(nil, 1, message.AppendNumber(message.AppendNumber(nil, 1, 1), 2, 1)))
+	text = message.AppendNumber(message.AppendNumber(text, 10, uint64(sequence)), 12, 1)
 	for left := size; left > 0; left -= 128 << 10 {
 		block := left
 		if block > 128<<10 {
 			block = 128 << 10
 		}
-		made = message.AppendText(made, 16, message.AppendText(message.AppendNumber(nil, 2, uint64(block)), 3, make([]byte, 32)))
+		text = message.AppendText(text, 16, message.AppendText(message.AppendNumber(nil, 2, uint64(block)), 3, make([]byte, 32)))
 	}
-	return made
+	return text
 }
 
 // cluster has devices with files, and a history of when these were asked for.
@@ -41,13 +41,13 @@ type cluster struct {
 }
 
 func newCluster(t *testing.T, devices int) *cluster {
-	made := &cluster{t: t, room: filepath.Join(t.TempDir(), "history"), sizes: map[string]int64{}, faults: map[string]bool{}}
-	made.open()
-	t.Cleanup(func() { made.history.Close() })
+	c := &cluster{t: t, room: filepath.Join(t.TempDir(), "history"), sizes: map[string]int64{}, faults: map[string]bool{}}
+	c.open()
+	t.Cleanup(func() { c.history.Close() })
 	for device := 0; device < devices; device++ {
-		made.indexes = append(made.indexes, wire.NewIndex(uint64(device+1)))
+		c.indexes = append(c.indexes, wire.NewIndex(uint64(device+1)))
 	}
-	return made
+	return c
 }
 
 // open opens the history.
@@ -75,19 +75,19 @@ func (c *cluster) plan(bytes int64) *Plan {
 	for device, index := range c.indexes {
 		places = append(places, Place{Folder: "docs", Device: uint64(device), Index: index})
 	}
-	made, err := Make(context.Background(), c.history, places, Asked{Bytes: bytes, IsFault: func(_, name string) bool { return c.faults[name] }, Room: c.t.TempDir()})
+	plan, err := Make(context.Background(), c.history, places, Asked{Bytes: bytes, IsFault: func(_, name string) bool { return c.faults[name] }, Room: c.t.TempDir()})
 	if err != nil {
 		c.t.Fatal(err)
 	}
-	c.t.Cleanup(made.Close)
-	return made
+	c.t.Cleanup(plan.Close)
+	return plan
 }
 
 // look makes a look at a time, on these devices, and gives the names that it asked for.
 func (c *cluster) look(bytes, at int64, is func(device uint64) bool) map[string]bool {
-	made, asked := c.plan(bytes), map[string]bool{}
+	plan, asked := c.plan(bytes), map[string]bool{}
 	for name := range c.sizes {
-		has, err := made.Has("docs", name)
+		has, err := plan.Has("docs", name)
 		if err != nil {
 			c.t.Fatal(err)
 		}
@@ -97,10 +97,10 @@ func (c *cluster) look(bytes, at int64, is func(device uint64) bool) map[string]
 	}
 	c.history.Close() // nobody has it open while devices are asked
 	c.open()
-	if err := made.Keep(c.history, at, func(_ string, device uint64) bool { return is(device) }); err != nil {
+	if err := plan.Keep(c.history, at, func(_ string, device uint64) bool { return is(device) }); err != nil {
 		c.t.Fatal(err)
 	}
-	made.Close()
+	plan.Close()
 	return asked
 }
 
@@ -194,13 +194,13 @@ func TestWhatWaits(t *testing.T) {
 	c.record("empty", 0, 0, 1)
 	c.look(1000, 50, all)
 	c.record("c", 30, 0)
-	made := c.plan(0)
-	if len(made.Waiting) != 2 {
-		t.Fatalf("%+v", made.Waiting)
+	plan := c.plan(0)
+	if len(plan.Waiting) != 2 {
+		t.Fatalf("%+v", plan.Waiting)
 	}
 	at := time.Unix(50, 0).UTC()
 	for place, want := range []history.Waiting{{Folder: "docs", Number: 0, Files: 2, Bytes: 130, Never: 1, NeverBytes: 30}, {Folder: "docs", Number: 1, Files: 2, Bytes: 170}} {
-		got := made.Waiting[place]
+		got := plan.Waiting[place]
 		if got.Oldest == nil || !got.Oldest.Equal(at) {
 			t.Errorf("%+v", got)
 		}
@@ -208,8 +208,8 @@ func TestWhatWaits(t *testing.T) {
 			t.Errorf("%+v in place of %+v", got, want)
 		}
 	}
-	if made := c.plan(1000); len(made.Waiting) != 0 {
-		t.Errorf("all is asked for, and waits: %+v", made.Waiting)
+	if plan := c.plan(1000); len(plan.Waiting) != 0 {
+		t.Errorf("all is asked for, and waits: %+v", plan.Waiting)
 	}
 }
 
@@ -285,9 +285,9 @@ func TestAYear(t *testing.T) {
 		if bytes > budget+3*mostBytes || bytes < budget && bytes < total {
 			t.Errorf("look %d: %d bytes of %d", look, bytes, total)
 		}
-		for one, last := range since { // some of the bytes are for what is new, and three looks of 17 are without a device
+		for of, last := range since { // some of the bytes are for what is new, and three looks of 17 are without a device
 			if limit := int(total/budget)*2 + 6; look-last > limit {
-				t.Fatalf("look %d: %v waits since %d, of at most %d looks", look, one, last, limit)
+				t.Fatalf("look %d: %v waits since %d, of at most %d looks", look, of, last, limit)
 			}
 		}
 	}

@@ -91,7 +91,7 @@ func TestWhatADiskFailsToGiveAtOneWalk(t *testing.T) {
 		return &part.LeftOut{Kind: part.Damaged, Why: why, Below: below}
 	}
 	node := func() *part.Node { return &part.Node{Size: 3, Stamp: "stamp"} }
-	for why, one := range map[string]struct {
+	for why, row := range map[string]struct {
 		glance disk.Found
 		line   *part.Name // nothing where the name is gone by then
 		told   string
@@ -111,9 +111,9 @@ func TestWhatADiskFailsToGiveAtOneWalk(t *testing.T) {
 			t.Fatal(err)
 		}
 		defer file.Close()
-		one.glance.Name = "a/"
+		row.glance.Name = "a/"
 		writer := NewWriter(file)
-		if err := writer.Take(one.glance, false); err == nil {
+		if err := writer.Take(row.glance, false); err == nil {
 			err = writer.Flush()
 		}
 		if _, again := file.Seek(0, io.SeekStart); err != nil || again != nil {
@@ -130,16 +130,16 @@ func TestWhatADiskFailsToGiveAtOneWalk(t *testing.T) {
 			return nil
 		})
 		lines := []part.Line{{Begin: &part.Begin{}}}
-		if one.line != nil {
-			one.line.Name = "a/"
-			lines = append(lines, part.Line{Name: one.line})
+		if row.line != nil {
+			row.line.Name = "a/"
+			lines = append(lines, part.Line{Name: row.line})
 		}
 		for _, line := range append(lines, part.Line{End: &part.End{}}) {
 			if err := take(line); err != nil {
 				t.Fatal(why, err)
 			}
 		}
-		if told != one.told {
+		if told != row.told {
 			t.Errorf("%s: %s", why, told)
 		}
 	}
@@ -165,33 +165,33 @@ type madeUp struct {
 }
 
 // madeUpName gives a name of which few things are told, so that both often tell the same.
-func madeUpName(random *rand.Rand, name string) (made madeUp) {
+func madeUpName(random *rand.Rand, name string) (drawn madeUp) {
 	node := func() *part.Node {
 		return []*part.Node{nil, {Size: 3, Stamp: "1"}, {Size: 3, Stamp: "2"}, {Type: 1}}[random.Intn(4)]
 	}
 	if random.Intn(4) > 0 {
-		made.found = &disk.Found{Name: name, Node: node()}
+		drawn.found = &disk.Found{Name: name, Node: node()}
 		switch random.Intn(6) {
 		case 0:
-			made.found.Out = &part.LeftOut{Kind: part.Damaged, Why: "lost", Below: random.Intn(2) == 0}
+			drawn.found.Out = &part.LeftOut{Kind: part.Damaged, Why: "lost", Below: random.Intn(2) == 0}
 		case 1:
-			made.found.Out = &part.LeftOut{Kind: part.Unreadable, Why: "why"}
+			drawn.found.Out = &part.LeftOut{Kind: part.Unreadable, Why: "why"}
 		case 2:
-			made.isIgnored = true
+			drawn.isIgnored = true
 		}
 	}
 	if random.Intn(4) > 0 {
-		made.line = &part.Name{Name: part.Bytes(name), Disk: node()}
+		drawn.line = &part.Name{Name: part.Bytes(name), Disk: node()}
 		if kinds := []string{"", "", part.Unreadable, part.Damaged, part.Ignored, part.Changing, part.Rescan}; random.Intn(2) == 0 {
 			if kind := kinds[random.Intn(len(kinds))]; kind != "" {
-				made.line.Out = []part.LeftOut{{Kind: kind, Why: "why"}}
+				drawn.line.Out = []part.LeftOut{{Kind: kind, Why: "why"}}
 			}
 		}
 		if random.Intn(6) == 0 {
-			made.line.Moved = []string{part.MovedViews}
+			drawn.line.Moved = []string{part.MovedViews}
 		}
 	}
-	return made
+	return drawn
 }
 
 // told gives what is told of a name; nothing where nothing is.
@@ -242,15 +242,15 @@ func TestAGlanceIsComparedAsAPlainReadingSays(t *testing.T) {
 			lines, due = append(lines, part.Line{Begin: &part.Begin{}}), append(due, part.Line{Begin: &part.Begin{}})
 			listed := int64(0)
 			for _, name := range []string{"a", "b", "b/c", "d\n\"", "e"} {
-				made := madeUpName(random, name)
-				if made.found != nil && writer.Take(*made.found, made.isIgnored) != nil {
+				drawn := madeUpName(random, name)
+				if drawn.found != nil && writer.Take(*drawn.found, drawn.isIgnored) != nil {
 					t.Fatal("it isn't written")
 				}
-				if made.line != nil {
-					lines = append(lines, part.Line{Name: made.line})
+				if drawn.line != nil {
+					lines = append(lines, part.Line{Name: drawn.line})
 					listed++
 				}
-				if name := made.told(); name != nil {
+				if name := drawn.told(); name != nil {
 					due = append(due, part.Line{Name: name})
 					count++
 				}

@@ -21,7 +21,7 @@ var tables = []string{"/proc/net/tcp", "/proc/net/tcp6"}
 
 // At gives those that listen at an address.
 func At(at *net.TCPAddr) ([]Socket, error) {
-	made := []Socket{}
+	sockets := []Socket{}
 	for _, path := range tables {
 		table, err := os.ReadFile(path)
 		if errors.Is(err, os.ErrNotExist) {
@@ -31,12 +31,12 @@ func At(at *net.TCPAddr) ([]Socket, error) {
 			return nil, err
 		}
 		for _, line := range strings.Split(string(table), "\n") {
-			if one, is := listensAt(line, at); is {
-				made = append(made, one)
+			if socket, is := listensAt(line, at); is {
+				sockets = append(sockets, socket)
 			}
 		}
 	}
-	return made, nil
+	return sockets, nil
 }
 
 // The columns of the kernel's tables of sockets, and the state of one that listens.
@@ -67,9 +67,9 @@ func listensAt(line string, at *net.TCPAddr) (Socket, bool) {
 // addressIn reads an address of such a table: numbers of 32 bits in the order of the machine. All for which this program is built have the lowest
 // byte first.
 func addressIn(text string) net.IP {
-	made, _ := hex.DecodeString(text)
-	for at := 0; at+4 <= len(made); at += 4 {
-		made[at], made[at+1], made[at+2], made[at+3] = made[at+3], made[at+2], made[at+1], made[at]
+	address, _ := hex.DecodeString(text)
+	for at := 0; at+4 <= len(address); at += 4 {
+		address[at], address[at+1], address[at+2], address[at+3] = address[at+3], address[at+2], address[at+1], address[at]
 	}
-	return made
+	return address
 }

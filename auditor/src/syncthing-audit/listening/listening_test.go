@@ -38,9 +38,9 @@ func TestLinesOfListeners(t *testing.T) {
 		"  sl  local_address rem_address ":                           false,
 		"":                                                           false,
 	} {
-		one, found := listensAt(line, at)
-		if found != is || is && one != (Socket{1000, "4711"}) {
-			t.Errorf("%q: %v, %v", line, one, found)
+		socket, found := listensAt(line, at)
+		if found != is || is && socket != (Socket{1000, "4711"}) {
+			t.Errorf("%q: %v, %v", line, socket, found)
 		}
 	}
 	at.IP = net.ParseIP("::1")
@@ -82,14 +82,14 @@ func TestTablesOfSockets(t *testing.T) {
 		t.Fatal(err)
 	}
 	at := &net.TCPAddr{IP: net.ParseIP("127.0.0.1"), Port: 0x20C0}
-	for _, one := range []struct {
+	for _, row := range []struct {
 		tables []string
 		count  int
 		fails  bool
 	}{{nil, 0, false}, {[]string{some}, 2, false}, {[]string{room + "/none", some}, 2, false}, {[]string{some, some}, 4, false}, {[]string{some, room}, 0, true}, {[]string{room + "/none"}, 0, false}} {
-		tables = one.tables
-		if found, err := At(at); (err != nil) != one.fails || len(found) != one.count || found == nil != one.fails {
-			t.Errorf("%v: %+v, %v", one.tables, found, err)
+		tables = row.tables
+		if found, err := At(at); (err != nil) != row.fails || len(found) != row.count || found == nil != row.fails {
+			t.Errorf("%v: %+v, %v", row.tables, found, err)
 		}
 	}
 }

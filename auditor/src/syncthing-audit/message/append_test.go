@@ -10,27 +10,27 @@ import (
 
 // What is appended is read again; a number of 0 and a text of nothing aren't written.
 func TestWhatIsAppended(t *testing.T) {
-	made := []byte("\x08\x01")
+	written := []byte("\x08\x01")
 	var due []Field
 	due = append(due, Field{Number: 1, Value: 1})
 	for _, value := range []uint64{0, 1, 2, 127, 128, 1<<64 - 1} {
-		before := len(made)
-		if made = AppendNumber(made, 3, value); value > 0 {
+		before := len(written)
+		if written = AppendNumber(written, 3, value); value > 0 {
 			due = append(due, Field{Number: 3, Value: value})
-		} else if len(made) != before {
+		} else if len(written) != before {
 			t.Error("a number of 0 is written")
 		}
 	}
 	for _, text := range []string{"", "x", "text"} {
-		before := len(made)
-		if made = AppendText(made, 4, []byte(text)); text != "" {
+		before := len(written)
+		if written = AppendText(written, 4, []byte(text)); text != "" {
 			due = append(due, Field{Number: 4, Text: []byte(text)})
-		} else if len(made) != before {
+		} else if len(written) != before {
 			t.Error("no text is written")
 		}
 	}
 	var read []Field
-	if err := Each(made, func(field Field) error { read = append(read, field); return nil }); err != nil || !reflect.DeepEqual(read, due) {
+	if err := Each(written, func(field Field) error { read = append(read, field); return nil }); err != nil || !reflect.DeepEqual(read, due) {
 		t.Errorf("%v, %v, not %v", err, read, due)
 	}
 }

@@ -52,14 +52,14 @@ func (r Request) Size() int32 { return r.size }
 
 // Message gives the request as it is sent. It never asks for a temporary file.
 func (r Request) Message(id int32, folder string) []byte {
-	made := message.AppendNumber(nil, FieldOfID, uint64(id))
-	made = message.AppendText(made, FieldOfFolder, []byte(folder))
-	made = message.AppendText(made, FieldOfName, []byte(r.name))
-	made = message.AppendNumber(made, FieldOfOffset, uint64(r.offset))
-	made = message.AppendNumber(made, FieldOfSize, uint64(r.size))
+	text := message.AppendNumber(nil, FieldOfID, uint64(id))
+	text = message.AppendText(text, FieldOfFolder, []byte(folder))
+	text = message.AppendText(text, FieldOfName, []byte(r.name))
+	text = message.AppendNumber(text, FieldOfOffset, uint64(r.offset))
+	text = message.AppendNumber(text, FieldOfSize, uint64(r.size))
 	if r.drawn != nil {
-		made = message.AppendText(made, FieldOfHash, r.drawn[:])
-		made = message.AppendNumber(made, FieldOfWeakHash, weakHashOfNothing)
+		text = message.AppendText(text, FieldOfHash, r.drawn[:])
+		text = message.AppendNumber(text, FieldOfWeakHash, weakHashOfNothing)
 	}
-	return made
+	return text
 }

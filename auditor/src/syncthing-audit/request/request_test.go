@@ -29,7 +29,7 @@ func TestWhatARequestSays(t *testing.T) {
 	if err != nil {
 		t.Fatal(err)
 	}
-	for _, one := range []struct {
+	for _, row := range []struct {
 		request Request
 		size    int32
 		due     map[protowire.Number]interface{}
@@ -38,15 +38,15 @@ func TestWhatARequestSays(t *testing.T) {
 		{ForBlock("b", 131072, 99), 99, map[protowire.Number]interface{}{1: uint64(5), 2: "docs", 3: "b", 4: uint64(131072), 5: uint64(99)}},
 	} {
 		told := map[protowire.Number]interface{}{}
-		err := message.Each(one.request.Message(5, "docs"), func(field message.Field) error {
+		err := message.Each(row.request.Message(5, "docs"), func(field message.Field) error {
 			told[field.Number] = field.Value
 			if field.Text != nil {
 				told[field.Number] = string(field.Text)
 			}
 			return nil
 		})
-		if err != nil || !reflect.DeepEqual(told, one.due) || one.request.Size() != one.size {
-			t.Errorf("%v, not %v: %v", told, one.due, err)
+		if err != nil || !reflect.DeepEqual(told, row.due) || row.request.Size() != row.size {
+			t.Errorf("%v, not %v: %v", told, row.due, err)
 		}
 	}
 }

@@ -75,9 +75,9 @@ func TestAKeyIsMadeAtItsFirstUse(t *testing.T) {
 			t.Errorf("%s: %v, %v", path, about.Mode(), err)
 		}
 	}
-	made, _ := os.ReadFile(key)
+	had, _ := os.ReadFile(key)
 	_, again, err := Open(key, idOf(1))
-	if now, _ := os.ReadFile(key); err != nil || again != "" || string(now) != string(made) {
+	if now, _ := os.ReadFile(key); err != nil || again != "" || string(now) != string(had) {
 		t.Errorf("at its second use: %v, %q", err, again)
 	}
 	if !strings.HasPrefix(line, idOf(1)+` namespaces="syncthing-audit" ssh-ed25519 AAAA`) || strings.Contains(line, "\n") {
@@ -107,7 +107,7 @@ func TestWhoSpeaksForADevice(t *testing.T) {
 	other, otherLine := aKey(t, idOf(2))
 	bare := line[strings.Index(line, "ssh-"):]
 	both := line + "\n" + otherLine + "\n"
-	for called, one := range map[string]struct{ signers, device, key, namespace string }{
+	for called, row := range map[string]struct{ signers, device, key, namespace string }{
 		"another device's key":       {both, idOf(1), other, Namespace},
 		"another device":             {both, idOf(2), key, Namespace},
 		"another end":                {idOf(1) + " " + bare, idOf(1), key, "git"},
@@ -123,7 +123,7 @@ func TestWhoSpeaksForADevice(t *testing.T) {
 		"an id without its dashes":   {both, strings.ReplaceAll(idOf(1), "-", ""), key, Namespace},
 		"a key of authority, no key": {idOf(1) + " cert-authority " + bare, idOf(1), key, Namespace},
 	} {
-		if err := checked(t, one.signers, one.device, signedBy(t, one.key, one.namespace, "a part")); err == nil || !strings.HasPrefix(err.Error(), "refused: it ") {
+		if err := checked(t, row.signers, row.device, signedBy(t, row.key, row.namespace, "a part")); err == nil || !strings.HasPrefix(err.Error(), "refused: it ") {
 			t.Errorf("%s: %v", called, err)
 		}
 	}

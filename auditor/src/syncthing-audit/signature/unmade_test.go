@@ -28,7 +28,7 @@ func filesIn(t *testing.T, directory string) []string {
 // Where a key can't be made, that is told, and nothing of it is left: neither at its place nor where it was made.
 func TestAKeyThatCannotBeMade(t *testing.T) {
 	const making = `case "$*" in *" sign "*) echo signed; exit;; esac; for made; do :; done; `
-	for called, one := range map[string]struct {
+	for called, row := range map[string]struct {
 		script string
 		told   string
 	}{
@@ -40,9 +40,9 @@ func TestAKeyThatCannotBeMade(t *testing.T) {
 		place, room := filepath.Join(t.TempDir(), "keys"), t.TempDir()
 		t.Setenv("PLACE", place)
 		t.Setenv("TMPDIR", room)
-		useProgram(t, one.script)
+		useProgram(t, row.script)
 		key, line, err := Open(filepath.Join(place, "key"), idOf(1))
-		if err == nil || !strings.HasPrefix(err.Error(), "refused: the key ") || !strings.Contains(err.Error(), one.told) || key != nil || line != "" {
+		if err == nil || !strings.HasPrefix(err.Error(), "refused: the key ") || !strings.Contains(err.Error(), row.told) || key != nil || line != "" {
 			t.Errorf("%s: %q, %v", called, line, err)
 		}
 		os.MkdirAll(place, 0o700)
