@@ -79,7 +79,7 @@ func TestWhatIsNotStarted(t *testing.T) {
 		if _, err := Run(exec.Command("/nowhere/at-all"), io.Discard, wide); !errors.Is(err, due) {
 			t.Errorf("%d pipes: %v", pipes, err)
 		}
-		if opened := fixture.CountOpened(t, fixture.Any); opened != before {
+		if opened := fixture.CountOpened(t, fixture.Any); opened > before {
 			t.Errorf("%d pipes: %d are open, and %d were", pipes, opened, before)
 		}
 	}

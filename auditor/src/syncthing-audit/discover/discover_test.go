@@ -185,13 +185,13 @@ func TestWhatCannotBeHeard(t *testing.T) {
 			t.Errorf("%v: %v", networks, err)
 		}
 	}
-	if after := fixture.CountOpened(t, fixture.Any); after != before {
+	if after := fixture.CountOpened(t, fixture.Any); after > before {
 		t.Errorf("%d files are open, and %d before", after, before)
 	}
 	if listener, err = Listen(0); err != nil {
 		t.Skip(err)
 	}
-	if fixture.CountOpened(t, fixture.Any) == before {
+	if fixture.CountOpened(t, fixture.Any) <= before {
 		t.Error("nothing is open")
 	}
 	listener.Close()

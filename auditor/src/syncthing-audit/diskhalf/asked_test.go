@@ -9,6 +9,7 @@ import (
 	"net/http/httptest"
 	"os"
 	"path/filepath"
+	"runtime/debug"
 	"strings"
 	"syscall"
 	"testing"
@@ -85,6 +86,7 @@ func isSocket(path string) bool { return strings.HasPrefix(path, "socket:") }
 
 // Whatever is asked and answered, no connection stays open; and where nobody listens, or it isn't seen who does, that is told.
 func TestNoConnectionStaysOpen(t *testing.T) {
+	defer debug.SetGCPercent(debug.SetGCPercent(-1)) // the collector closes sockets of which nobody knows any more
 	more := strings.Repeat(" ", 1<<20)
 	answering := func(to http.ResponseWriter, asked *http.Request) {
 		io.WriteString(to, `{"state":"idle"}`)

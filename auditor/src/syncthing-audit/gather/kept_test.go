@@ -150,7 +150,7 @@ func TestAGlanceWithoutRoomLeavesNothingOpen(t *testing.T) {
 	device := &Device{Look: &part.Look{}, Folders: []Folder{fillsRoom{directory{aDirectory(t)}, t}, directory{aDirectory(t)}}}
 	before := open()
 	glanced, err := device.Glance()
-	if after := open(); err == nil || glanced != nil || after != before {
+	if after := open(); err == nil || glanced != nil || after > before {
 		t.Errorf("%v, %v: %d files are open, and %d were", glanced, err, after, before)
 	}
 	runtime.KeepAlive(device)

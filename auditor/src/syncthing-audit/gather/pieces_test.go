@@ -120,9 +120,12 @@ func (u unlistable) Patterns() (*ignore.Matcher, error) {
 
 // A glance leaves no file open, neither once it is closed nor where a folder fails.
 func TestNothingIsOpenAfterAGlance(t *testing.T) {
-	t.Setenv("TMPDIR", t.TempDir())
+	room := t.TempDir()
+	t.Setenv("TMPDIR", room)
 	good := directory{aDirectory(t)}
-	open := func() int { return fixture.CountOpened(t, fixture.Any) }
+	open := func() int {
+		return fixture.CountOpened(t, func(path string) bool { return strings.HasPrefix(path, room) })
+	}
 	before := open()
 	glanced, err := (&Device{Look: &part.Look{}, Folders: []Folder{good, good}}).Glance()
 	if err != nil || open() != before+2 {

@@ -83,7 +83,7 @@ func TestNothingIsLeftOpen(t *testing.T) {
 	for _, name := range []string{"pipe", "", "file", "none"} {
 		for most := int64(3); most < 5; most++ {
 			Read(filepath.Join(room, name), most)
-			if after := count(); after != before {
+			if after := count(); after > before {
 				t.Fatalf("%q: %d files are open, and %d were", name, after, before)
 			}
 		}

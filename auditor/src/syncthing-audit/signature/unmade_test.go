@@ -74,7 +74,7 @@ func TestNothingStaysOpen(t *testing.T) {
 	} {
 		before := fixture.CountOpened(t, fixture.Any)
 		err := call()
-		if after := fixture.CountOpened(t, fixture.Any); after != before || (err == nil) == (called == "another's part") {
+		if after := fixture.CountOpened(t, fixture.Any); after > before || (err == nil) == (called == "another's part") {
 			t.Errorf("%s: %d files are open, and %d before: %v", called, after, before, err)
 		}
 	}

@@ -174,7 +174,7 @@ func TestFilesThatAreWhole(t *testing.T) {
 				t.Errorf("%d bytes for %v: %v, %v, %v", len(text), mode, err, unread, about)
 			}
 		}
-		if after := fixture.CountOpened(t, fixture.Any); after != before {
+		if after := fixture.CountOpened(t, fixture.Any); after > before { // an earlier test's may close meanwhile
 			t.Errorf("%d files were open, and %d are", before, after)
 		}
 	}
