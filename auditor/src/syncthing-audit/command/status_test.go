@@ -4,11 +4,8 @@ import (
 	"crypto/sha256"
 	"errors"
 	"io"
-	"os"
-	"path/filepath"
 	"strings"
 	"testing"
-	"time"
 
 	"github.com/syncthing/syncthing/lib/config"
 	"github.com/syncthing/syncthing/lib/protocol"
@@ -19,8 +16,8 @@ import (
 	"syncthing-audit/device"
 	"syncthing-audit/exit"
 	"syncthing-audit/fault"
+	"syncthing-audit/fixture"
 	"syncthing-audit/ownpart"
-	"syncthing-audit/part"
 	"syncthing-audit/target"
 )
 
@@ -29,32 +26,7 @@ func aPart(t *testing.T) string { return aPartOf(t, choice.Names{}) }
 
 // aPartOf writes the same part as one of these names.
 func aPartOf(t *testing.T, names choice.Names) string {
-	path := filepath.Join(t.TempDir(), "one.part")
-	file, err := os.Create(path)
-	if err != nil {
-		t.Fatal(err)
-	}
-	defer file.Close()
-	id := protocol.DeviceID(sha256.Sum256(nil)).String()
-	head := &part.Head{Names: names, Device: id, Made: time.Unix(0, 0).UTC(), Folders: []part.Folder{{ID: "docs",
-		Kind: "send-receive", Directory: id, IndexID: 1, Max: 1}}, Others: []part.Other{}}
-	head.Version = head.DueVersion()
-	content := part.Content{Size: 5, BlockSize: protocol.MinBlockSize, Hash: part.Hash{1}}
-	to, err := part.NewWriter(file, head)
-	for _, line := range []part.Line{{Begin: &part.Begin{Folder: "docs"}},
-		{Name: &part.Name{Name: "a", Own: &part.Record{ModifiedBy: 1, Sequence: 1, Content: &content}, Disk: &part.Node{Size: 5, Contents: []part.Content{content}}}},
-		{End: &part.End{Folder: "docs", Names: 1, Bytes: 5, Max: 1, Last: true}}} {
-		if err == nil {
-			err = to.Take(line)
-		}
-	}
-	if err == nil {
-		err = to.Close()
-	}
-	if err != nil {
-		t.Fatal(err)
-	}
-	return path
+	return fixture.Part(t, protocol.DeviceID(sha256.Sum256(nil)), names)
 }
 
 // A folder that isn't there is refused by each command in the same words, with the same status.

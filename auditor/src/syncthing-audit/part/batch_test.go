@@ -134,6 +134,27 @@ func TestHowManyErrorsAreListed(t *testing.T) {
 	}
 }
 
+// A list of a name may be as long as a list may, and no longer, whichever it is.
+func TestHowLongListsAre(t *testing.T) {
+	for what, field := range map[string]func(count int) []byte{
+		"views": func(count int) []byte { return appendName(nil, &Name{Views: make([]Seen, count)}) },
+		"out":   func(count int) []byte { return appendName(nil, &Name{Out: make([]LeftOut, count)}) },
+		"moved": func(count int) []byte { return appendName(nil, &Name{Moved: make([]string, count)}) },
+		"cuts":  func(count int) []byte { return appendName(nil, &Name{Disk: &Node{Contents: make([]Content, count)}}) },
+		"spans": func(count int) []byte {
+			return appendName(nil, &Name{Differ: &Differ{Ranges: make([][2]int64, count)}})
+		},
+		"counters":       func(count int) []byte { return appendName(nil, &Name{Own: &Record{Version: make(Version, count)}}) },
+		"local counters": func(count int) []byte { return appendName(nil, &Name{Own: &Record{Local: make(Version, count)}}) },
+	} {
+		for _, count := range []int{1, mostOfAList, mostOfAList + 1} {
+			if _, err := new(unpacker).name(field(count)); err != nil != (count > mostOfAList) || err != nil && err != errLongList {
+				t.Errorf("%d %s: %v", count, what, err)
+			}
+		}
+	}
+}
+
 // Permissions count for nothing where either of both says so.
 func TestWhoseConfigurationIgnoresPermissions(t *testing.T) {
 	for _, is := range [][2]bool{{false, false}, {false, true}, {true, false}, {true, true}} {

@@ -114,10 +114,10 @@ func (f *frames) next(most int) (kind byte, text []byte, err error) {
 	kind = there[0]
 	length, digits := binary.Uvarint(there[1:])
 	switch {
-	case digits == 0:
-		return kind, nil, errMiddle
 	case digits < 0:
 		return kind, nil, errors.New("its length is none")
+	case digits == 0:
+		return kind, nil, errMiddle
 	case length > uint64(most):
 		return kind, nil, fmt.Errorf("it has over %d bytes", most)
 	}

@@ -32,7 +32,7 @@ func (l *lines) why(err error) error { return err }
 // read reads a line of at most so many bytes into a value.
 func (l *lines) read(into interface{}, most int) error {
 	text, err := l.from.ReadSlice('\n')
-	if errors.Is(err, bufio.ErrBufferFull) {
+	if err == bufio.ErrBufferFull {
 		text, err = l.readOn(text, most)
 	}
 	if err := whyNoLine(text, err, most); err != nil {
@@ -45,7 +45,7 @@ func (l *lines) read(into interface{}, most int) error {
 // readOn reads the rest of a line, as far as it may go.
 func (l *lines) readOn(begin []byte, most int) ([]byte, error) {
 	whole, err := append([]byte(nil), begin...), bufio.ErrBufferFull
-	for errors.Is(err, bufio.ErrBufferFull) && len(whole) <= most {
+	for err == bufio.ErrBufferFull && len(whole) <= most {
 		var text []byte
 		text, err = l.from.ReadSlice('\n')
 		whole = append(whole, text...)
@@ -63,7 +63,7 @@ func whyNoLine(text []byte, err error, most int) error {
 		return io.EOF
 	case err == io.EOF:
 		return errors.New("its last line isn't whole")
-	case errors.Is(err, bufio.ErrBufferFull):
+	case err == bufio.ErrBufferFull:
 		return fmt.Errorf("it has over %d bytes", most)
 	case err != nil:
 		return fmt.Errorf("it can't be read: %w", err)

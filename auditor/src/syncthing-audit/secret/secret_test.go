@@ -61,6 +61,19 @@ func TestWhatIsOpened(t *testing.T) {
 	}
 }
 
+// What can't fail isn't passed over where it does.
+func TestWhatCannotFail(t *testing.T) {
+	defer func() {
+		if fault := recover(); fault != ErrData {
+			t.Errorf("%v", fault)
+		}
+	}()
+	if sure("a", nil) != "a" {
+		t.Error("another one is given")
+	}
+	t.Errorf("%s is given", sure("b", ErrData))
+}
+
 // Each name comes back, in directories of names that aren't too long; what isn't encrypted with the key is told.
 func TestNames(t *testing.T) {
 	folder, other := key(), new(Key)
