@@ -11,11 +11,11 @@ import (
 const present = 1000
 
 func devices(kinds ...forecast.Kind) []forecast.Device {
-	var made []forecast.Device
+	var devices []forecast.Device
 	for place, kind := range kinds {
-		made = append(made, forecast.Device{Kind: kind, Release: forecast.V1_29, Number: uint64(10 * (place + 1)), MaxConflicts: 10})
+		devices = append(devices, forecast.Device{Kind: kind, Release: forecast.V1_29, Number: uint64(10 * (place + 1)), MaxConflicts: 10})
 	}
-	return made
+	return devices
 }
 
 func node(text string, time int64) *forecast.Node {
@@ -24,19 +24,19 @@ func node(text string, time int64) *forecast.Node {
 
 // world gives a file "a" that all have recorded, and what stands on their disks; nothing without a node.
 func world(of []forecast.Device, disks ...*forecast.Node) forecast.World {
-	made := forecast.Name{Name: "a", Disk: disks}
+	name := forecast.Name{Name: "a", Disk: disks}
 	old := node("old", 5)
 	for i := range of {
 		entry := &forecast.Record{Type: forecast.File, Version: []forecast.Counter{{Device: 10, Value: 7}}, Time: old.Time, Content: old.Content, Mode: old.Mode}
-		made.Own = append(made.Own, entry)
-		made.Views = append(made.Views, make([]*forecast.Record, len(of)))
+		name.Own = append(name.Own, entry)
+		name.Views = append(name.Views, make([]*forecast.Record, len(of)))
 		for j := range of {
 			if j != i {
-				made.Views[i][j] = entry
+				name.Views[i][j] = entry
 			}
 		}
 	}
-	return forecast.World{Devices: of, Names: []forecast.Name{made}}
+	return forecast.World{Devices: of, Names: []forecast.Name{name}}
 }
 
 const (
@@ -63,29 +63,31 @@ var cases = []struct {
 		[]Step{{Touch, 0, 0, "a"}}, nil, 0},
 	{"a deletion prevails where the change is deleted, too", world(devices(both, both), node("new", 60), nil), nil, []Step{{Delete, 0, 0, "a"}}, []string{"new"}, 1},
 	{"a deletion is taken back by a touch", world(devices(both, both), node("old", 5), nil), node("old", 0), []Step{{Touch, 0, 0, "a"}}, nil, 0},
+	{"three steps are a plan, and what it loses rises", world(devices(both, sends, sends, sends), node("old", 5), node("rt3", 5), node("rt1", 5), node("rt2", 5)), node("old", 0),
+		[]Step{{Copy, 1, 0, "a"}, {Copy, 2, 0, "a"}, {Copy, 3, 0, "a"}}, []string{"rt1", "rt2", "rt3"}, 1},
 	{"nobody has the bytes", world(devices(both, both), node("old", 5), node("old", 5)), node("none", 0), nil, nil, 0},
 }
 
 // Each goal has its shortest plan, and the plan says what is lost.
 func TestPlans(t *testing.T) {
-	for _, one := range cases {
-		plans := Search{forecast.New(forecast.Usual), present}.Plans(one.world, Goal{"a", one.goal})
-		if one.steps == nil {
+	for _, row := range cases {
+		plans := Search{forecast.New(forecast.Usual), present}.Plans(row.world, Goal{"a", row.goal})
+		if row.steps == nil {
 			if plans != nil {
-				t.Errorf("%s: %+v", one.why, plans)
+				t.Errorf("%s: %+v", row.why, plans)
 			}
 			continue
 		}
 		if len(plans) == 0 {
-			t.Errorf("%s: no plan", one.why)
+			t.Errorf("%s: no plan", row.why)
 			continue
 		}
 		var lost []string
 		for _, content := range plans[0].Lost {
 			lost = append(lost, content.Hash)
 		}
-		if !reflect.DeepEqual(plans[0].Steps, one.steps) || !reflect.DeepEqual(lost, one.lost) || one.plans > 0 && len(plans) != one.plans {
-			t.Errorf("%s: %d plans, the first is %+v, which loses %v", one.why, len(plans), plans[0].Steps, lost)
+		if !reflect.DeepEqual(plans[0].Steps, row.steps) || !reflect.DeepEqual(lost, row.lost) || row.plans > 0 && len(plans) != row.plans {
+			t.Errorf("%s: %d plans, the first is %+v, which loses %v", row.why, len(plans), plans[0].Steps, lost)
 		}
 	}
 }

@@ -173,7 +173,7 @@ func (p *pull) finish() {
 		if !own.isThere() {
 			continue
 		}
-		own.flag, own.content = MustBeHashed, 0
+		own.flag = MustBeHashed
 		p.put(source.j, source.j, source.n, own)
 		p.scan(source.j, map[int]bool{source.n: true})
 	}

@@ -61,3 +61,19 @@ func TestWhatWasBegunIsDropped(t *testing.T) {
 		t.Errorf("%q: %+v", why, s.at(1, 0))
 	}
 }
+
+// A device that is found to have other bytes than it recorded hashes them at once; one that has no record any more does nothing.
+func TestOtherBytesAreHashedAtOnce(t *testing.T) {
+	l, s := loaded(inStep("a", "old", 3, 5).changed(1, "rot", 5))
+	s, _ = s.withList(1)
+	p := s.newPull(0)
+	p.rescans = []source{{1, 0}, {2, 0}}
+	s.put(2, 2, 0, record{})
+	p.finish()
+	if own := s.own(1, 0); own.flag != Valid || l.content[own.content].Hash != "rot" || counterOf(s.vectors[own.version], s.devices[1].Number) < presentTime {
+		t.Errorf("%+v", own)
+	}
+	if own := s.own(2, 0); own.isThere() {
+		t.Errorf("%+v", own)
+	}
+}
