@@ -38,3 +38,27 @@ func TestKeysOfEnds(t *testing.T) {
 		}
 	}
 }
+
+// States are the same where they have the same up to the last thing that is anything, and where the same devices run.
+func TestStatesThatAreTheSame(t *testing.T) {
+	_, s := loaded(inStep("a", "old", 3, 5))
+	none := &state{machine: s.machine}
+	longer, empty, running, other := s.copied(), &state{machine: s.machine, cells: make([]int32, s.nameCells)}, s.copied(), s.copied()
+	longer.cells = append(longer.cells, make([]int32, s.nameCells)...)
+	running.on = 1 << 2
+	other.remove(2, 0)
+	for why, row := range map[string]struct {
+		one, two *state
+		is       bool
+	}{"one": {s, s, true}, "longer": {s, longer, true}, "empty": {none, empty, true}, "nothing": {s, none, false}, "nothing there": {empty, s, false}, "running": {s, running, false}, "less": {s, other, false}} {
+		if row.one.isSame(row.two) != row.is || row.two.isSame(row.one) != row.is || (row.one.key() == row.two.key()) != row.is {
+			t.Errorf("%s: it is the same: %v", why, !row.is)
+		}
+	}
+	for on := uint32(0); on < 32; on++ {
+		running := s.copied()
+		if running.on = 1 << on; running.key() == s.key() {
+			t.Errorf("whether device %d runs makes no difference", on)
+		}
+	}
+}

@@ -3,11 +3,11 @@ package forecast
 // everything has a scan go over the whole folder.
 var everything map[int]bool
 
-// scan has a device scan its folder, or only these names with what is below them. It says whether that changed a record.
-func (s *state) scan(i int, names map[int]bool) bool {
+// scan has a device scan its folder, or only these names with what is below them.
+func (s *state) scan(i int, names map[int]bool) {
 	names = s.withParents(i, names)
-	changed := s.scanFound(i, names)
-	return s.scanMissing(i, names) || changed
+	s.scanFound(i, names)
+	s.scanMissing(i, names)
 }
 
 // withParents gives for each name the highest directory above it that the device hasn't recorded, or the name: Syncthing's unifySubs.
@@ -55,7 +55,7 @@ func (s *state) globals(i int) globals {
 }
 
 // scanFound takes what stands on the disk.
-func (s *state) scanFound(i int, names map[int]bool) bool {
+func (s *state) scanFound(i int, names map[int]bool) {
 	var found []int
 	for n := range s.names {
 		if what := s.at(i, n); what.isThere() && s.isScanned(n, names) && !s.isUnchanged(i, n, what) {
@@ -63,7 +63,7 @@ func (s *state) scanFound(i int, names map[int]bool) bool {
 		}
 	}
 	if len(found) == 0 {
-		return false
+		return
 	}
 	before := s.globals(i)
 	old := s.copied()
@@ -75,7 +75,6 @@ func (s *state) scanFound(i int, names map[int]bool) bool {
 			s.findRename(i, n, &entry, &r)
 		}
 	}
-	return true
 }
 
 // isUnchanged says whether a scan passes over what it finds.
@@ -136,12 +135,12 @@ type renames struct {
 	old    *state          // as it was when the scan began
 	files  map[int32][]int // those recorded then, by their bytes
 	before globals
-	used   map[int]bool // those that were found, or that are still there
+	used   map[int]bool // those that were found
 }
 
 // findRename takes the record of a file with the same bytes that is gone for deleted.
 func (s *state) findRename(i, n int, entry *record, r *renames) {
-	if entry.kind != File || s.sizes[entry.content] == 0 {
+	if s.sizes[entry.content] == 0 {
 		return
 	}
 	for _, other := range r.files[entry.content] {
@@ -150,7 +149,6 @@ func (s *state) findRename(i, n int, entry *record, r *renames) {
 			s.update(i, other, s.gone(i, other, r.old.own(i, other)), r.before)
 			return
 		}
-		r.used[other] = true
 	}
 }
 
@@ -168,9 +166,8 @@ func (s *state) gone(i, n int, own *record) record {
 }
 
 // scanMissing takes what isn't there any more for deleted.
-func (s *state) scanMissing(i int, names map[int]bool) bool {
+func (s *state) scanMissing(i int, names map[int]bool) {
 	var before globals
-	changed := false
 	for n := range s.names {
 		own := s.own(i, n)
 		if !own.isThere() || !s.isScanned(n, names) || own.deleted && own.flag != LocalChange || s.at(i, n).isThere() {
@@ -179,18 +176,16 @@ func (s *state) scanMissing(i int, names map[int]bool) bool {
 		if before == nil {
 			before = s.globals(i)
 		}
-		if !own.deleted {
+		if own.deleted {
+			s.settle(i, n, own, before)
+		} else {
 			s.update(i, n, s.gone(i, n, own), before)
-			changed = true
-		} else if s.settle(i, n, own, before) {
-			changed = true
 		}
 	}
-	return changed
 }
 
 // settle is what a scan does with a local deletion of a device that only receives, or did.
-func (s *state) settle(i, n int, own *record, before globals) bool {
+func (s *state) settle(i, n int, own *record, before globals) {
 	entry := *own
 	entry.flag = Valid
 	if s.devices[i].Kind == ReceiveOnly {
@@ -198,11 +193,10 @@ func (s *state) settle(i, n int, own *record, before globals) bool {
 		switch {
 		case is && global.flag == LocalChange:
 			s.put(i, i, n, record{})
-			return true
+			return
 		case !is || !global.deleted:
-			return false
+			return
 		}
 	}
 	s.update(i, n, entry, before)
-	return true
 }
