@@ -63,11 +63,13 @@ func TestTheRoomOfAQueue(t *testing.T) {
 	heavy := NewQueue()
 	reserve(t, heavy, 2*MostWaiting)
 	later = awaitRoom(t, heavy, 1)
-	go heavy.End(nil)
-	heavy.Stop()
+	stopped := make(chan bool)
+	go func() { heavy.Stop(); close(stopped) }()
 	if <-later {
 		t.Error("a name is wanted of a queue that was stopped")
 	}
+	heavy.End(nil)
+	<-stopped
 	if next, err := heavy.Next(); next != nil || err != nil {
 		t.Errorf("%+v, %v", next, err)
 	}
