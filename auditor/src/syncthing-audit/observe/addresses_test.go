@@ -4,6 +4,7 @@ import (
 	"os"
 	"path/filepath"
 	"reflect"
+	"strings"
 	"testing"
 )
 
@@ -36,7 +37,7 @@ func TestAddresses(t *testing.T) {
 	if err := os.WriteFile(filepath.Join(home, nameOfAddresses), []byte("none"), 0o600); err != nil {
 		t.Fatal(err)
 	}
-	if _, err := OpenAddresses(home); err == nil {
-		t.Error("what is no list is read")
+	if _, err := OpenAddresses(home); err == nil || !strings.HasPrefix(err.Error(), "addresses.json is damaged (") {
+		t.Errorf("what is no list is read: %v", err)
 	}
 }

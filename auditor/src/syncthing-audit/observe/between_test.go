@@ -211,6 +211,14 @@ func TestWhatABudgetChooses(t *testing.T) {
 			t.Errorf("%+v: %q, %d bytes: %v, %v", row, told, bytes, err, wanted)
 		}
 	}
+	gone, err := budget.Make(context.Background(), past, nil, budget.Asked{Room: t.TempDir()})
+	if err != nil {
+		t.Fatal(err)
+	}
+	gone.Close()
+	if bytes, err := device.Wanted(Asked{Chosen: gone}); err == nil || bytes != 0 {
+		t.Errorf("by a plan that is closed: %d, %v", bytes, err)
+	}
 	if err := folder.disks.put("a", disk{Node: &part.Node{Size: 3}}); err != nil {
 		t.Fatal(err)
 	}

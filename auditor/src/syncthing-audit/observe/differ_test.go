@@ -56,4 +56,20 @@ func TestWhatIsAskedForAfterAWalk(t *testing.T) {
 	if len(all.found) != mostDiffering {
 		t.Errorf("%d files", len(all.found))
 	}
+	large, names := &Walked{Folder: "docs"}, []string{"half", "other half", "small"}
+	sizes := map[string]int64{"half": mostBytesOfDiffering / 2, "other half": mostBytesOfDiffering / 2, "small": 1}
+	folder = seenIn(t, "docs", map[string][]byte{"half": cutFile("half", 1, sizes["half"], 16<<20), "other half": cutFile("other half", 2, sizes["other half"], 16<<20), "small": cutFile("small", 3, 1, protocol.MinBlockSize)})
+	for _, name := range names { // these two are as many bytes as there may be
+		entry, _, err := folder.index.Get(name)
+		if err != nil || entry.Record == nil || entry.Record.Content == nil {
+			t.Fatal(name, entry.Out, err)
+		}
+		content := part.Content{Size: sizes[name], BlockSize: entry.Record.Content.BlockSize, Hash: part.Hash{9}}
+		if err := large.Walk(folder, &part.Name{Name: part.Bytes(name), Disk: &part.Node{Size: sizes[name], ModifiedS: entry.Record.ModifiedS, Contents: []part.Content{content}}}); err != nil {
+			t.Fatal(err)
+		}
+	}
+	if _, is := large.found["small"]; is || len(large.found) != 2 || large.bytes != mostBytesOfDiffering {
+		t.Errorf("%v, %d bytes", large.found, large.bytes)
+	}
 }

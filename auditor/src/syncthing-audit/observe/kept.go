@@ -123,7 +123,7 @@ func (k *Kept) Finish() error {
 // WentBackFrom gives the highest sequence of the last index, if the device has gone back since: it gives that index's sequences anew. It gives 0 if
 // it hasn't, or if its index was made anew under another id.
 func (k *Kept) WentBackFrom() (int64, error) {
-	if k.last.Highest == 0 || k.last.ID != k.next.ID {
+	if k.last.ID != k.next.ID {
 		return 0, nil
 	}
 	if k.next.Highest < k.last.Highest {

@@ -2,6 +2,7 @@ package observe
 
 import (
 	"errors"
+	"fmt"
 	"reflect"
 	"testing"
 
@@ -59,5 +60,23 @@ func TestVersionsOfLocalChanges(t *testing.T) {
 	}
 	if err := folder.AskLocal(nil, func(string, string) (int64, []string, error) { return 0, nil, errors.New("no answer") }); err == nil {
 		t.Error("no answer is one")
+	}
+}
+
+// Of very many local changes some are asked about.
+func TestVeryManyLocalChanges(t *testing.T) {
+	folder, texts := &Folder{of: protocol.DeviceID{1}, index: wire.NewIndex(1)}, [][]byte{}
+	for number := 1; number <= 1003; number++ {
+		text := message.AppendNumber(message.AppendText(nil, message.FileName, []byte(fmt.Sprint(number))), message.FileDeleted, 1)
+		text = message.AppendNumber(message.AppendNumber(text, message.FileInvalid, 1), message.FileSequence, uint64(number))
+		texts = append(texts, message.AppendNumber(text, message.FileModifiedBy, 7))
+	}
+	if err := folder.index.Put(texts...); err != nil {
+		t.Fatal(err)
+	}
+	asked := 0
+	err := folder.AskLocal(nil, func(string, string) (int64, []string, error) { asked++; return 0, nil, nil })
+	if err != nil || asked != 1000 || len(folder.locals) != 0 {
+		t.Errorf("%d are asked about, %v", asked, err)
 	}
 }

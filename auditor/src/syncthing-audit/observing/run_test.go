@@ -222,3 +222,14 @@ func TestWhatALookLeavesOut(t *testing.T) {
 	here.expect("gone between the looks", exit.Partial, here.asked.Parts[1]+": second look: ", "hashed on device a;", "left out: ")
 	here.expect("gone from the start", exit.Refused, here.asked.Parts[1]+": not connected: ", "not all devices could be asked")
 }
+
+// A device that says it shares a folder with a device without an id costs its own part alone.
+func TestADeviceThatNamesNobody(t *testing.T) {
+	here := newWorld(t, 2, map[string]string{"a": "text"})
+	pages := here.withPages()
+	here.devices[1].Change(func(state *stranger.State) { state.Others = append(state.Others, protocol.Device{Name: "nobody"}) })
+	here.expect("nobody", exit.Partial, here.asked.Parts[1]+": not connected: "+string(wire.BadMessage)+": its ClusterConfig: a device without an id", "hashed on device a;")
+	if pages[0].takeScanned() != "" {
+		t.Error("a scan is asked for")
+	}
+}

@@ -180,7 +180,11 @@ func sharingOf(text []byte) (sharing Sharing, token []byte, err error) {
 		}
 		return nil
 	})
-	if err == nil && sharing.Sequence < 0 {
+	switch {
+	case err != nil:
+	case sharing.Device == protocol.EmptyDeviceID: // it has no letters, by which a device is told
+		err = errors.New("a device without an id")
+	case sharing.Sequence < 0:
 		err = fmt.Errorf("a highest sequence of %d", sharing.Sequence)
 	}
 	return sharing, token, err

@@ -1,6 +1,7 @@
 package wire
 
 import (
+	"bytes"
 	"context"
 	"errors"
 	"fmt"
@@ -140,7 +141,7 @@ func TestHowManyRequestsALookTakes(t *testing.T) {
 // A token of no letters is no password's.
 func TestATokenOfNothing(t *testing.T) {
 	for text, is := range map[string]bool{"": false, "\x52\x00": false, "\x52\x01x": true} {
-		if sharing, token, err := sharingOf(append(message.AppendNumber(nil, deviceSequence, 1), text...)); err != nil || sharing.Encrypted != is || (len(token) > 0) != is {
+		if sharing, token, err := sharingOf(append(message.AppendText(nil, deviceID, bytes.Repeat([]byte{1}, 32)), text...)); err != nil || sharing.Encrypted != is || (len(token) > 0) != is {
 			t.Errorf("%q: %+v, %q, %v", text, sharing, token, err)
 		}
 	}

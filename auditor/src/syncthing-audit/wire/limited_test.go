@@ -9,23 +9,24 @@ import (
 
 	"github.com/syncthing/syncthing/lib/protocol"
 	entries "syncthing-audit/device"
+	"syncthing-audit/message"
 )
 
 // An index is taken up to its limits, to the byte and the record, also in several messages, and refused by one more.
 func TestAnIndexUpToItsLimits(t *testing.T) {
-	message := indexOf("docs", file{name: "a", sequence: 1}, file{name: "b", sequence: 2})
+	text := indexOf("docs", file{name: "a", sequence: 1}, file{name: "b", sequence: 2})
 	for _, row := range []struct {
 		limits Limits
 		err    error
 	}{
-		{Limits{Index: int64(len(message)), Records: 2, Name: 1}, nil}, {Limits{Index: int64(len(message)) - 1, Records: 2, Name: 1}, TooLarge}, {Limits{Index: 1000, Records: 1, Name: 1}, TooManyRecords},
+		{Limits{Index: int64(len(text)), Records: 2, Name: 1}, nil}, {Limits{Index: int64(len(text)) - 1, Records: 2, Name: 1}, TooLarge}, {Limits{Index: 1000, Records: 1, Name: 1}, TooManyRecords},
 	} {
 		limits, spent := row.limits, new(spent)
 		taker := &taker{folder: "docs", limits: &limits, spent: spent, index: NewIndex(42)}
-		if err := taker.take(message, false); !errors.Is(err, row.err) {
+		if err := taker.take(text, false); !errors.Is(err, row.err) {
 			t.Errorf("%+v: %v", row.limits, err)
 		}
-		if err := taker.take(message, false); err == nil {
+		if err := taker.take(text, false); err == nil {
 			t.Errorf("%+v: it is taken twice", row.limits)
 		}
 	}
@@ -59,11 +60,17 @@ func TestNothingGoesOnBehindALook(t *testing.T) {
 	}
 }
 
-// What a device says of its own sequence, below 0, is refused as a message that can't be read; none is 0.
+// A device is told with its sequence, which is 0 where none is told; one without an id is refused, as nothing else names it.
 func TestSequencesOfDevices(t *testing.T) {
 	for text, due := range map[string]int64{"": 0, "\x30\x07": 7, "\x30\x00": 0} {
-		if sharing, _, err := sharingOf([]byte(text)); err != nil || sharing.Sequence != due || sharing.Device != (protocol.DeviceID{}) {
+		id := protocol.DeviceID{1}
+		if sharing, _, err := sharingOf(append(message.AppendText(nil, deviceID, id[:]), text...)); err != nil || sharing.Sequence != due || sharing.Device != id {
 			t.Errorf("%q: %+v, %v", text, sharing, err)
+		}
+		for _, none := range [][]byte{nil, make([]byte, 32)} {
+			if _, _, err := sharingOf(append(message.AppendText(nil, deviceID, none), text...)); err == nil || err.Error() != "a device without an id" {
+				t.Errorf("%q, id %x: %v", text, none, err)
+			}
 		}
 	}
 }

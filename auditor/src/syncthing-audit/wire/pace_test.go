@@ -5,12 +5,16 @@ import (
 	"errors"
 	"fmt"
 	"math"
+	"os"
+	"path/filepath"
 	"strings"
 	"sync/atomic"
 	"testing"
 	"time"
 
+	"github.com/syncthing/syncthing/lib/protocol"
 	"syncthing-audit/device"
+	"syncthing-audit/fixture"
 	"syncthing-audit/message"
 )
 
@@ -193,6 +197,26 @@ func TestUsualPace(t *testing.T) {
 	}
 	if Usual.Grace > time.Hour || Usual.IndexWhole > 2*time.Hour || Usual.BytesWhole > 48*time.Hour || Usual.LeastSteps < 0.5 || Usual.LeastBytes < 1<<10 {
 		t.Errorf("a device holds the run up: %+v", Usual)
+	}
+}
+
+// The usual limits are those that the page of the wire tells, and go with the times by which Syncthing itself keeps a connection.
+func TestTheLimitsThatThePageTells(t *testing.T) {
+	text, err := os.ReadFile(filepath.Join(fixture.Top(t), "docs/wire.md"))
+	if err != nil {
+		t.Fatal(err)
+	}
+	for told, is := range map[string]bool{
+		"messages of 64 MiB": Usual.Message == 64<<20, "ten million records": Usual.Records == 1e7, "two minutes for an answer": Usual.Answer == 2*time.Minute,
+		"two hours for an index": Usual.IndexWhole == 2*time.Hour, "two days for all bytes": Usual.BytesWhole == 48*time.Hour, "After ten minutes a device": Usual.Grace == 10*time.Minute,
+		"one record or answer a second": Usual.LeastSteps == 1, "or 16 KiB": Usual.LeastBytes == 16<<10,
+	} {
+		if !is || !strings.Contains(string(text), told) {
+			t.Errorf("%q isn't so, or isn't told", told)
+		}
+	}
+	if Usual.Silence != protocol.ReceiveTimeout || Usual.Ping >= protocol.PingSendInterval || Usual.Ping < protocol.PingSendInterval/2 || Usual.Frame >= Usual.Silence {
+		t.Errorf("%+v", Usual)
 	}
 }
 
