@@ -66,6 +66,7 @@ var restless = []struct {
 	{"one disk lacks it", func(row *join.Row) { row.At[1].Disk = nil }},
 	{"other bytes", func(row *join.Row) { row.At[1].Disk.Contents[0].Hash[0] = 9 }},
 	{"another time", func(row *join.Row) { row.At[0].Disk.ModifiedS = 101 }},
+	{"a nanosecond later", func(row *join.Row) { row.At[0].Disk.ModifiedNs = 1 }},
 	{"another mode", func(row *join.Row) { row.At[0].Own.Permissions, row.At[1].Own.Permissions = &permissions, &permissions }},
 	{"another version", func(row *join.Row) { row.At[1].Own.Version = [][2]uint64{{1, 2}} }},
 	{"a deletion", func(row *join.Row) { delete(row, 1) }},
@@ -330,27 +331,32 @@ func TestOptions(t *testing.T) {
 // Devices of which one shares the folder with all others, and these with that one alone, are foretold. What the others know of each other from before
 // counts for nothing.
 func TestAHub(t *testing.T) {
-	folder := folderOf(3)
-	for _, member := range []int{1, 2} {
-		folder.Members[member].About.Sharing = []part.Sharing{{Device: id(0)}}
-	}
-	rows := NewRows(folder)
-	if devices := rows.World().Devices; len(rows.All) > 0 || devices[0].Apart != 0 || devices[1].Apart != 1<<2 || devices[2].Apart != 1<<1 {
-		t.Errorf("%+v, %+v", rows.All, devices)
-	}
-	row := &join.Row{Name: "a"}
-	for place, member := range folder.Members {
-		at := calm("a", nil).At[0]
-		at.Views = nil
-		for view := range member.About.Views {
-			if place == 0 || view == 0 {
-				at.Views = append(at.Views, part.Seen{View: view, Record: told(nil)})
+	for hub := 0; hub < 3; hub++ {
+		folder, row := folderOf(3), &join.Row{Name: "a"}
+		for place, member := range folder.Members {
+			if place != hub {
+				member.About.Sharing = []part.Sharing{{Device: id(hub)}}
+			}
+			at := calm("a", nil).At[0]
+			at.Views = nil
+			for view, of := range member.About.Views {
+				known := told(nil)
+				if place != hub && of.Device != id(hub) {
+					known.Version = [][2]uint64{{1, 9}}
+				}
+				at.Views = append(at.Views, part.Seen{View: view, Record: known})
+			}
+			row.At = append(row.At, at)
+		}
+		rows := NewRows(folder)
+		for place, device := range rows.World().Devices {
+			if apart := forecast.Places(7 &^ (1 << hub) &^ (1 << place)); len(rows.All) > 0 || place != hub && device.Apart != apart || place == hub && device.Apart != 0 {
+				t.Errorf("hub %d: %+v, %+v", hub, rows.All, device)
 			}
 		}
-		row.At = append(row.At, at)
-	}
-	rows.Take(row)
-	if world := rows.World(); len(world.Names) != 0 {
-		t.Errorf("%+v isn't at rest", world.Names)
+		rows.Take(row)
+		if world := rows.World(); len(world.Names) != 0 {
+			t.Errorf("hub %d: %+v isn't at rest", hub, world.Names)
+		}
 	}
 }

@@ -1,0 +1,215 @@
+package places
+
+import (
+	"encoding/json"
+	"fmt"
+	"io"
+	"os"
+	"path/filepath"
+	"strings"
+	"testing"
+	"time"
+
+	"syncthing-audit/commandline"
+	"syncthing-audit/device"
+	"syncthing-audit/exit"
+	"syncthing-audit/finding"
+	"syncthing-audit/looks"
+	"syncthing-audit/part"
+)
+
+// The machine of a place stands before a colon that comes before any slash.
+func TestMachinesOfPlaces(t *testing.T) {
+	for word, due := range map[string]string{"laptop:": "laptop", "ann@laptop:home": "ann@laptop", "laptop:/srv/a:b": "laptop", "/srv/a:b": "", "./a:b": "", "laptop": "", "": ""} {
+		if host := HostOf(word); host != due {
+			t.Errorf("%q: %q, not %q", word, host, due)
+		}
+	}
+}
+
+// Words that name no place are refused, as are paths of a home, or its database, that isn't named.
+func TestWordsThatNameNoPlace(t *testing.T) {
+	room := t.TempDir()
+	for place, row := range []struct {
+		word, data string
+		maps       device.Maps
+		told       string
+	}{
+		{":", "", nil, `":" names no machine`}, {"-x:", "", nil, `"-x:" names no machine`}, {"laptop:", "data", nil, `--data behind "laptop:" says where`},
+		{"laptop:", "", device.Maps{{From: "/a", To: "/b"}}, `--map behind "laptop:" says where`}, {"laptop:home", "data", device.Maps{{From: "/a", To: "/b"}}, ""},
+		{room, "data", device.Maps{{From: "/a", To: "/b"}}, ""}, {"laptop:", "", nil, ""},
+	} {
+		_, err := placesOf(commandline.Options{Parts: []string{row.word}, Data: map[int]string{0: row.data}, Maps: map[int]device.Maps{0: row.maps}})
+		if (err != nil) != (row.told != "") || err != nil && !strings.Contains(err.Error(), row.told) {
+			t.Errorf("%d: %v", place, err)
+		}
+	}
+}
+
+// What is asked for goes to each command that it concerns, and to no other one.
+func TestWhatIsAskedOfADevice(t *testing.T) {
+	there := &place{self: "here", given: "home", home: "home", maps: device.Maps{{From: "/a", To: "/b"}}}
+	for why, row := range map[string]struct {
+		asked             commandline.Options
+		about, begin, end string
+	}{
+		"nothing": {commandline.Options{}, "", "", ""},
+		"a scan":  {commandline.Options{Rescan: true}, " --rescan", " --rescan", ""},
+		"jobs":    {commandline.Options{Jobs: 3, HasJobs: true}, "", " --jobs 3", ""},
+		"usual":   {commandline.Options{Jobs: 3}, "", "", ""},
+	} {
+		const of = " --home home --map /a=/b --paths -o -"
+		due := "here part --about" + row.about + of + "|nice -n 19 here part --begin" + row.begin + of + "|here part --end --tokens - --leave-out absent" + row.end + of
+		told := strings.Join(there.about(row.asked), " ") + "|" + strings.Join(there.begin(row.asked), " ") + "|" + strings.Join(there.end(row.asked), " ")
+		if told != due {
+			t.Errorf("%s: %q, not %q", why, told, due)
+		}
+	}
+}
+
+// All of what a failed command said is shown, up to twice as much as of a longer one is shown at each of its ends.
+func TestHowMuchIsShown(t *testing.T) {
+	text := strings.Repeat("a", mostShown) + strings.Repeat("b", mostShown)
+	for _, most := range []string{"", "a", text} {
+		if shown(most) != most {
+			t.Errorf("%d bytes are cut", len(most))
+		}
+	}
+	if told := shown(text[:mostShown] + "x" + text[mostShown:]); told != text[:mostShown]+" [1 bytes more] "+text[mostShown:] {
+		t.Errorf("%q", told)
+	}
+}
+
+// The second look waits from when the last of the first ones was over, and the cluster was still from then until the first of the second ones began.
+func TestHowLongItWasStill(t *testing.T) {
+	at := time.Unix(1700000000, 0)
+	for _, order := range [][]int{{0, 1, 2}, {2, 1, 0}, {1, 2, 0}} {
+		run := &running{began: at.Add(9 * time.Second)}
+		for _, seconds := range order {
+			run.places = append(run.places, &place{looked: at.Add(time.Duration(seconds) * time.Second)})
+		}
+		if last := run.lastLook(); !last.Equal(at.Add(2 * time.Second)) {
+			t.Errorf("%v: %v", order, last)
+		}
+		answer := &finding.Answer{Folders: []*finding.Folder{{Live: &finding.Live{Seconds: 77}}, {}}}
+		if run.time(answer); answer.Folders[0].Live.Seconds != 7 || !answer.Folders[0].Live.Timed || answer.Folders[1].Live != nil {
+			t.Errorf("%+v", answer.Folders[0].Live)
+		}
+	}
+}
+
+// A place that is left out is told with its device: as it said, or as it is kept, or by the key of a home here.
+func TestPlacesThatAreLeftOut(t *testing.T) {
+	said, kept, home := &place{given: "laptop:", host: "laptop", device: idAt(1)}, &place{given: "nas:b", host: "nas", home: "b"}, &place{given: "/none", home: "/none"}
+	run := &running{places: []*place{said, kept, home, {given: "on:", host: "on"}}, known: &knownDevices{ids: map[string]string{"nas:b": idAt(2), "laptop:": idAt(3), "/none": idAt(4), ":/none": idAt(5)}}, log: io.Discard}
+	for at := 0; at < 3; at++ {
+		run.leaveOut(at, "first look", fmt.Errorf("why %d", at))
+	}
+	told := ""
+	for _, left := range run.left() {
+		told += left.Called + " " + left.Device + " " + left.Why + "|"
+	}
+	if told != "laptop "+idAt(1)+" why 0|nas:b "+idAt(2)+" why 1|/none  why 2|" || fmt.Sprint(run.present()) != "[3]" {
+		t.Errorf("%q, %v", told, run.present())
+	}
+}
+
+// A person is told each step; a machine's own words are told behind its name. What was opened for a look is closed behind it.
+func TestStepsOfALook(t *testing.T) {
+	m := newMachines(t)
+	for _, which := range []string{"begin", "end"} {
+		m.write("nas-"+which+".says", "syncthing-audit: slow\nunsaid\n")
+	}
+	there, err := placesOf(m.asked)
+	if err != nil {
+		t.Fatal(err)
+	}
+	var log, progress strings.Builder
+	before := countOfFiles(t)
+	for round := 0; round < 3; round++ {
+		run := &running{asked: m.asked, places: there, room: t.TempDir(), log: &log, progress: &progress}
+		if err := run.begin(1); err != nil {
+			t.Fatal(err)
+		}
+		if err := run.end(1); err != nil {
+			t.Fatal(err)
+		}
+	}
+	if due := strings.Repeat("syncthing-audit: nas:/srv/home: slow\n", 6); log.String() != due {
+		t.Errorf("%q, not %q", log.String(), due)
+	}
+	for _, which := range []string{"first", "second"} {
+		if told := strings.Count(progress.String(), "syncthing-audit: nas:/srv/home: "+which+" look done in "); told != 3 {
+			t.Errorf("%d of 3 are told: %q", told, progress.String())
+		}
+	}
+	if after := countOfFiles(t); after > before {
+		t.Errorf("%d files more are open than before", after-before)
+	}
+}
+
+func countOfFiles(t *testing.T) int {
+	open, err := os.ReadDir("/proc/self/fd")
+	if err != nil {
+		t.Skip(err)
+	}
+	return len(open)
+}
+
+// The answer names places, and how long the cluster was still by this machine's clock. Second looks are given a token of each device that keeps no files.
+func TestWhatARunTells(t *testing.T) {
+	m := newMachines(t)
+	m.asked.Observers = []string{idAt(7)}
+	answer, _, status, err := m.run()
+	if err != nil || status != exit.Done || !strings.Contains(answer, "still for 0 s") {
+		t.Errorf("status %d, %v: %s", status, err, answer)
+	}
+	if tokens := m.read("nas-tokens"); !strings.HasSuffix(tokens, looks.Token(idAt(7), strings.Repeat("0", 32))+"\n") || strings.Count(tokens, "\n") != 3 {
+		t.Errorf("%q", tokens)
+	}
+	m.asked.Lines = true
+	_, told, _, err := m.run()
+	if err != nil || !strings.Contains(told, "device 1 is "+idAt(1)+" (laptop:)") || !strings.Contains(told, "device 2 is "+idAt(2)+" (nas:/srv/home)") {
+		t.Errorf("%v: %s", err, told)
+	}
+	m.asked.Lines, m.asked.JSON = false, true
+	answer, _, _, err = m.run()
+	var said struct{ Devices []struct{ ID, From string } }
+	if json.Unmarshal([]byte(answer), &said) != nil || err != nil || fmt.Sprint(said.Devices) != fmt.Sprintf("[{%s laptop:} {%s nas:/srv/home}]", idAt(1), idAt(2)) {
+		t.Errorf("%v: %s", err, answer)
+	}
+	m.asked.JSON = false
+	text := m.read("laptop-end")
+	m.write("laptop-end", text[:len(text)-9])
+	if answer, _, status, err = m.run(); err == nil || status != 0 || answer != "" || !strings.Contains(err.Error(), "laptop:") || strings.Contains(err.Error(), ".part") {
+		t.Errorf("status %d, %v: %s", status, err, answer)
+	}
+}
+
+// A part of an older program, which doesn't say what else is shared, is taken for all that is where all folders were asked for.
+func TestPartsOfAnOlderProgram(t *testing.T) {
+	m := newMachines(t)
+	for place := range namesOfMachines {
+		for _, which := range []string{"begin", "end"} {
+			m.look(place, which, func(head *part.Head, _ *part.Name) { head.Others = nil })
+		}
+	}
+	answer, _, status, err := m.run()
+	if err != nil || status != exit.Done {
+		t.Errorf("of all folders: status %d, %v: %s", status, err, answer)
+	}
+	m.asked.Folders = []string{"docs"}
+	if of, _, status, err := m.run(); err != nil || of == answer {
+		t.Errorf("of one: status %d, %v: %s", status, err, of)
+	}
+}
+
+// Where nobody knows where the user's files are, nobody is known: that refuses a run of other machines.
+func TestARunWithoutAHome(t *testing.T) {
+	m := newMachines(t)
+	t.Setenv("HOME", "")
+	t.Setenv("XDG_STATE_HOME", filepath.Join(m.room, "state"))
+	if answer, _, status, err := m.run(); err == nil || status != 0 || answer != "" || m.read("nas-asked") != "" {
+		t.Errorf("status %d, %v: %s", status, err, answer)
+	}
+}
