@@ -14,13 +14,11 @@ func runWatch(words []string, output, log io.Writer) (int, error) {
 		commandline.ProgramFlag(flags, read)
 		commandline.StillFlag(flags, read)
 	})
-	switch {
-	case err != nil:
+	if err == nil && len(asked.Parts) != 1 {
+		err = commandline.WrongUse("'watch' has one file: the configuration")
+	}
+	if err != nil {
 		return 0, err
-	case len(asked.Parts) != 1:
-		return 0, commandline.WrongUse("'watch' has one file: the configuration")
-	case len(asked.Homes)+len(asked.Folders) > 0 || !asked.Names.IsAll():
-		return 0, commandline.WrongUse("--home, --folder, --names and --slice aren't for 'watch': the configuration names devices, folders and slices")
 	}
 	return night.Run(asked, output, log)
 }
