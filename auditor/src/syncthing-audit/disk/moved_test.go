@@ -166,7 +166,9 @@ func TestAFileWithALease(t *testing.T) {
 	if err := lease(syscall.F_WRLCK); err != 0 {
 		t.Skip("no lease is to be had here: ", err)
 	}
+	given := make(chan struct{})
 	go func() {
+		defer close(given)
 		<-asked
 		lease(syscall.F_UNLCK)
 	}()
@@ -175,6 +177,9 @@ func TestAFileWithALease(t *testing.T) {
 	if _, _, _, err := pool.Begin(file).Wait(); err != nil {
 		t.Error(err)
 	}
+	signal.Stop(asked)
+	close(asked)
+	<-given
 }
 
 // openedIn counts this process's open files in a directory.

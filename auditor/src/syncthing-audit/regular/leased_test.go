@@ -31,7 +31,10 @@ func TestAFileThatIsLeased(t *testing.T) {
 	if _, err := unix.FcntlInt(holder.Fd(), unix.F_SETLEASE, unix.F_WRLCK); err != nil {
 		t.Skip(err)
 	}
+	given := make(chan struct{})
+	defer func() { <-given }()
 	go func() {
+		defer close(given)
 		select {
 		case <-asked:
 		case <-time.After(10 * time.Second):
