@@ -7,6 +7,8 @@ import (
 	"fmt"
 	"io"
 	"net"
+	"os"
+	"path/filepath"
 	"strings"
 	"testing"
 	"time"
@@ -20,7 +22,7 @@ import (
 )
 
 // announce sends an announcement, as a device in this network does, until a channel is closed: one may be lost.
-func announce(t *testing.T, port int, id protocol.DeviceID, address string, until <-chan struct{}) {
+func announce(t *testing.T, port int, id protocol.DeviceID, address string, until <-chan struct{}, more ...string) {
 	sender, err := net.DialUDP("udp4", nil, &net.UDPAddr{IP: net.IPv4(127, 0, 0, 1), Port: port})
 	if err != nil {
 		t.Error(err)
@@ -28,6 +30,9 @@ func announce(t *testing.T, port int, id protocol.DeviceID, address string, unti
 	}
 	defer sender.Close()
 	packet := message.AppendText(message.AppendText(binary.BigEndian.AppendUint32(nil, 0x2EA7D90B), 1, id[:]), 2, []byte("tcp://"+address))
+	for _, other := range more {
+		packet = message.AppendText(packet, 2, []byte("tcp://"+other))
+	}
 	for {
 		_, _ = sender.Write(packet) // it isn't heard yet
 		select {
@@ -111,6 +116,21 @@ func TestADeviceThatMoved(t *testing.T) {
 	given := here.asked.Parts[0]
 	here.asked.Parts = []string{device.ID.String()}
 	here.expect("announced", exit.Partial, inStep)
+	heard, err := net.ListenPacket("udp4", fmt.Sprint(":", portOfAnnouncements))
+	if err != nil {
+		t.Errorf("it is heard still: %v", err)
+	} else {
+		heard.Close()
+	}
+	kept := filepath.Join(here.asked.Homes[0], "addresses.json")
+	text, err := os.ReadFile(kept)
+	if err == nil {
+		err = os.WriteFile(kept, []byte(strings.ReplaceAll(string(text), device.Address, "127.0.0.1:1")), 0o600)
+	}
+	if err != nil {
+		t.Fatal(err)
+	}
+	here.expect("elsewhere than it was", exit.Partial, inStep)
 	close(until)
 	timeToAnnounce = time.Millisecond
 	here.expect("where it was", exit.Partial, inStep)
@@ -120,6 +140,66 @@ func TestADeviceThatMoved(t *testing.T) {
 	here.expect("gone from where it is said to be", exit.Refused, "not connected: "+string(wire.Unreached), "connection refused")
 	here.asked.Parts = []string{protocol.DeviceID{9}.String()}
 	here.expect("never there", exit.Refused, "not connected: "+string(wire.Unreached)+": it doesn't announce itself in this network")
+}
+
+// A device that is there and doesn't share the folder isn't looked for elsewhere, whether it is where it was or where it announces itself.
+func TestADeviceThatIsThereIsNotElsewhere(t *testing.T) {
+	hurry(t)
+	timeToAnnounce = 20 * time.Second
+	here := newWorld(t, 1, map[string]string{"a": "text"})
+	device := here.devices[0]
+	defer func(had int) { portOfAnnouncements = had }(portOfAnnouncements)
+	portOfAnnouncements = freePort(t)
+	until := make(chan struct{})
+	defer close(until)
+	go announce(t, portOfAnnouncements, device.ID, device.Address, until, device.Address)
+	here.asked.Parts = []string{device.ID.String()}
+	for _, why := range []string{"announced", "where it was"} {
+		count := 0
+		device.Change(func(state *stranger.State) {
+			state.Closes = func(int) bool { count++; state.Hidden["docs"] = count == 1; return false }
+		})
+		here.expect(why, exit.Refused, "not connected: "+string(wire.NotShared))
+		if count != 1 {
+			t.Errorf("%s: %d connections", why, count)
+		}
+		here.expect("it shares then", exit.Partial, inStep)
+	}
+}
+
+// manyListener gives very many connections that end at once, and then waits until it is closed.
+type manyListener struct {
+	failingListener
+	left int
+}
+
+func (m *manyListener) Accept() (net.Conn, error) {
+	if m.left > 0 {
+		m.left--
+		return &closing{closed: make(chan struct{})}, nil
+	}
+	return m.failingListener.Accept()
+}
+
+// However many connections come and go, later ones are taken.
+func TestVeryManyConnections(t *testing.T) {
+	observer, err := wire.Create(filepath.Join(t.TempDir(), "observer"))
+	if err != nil {
+		t.Fatal(err)
+	}
+	listener := &manyListener{failingListener{waits: make(chan struct{}), isEnded: make(chan struct{})}, 3 * mostIncoming}
+	ended := make(chan struct{})
+	go func() {
+		(&observing{incoming: listener, observer: observer, isBegun: map[protocol.DeviceID]bool{}}).accept()
+		close(ended)
+	}()
+	select {
+	case <-listener.waits:
+	case <-time.After(60 * time.Second):
+		t.Fatal("it takes no connection any more")
+	}
+	close(listener.isEnded)
+	<-ended
 }
 
 // meeting is a run that may meet devices, up to the moment at which it connects to them.

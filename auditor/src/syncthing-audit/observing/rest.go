@@ -53,7 +53,6 @@ func (o *observing) keyOfRest(at int) string { return o.addresses[at].given + " 
 func (o *observing) dropRest(at int, what string, err error) {
 	o.asking.mutex.Lock()
 	o.asking.out[at] = true
-	delete(o.asking.told, at)
 	o.asking.mutex.Unlock()
 	o.mutex.Lock()
 	defer o.mutex.Unlock()

@@ -1,6 +1,9 @@
 package observing
 
 import (
+	"errors"
+	"fmt"
+	"io"
 	"os"
 	"path/filepath"
 	"strings"
@@ -10,6 +13,7 @@ import (
 	"syncthing-audit/exit"
 	"syncthing-audit/fixture"
 	"syncthing-audit/fixture/stranger"
+	"syncthing-audit/observe"
 )
 
 // Where a run's own files can't be read or written it is told, whichever they are. An answer that came is told all the same.
@@ -32,7 +36,24 @@ func TestFilesOfARunThatFail(t *testing.T) {
 		"no place for addresses": {between: func(w *world) { _ = os.Mkdir(w.asked.Homes[0]+"/addresses.json", 0o700) }, words: []string{"addresses.json"}, isTold: true},
 		"no place for indexes":   {between: func(w *world) { _ = os.RemoveAll(w.asked.Homes[0] + "/indexes") }, words: []string{"no such file"}, isTold: true},
 		"no place for files":     {before: func(w *world) error { t.Setenv("TMPDIR", "/nowhere"); return nil }, words: []string{"/nowhere"}},
-		"a history of another":   {before: func(w *world) error { w.asked.History = w.asked.Homes[0] + "/cert.pem"; return nil }, words: []string{"cert.pem"}},
+		"no place for files beside parts": {before: func(w *world) error {
+			w.asked.Into = filepath.Join(filepath.Dir(w.asked.Homes[0]), "into")
+			t.Setenv("TMPDIR", "/nowhere")
+			return nil
+		}, words: []string{"/nowhere"}},
+		"another run": {before: func(w *world) error {
+			w.expect("the first run", exit.Partial, inStep)
+			paths, err := filepath.Glob(w.asked.Homes[0] + "/indexes/*")
+			if err != nil || len(paths) != 1 {
+				return fmt.Errorf("%v, %v", paths, err)
+			}
+			kept, err := observe.OpenKept(paths[0])
+			if err == nil {
+				t.Cleanup(kept.Close)
+			}
+			return err
+		}, words: []string{"another run of 'observe' looks at this device", "no device could be looked at"}},
+		"a history of another": {before: func(w *world) error { w.asked.History = w.asked.Homes[0] + "/cert.pem"; return nil }, words: []string{"cert.pem"}},
 	} {
 		here := newWorld(t, 1, map[string]string{"a": "text"})
 		if row.before != nil {
@@ -53,6 +74,19 @@ func TestFilesOfARunThatFail(t *testing.T) {
 			t.Errorf("%s: %s", why, told)
 		}
 	}
+	damaged := newWorld(t, 1, map[string]string{"a": "text"})
+	damaged.expect("the first run", exit.Partial, inStep)
+	paths, err := filepath.Glob(damaged.asked.Homes[0] + "/indexes/*/last/CURRENT")
+	if err != nil || len(paths) != 1 {
+		t.Fatal(paths, err)
+	}
+	if err := os.WriteFile(paths[0], []byte("odd\n"), 0o600); err != nil {
+		t.Fatal(err)
+	}
+	damaged.expect("a damaged index", exit.Partial, inStep, "what the last run kept of folder docs at "+damaged.devices[0].ID.String()+" is damaged, and isn't used")
+	if _, err := Run(damaged.asked, full{}, io.Discard); err == nil {
+		t.Error("an answer is told where nothing can be")
+	}
 	here := newWorld(t, 0, nil)
 	here.asked.Init = true
 	for _, home := range []string{"/cert.pem/below/new", "/cert.pem"} {
@@ -60,6 +94,31 @@ func TestFilesOfARunThatFail(t *testing.T) {
 		here.asked.Homes[0] += home
 		here.expect(home, exit.Refused, "cert.pem")
 		here.asked.Homes[0] = had
+	}
+}
+
+// full takes nothing.
+type full struct{}
+
+func (full) Write([]byte) (int, error) { return 0, errors.New("no room") }
+
+// A second look that comes at once isn't announced; a scan is.
+func TestStepsThatAreTold(t *testing.T) {
+	here := newWorld(t, 1, map[string]string{"a": "text"})
+	here.withPages()
+	here.asked.Rescan = true
+	var progress written
+	meeting := here.meeting("")
+	meeting.progress, meeting.addresses[0].where = &progress, here.devices[0].Address
+	if err := meeting.listen(); err != nil {
+		t.Fatal(err)
+	}
+	defer meeting.close()
+	if err := meeting.look(); err != nil {
+		t.Fatal(err)
+	}
+	if told := progress.String(); told != "syncthing-audit: scanning folder docs\nsyncthing-audit: connecting to 1 device\nsyncthing-audit: first look\n" {
+		t.Errorf("%q", told)
 	}
 }
 

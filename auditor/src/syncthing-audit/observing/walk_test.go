@@ -9,6 +9,7 @@ import (
 	"testing"
 	"time"
 
+	"github.com/syncthing/syncthing/lib/protocol"
 	"syncthing-audit/disk"
 	"syncthing-audit/diskhalf"
 	"syncthing-audit/exit"
@@ -49,7 +50,7 @@ func (w *written) await(t *testing.T, pattern string) []string {
 // walk makes a part of disks as the command that is told does, with a token in place of the one there.
 func walk(t *testing.T, command, token, directory, path string) {
 	t.Helper()
-	words := strings.Fields(strings.ReplaceAll(command, "'docs=DIR'", "docs="+directory))
+	words := strings.Fields(regexp.MustCompile("'([a-z]+)=DIR'").ReplaceAllString(command, "$1="+directory+"/$1"))
 	if token != "" {
 		words[2] = token
 	}
@@ -78,9 +79,19 @@ func TestADeviceWhoseDisksAreWalked(t *testing.T) {
 	long := strings.Repeat("a", 128<<10) + "end"
 	here := newWorld(t, 2, map[string]string{"a": "text", "long": long})
 	directory, path := t.TempDir(), filepath.Join(t.TempDir(), "b.part")
+	wide := strings.Repeat("w", 300<<10)
+	for _, device := range here.devices {
+		device.Change(func(state *stranger.State) {
+			state.Records["pics"] = []protocol.FileInfo{stranger.RecordIn(256<<10, "wide", wide, 1)}
+			state.Disk["pics/wide"] = wide
+		})
+	}
 	rotten := strings.Repeat("b", 128<<10) + "end"
-	for name, text := range map[string]string{"a": "text", "long": rotten, ".stfolder": ""} {
+	for name, text := range map[string]string{"docs/a": "text", "docs/long": rotten, "docs/.stfolder": "", "pics/wide": wide, "pics/.stfolder": ""} {
 		at := filepath.Join(directory, name)
+		if err := os.MkdirAll(filepath.Dir(at), 0o755); err != nil {
+			t.Fatal(err)
+		}
 		if err := os.WriteFile(at, []byte(text), 0o644); err != nil {
 			t.Fatal(err)
 		}
@@ -100,10 +111,14 @@ func TestADeviceWhoseDisksAreWalked(t *testing.T) {
 		ended <- err
 	}()
 	id := here.devices[1].ID.String()
-	found := log.await(t, `now on device b \(`+id[:7]+`\), with the folder's directory in place of DIR:\n  (.*)\n.*: waiting for that file at (.*)\n`)
-	if !strings.HasSuffix(found[1], " -o b.part 'docs=DIR'") || found[2] != path {
+	found := log.await(t, `now on device b \(`+id[:7]+`\), with each folder's directory in place of DIR:\n  (.*)\n.*: waiting for that file at (.*)\n`)
+	if !strings.HasSuffix(found[1], " --block-size 262144 -o b.part 'docs=DIR' 'pics=DIR'") || found[2] != path {
 		t.Error(found)
 	}
+	if err := os.WriteFile(path, []byte("no part"), 0o600); err != nil {
+		t.Fatal(err)
+	}
+	time.Sleep(20 * time.Millisecond)
 	walk(t, found[1], here.devices[0].ID.String()+":0123456789abcdef0123456789abcdef", directory, path)
 	log.await(t, "it isn't what this run waits for: it is of device "+here.devices[0].ID.String()+"; waiting for another file there")
 	walk(t, found[1], id+":0123456789abcdef0123456789abcdef", directory, path)
