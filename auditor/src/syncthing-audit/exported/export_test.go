@@ -11,6 +11,7 @@ import (
 	"github.com/syncthing/syncthing/lib/protocol"
 	"syncthing-audit/choice"
 	"syncthing-audit/commandline"
+	"syncthing-audit/device"
 	"syncthing-audit/document"
 	"syncthing-audit/exit"
 	"syncthing-audit/finding"
@@ -151,7 +152,7 @@ func TestAnExportToAnOutput(t *testing.T) {
 		t.Errorf("%d, %v: %s", status, err, output.String())
 	}
 	output.Reset()
-	if _, _, err := exportOf(t, 2, choice.Names{}, "", &output); !errors.Is(err, errSeveral) || output.Len() > 0 {
+	if status, _, err := exportOf(t, 2, choice.Names{}, "", &output); !errors.Is(err, errSeveral) || status != 0 || output.Len() > 0 {
 		t.Errorf("%v: %s", err, output.String())
 	}
 	if _, _, err := exportOf(t, 1, choice.Names{}, "", broken{}); exit.Of(err, io.Discard, io.Discard) != exit.Fault {
@@ -193,7 +194,7 @@ func TestWhereNoExportGoes(t *testing.T) {
 		if row.told == "" {
 			continue
 		}
-		if _, _, err := exportOf(t, 1, choice.Names{}, path, io.Discard); err == nil || !strings.Contains(err.Error(), row.told) {
+		if status, _, err := exportOf(t, 1, choice.Names{}, path, io.Discard); err == nil || status != 0 || !strings.Contains(err.Error(), row.told) {
 			t.Errorf("%s: an export is told as %v", what, err)
 		}
 		if made, _ := filepath.Glob(filepath.Join(globbed(path), "cut-0001.json")); len(made) > 0 {
@@ -284,9 +285,60 @@ func TestDocumentsThatCannotBeWritten(t *testing.T) {
 		t.Errorf("a directory is left: %v", err)
 	}
 	(&outlet{}).drop()
-	for room := 0; room < 400; room += 37 {
-		if err := (&exported{Answer: &finding.Answer{Devices: make([]finding.Device, 9)}}).write(&cramped{room}); err == nil {
-			t.Errorf("what takes more than %d bytes is written", room)
+}
+
+// What stands beside the documents is written whole, or an error is told, whatever room there is.
+func TestRoomForTheRest(t *testing.T) {
+	folder := &finding.Folder{ID: "docs"}
+	for count := 0; count < 300; count++ {
+		folder.Unwon.Add(finding.Unwon{Name: "a name that takes some bytes"})
+	}
+	rest := &exported{Answer: &finding.Answer{Devices: make([]finding.Device, 90), Folders: []*finding.Folder{folder}}}
+	var whole strings.Builder
+	if err := rest.write(&whole); err != nil {
+		t.Fatal(err)
+	}
+	for room := 0; room < whole.Len(); room += whole.Len()/100 + 1 {
+		if err := rest.write(&cramped{room}); err == nil {
+			t.Errorf("%d bytes are written into room for %d", whole.Len(), room)
+		}
+	}
+	if err := rest.write(&cramped{whole.Len()}); err != nil {
+		t.Error(err)
+	}
+}
+
+// A home that can't be opened is left out, told, and known to the sum. A part that is cut off ends the export, and nothing of it is left.
+func TestAnExportWithoutADevice(t *testing.T) {
+	whole, cut := fixture.Part(t, protocol.DeviceID{7: 1}, choice.Names{}), fixture.Part(t, protocol.DeviceID{7: 2}, choice.Names{})
+	text, err := os.ReadFile(cut)
+	if err != nil {
+		t.Fatal(err)
+	}
+	if err := os.WriteFile(cut, text[:len(text)-12], 0o600); err != nil {
+		t.Fatal(err)
+	}
+	none := filepath.Join(t.TempDir(), "none")
+	for what, row := range map[string]struct {
+		homes, parts []string
+		isMade       bool
+	}{"no home": {[]string{none}, []string{whole}, true}, "cut off": {nil, []string{whole, cut}, false}} {
+		directory := filepath.Join(t.TempDir(), "documents")
+		var log strings.Builder
+		status, err := Run(commandline.Options{Homes: row.homes, Parts: row.parts, Data: map[int]string{}, Maps: map[int]device.Maps{}, LeaveOut: map[string]bool{}, Jobs: 1, Into: directory}, io.Discard, &log)
+		if (err == nil) != row.isMade || status != 0 {
+			t.Errorf("%s: %d, %v, %s", what, status, err, log.String())
+		}
+		if !row.isMade {
+			if _, err := os.Stat(directory); !os.IsNotExist(err) {
+				t.Errorf("%s: a directory is left: %v", what, err)
+			}
+			continue
+		}
+		answer(t, directory, "cut-0001.reply", settled)
+		sum, err := SumOf(directory)
+		if err != nil || len(sum.LeftOut) != 1 || !strings.Contains(sum.LeftOut[0].Device+sum.LeftOut[0].Why, none) || !strings.Contains(log.String(), "It is left out") {
+			t.Errorf("%s: %+v, %v, %s", what, sum, err, log.String())
 		}
 	}
 }

@@ -20,7 +20,7 @@ func contentOf(size, block int64) part.Content {
 // the record's, that comes first. What was given stays as it is.
 func TestHowAFileIsCut(t *testing.T) {
 	const small = int64(bep.MinBlockSize)
-	for size := int64(1); size <= 4*small; size += small/2 - 1 {
+	for _, size := range []int64{1, small - 1, small, small + 1, 2 * small, 2*small + 1, 3 * small, 4 * small, 4*small + 1} {
 		for _, recorded := range []int64{small, 2 * small, 4 * small} {
 			for _, cuts := range [][]int64{{small}, {2 * small}, {4 * small}, {small, 2 * small}, {4 * small, small, 2 * small}} {
 				content := contentOf(size, recorded)

@@ -227,6 +227,7 @@ func TestThePartsOfANight(t *testing.T) {
 	}
 	r.write(t, "parts/damaged.part", "x")
 	r.write(t, "parts/away.part/x", "")
+	r.faults = []string{"a fault before"}
 	asked, paths := r.optionsOfParts(), []string{}
 	for _, path := range asked.Parts {
 		paths = append(paths, filepath.Base(path))
@@ -235,7 +236,7 @@ func TestThePartsOfANight(t *testing.T) {
 		t.Errorf("%q, %+v", paths, asked)
 	}
 	quoted := func(name string) string { return shell.Quoted(filepath.Join(r.directory, "parts", name)) }
-	due := []string{quoted("away.part") + " is no file, so it isn't read", "the part of old? is 31 hours old: " + quoted("old.part"),
+	due := []string{"a fault before", quoted("away.part") + " is no file, so it isn't read", "the part of old? is 31 hours old: " + quoted("old.part"),
 		"the part of slice has " + (choice.Names{Slice: 1, Slices: 2}).Words() + ", and tonight's audit is of " + (choice.Names{}).Words() + ": " + quoted("slice.part"),
 		"the part of " + id + " is 100 hours old: " + quoted("unnamed.part")}
 	if !reflect.DeepEqual(r.faults, due) {
@@ -309,7 +310,7 @@ func TestANightThatIsAskedFor(t *testing.T) {
 		t.Error(at)
 	}
 	t.Setenv("HOME", "")
-	if _, err := Run(commandline.Options{}, io.Discard, io.Discard); err == nil {
-		t.Error("a user without a home has a night")
+	if status, err := Run(commandline.Options{}, io.Discard, io.Discard); err == nil || status != 0 {
+		t.Errorf("a user without a home has a night: %d, %v", status, err)
 	}
 }

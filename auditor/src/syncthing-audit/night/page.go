@@ -65,11 +65,12 @@ func (n *night) answers() []page.Answer {
 // writePageTo writes the page whole or not at all. Whoever serves it may read it.
 func writePageTo(path string, kept *page.Kept) error {
 	var text strings.Builder
-	if err := page.Write(&text, kept, time.Now(), "syncthing-audit "+release.Version); err != nil {
-		return err
+	err := page.Write(&text, kept, time.Now(), "syncthing-audit "+release.Version)
+	if about, unseen := os.Lstat(path); unseen == nil && !about.Mode().IsRegular() {
+		err = fmt.Errorf("%s is no file", path)
 	}
-	if about, err := os.Lstat(path); err == nil && !about.Mode().IsRegular() {
-		return fmt.Errorf("%s is no file", path)
+	if err == nil {
+		err = watch.WriteWhole(path, text.String(), 0o644)
 	}
-	return watch.WriteWhole(path, text.String(), 0o644)
+	return err
 }

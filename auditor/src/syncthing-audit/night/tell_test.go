@@ -37,7 +37,7 @@ func TestTellingGoesBeforeAPing(t *testing.T) {
 // Parts are found whatever a directory is called, there and one below, and what isn't read is told.
 func TestPartsOfADirectory(t *testing.T) {
 	room := filepath.Join(t.TempDir(), "[a]*?")
-	for _, name := range []string{"b.part", "device/a.part", "device/a.part.sig", "device/below/c.part", "x.txt", "[b]/d.part", "odd.part/e.part"} {
+	for _, name := range []string{"b.part", "device-b.part", "device/a.part", "device/a.part.sig", "device/below/c.part", "x.txt", "[b]/d.part", "odd.part/e.part"} {
 		path := filepath.Join(room, name)
 		if err := os.MkdirAll(filepath.Dir(path), 0o700); err != nil {
 			t.Fatal(err)
@@ -53,7 +53,7 @@ func TestPartsOfADirectory(t *testing.T) {
 	}
 	found := partsIn(room)
 	told := strings.ReplaceAll(strings.Join(append(found.paths, found.others...), " "), room, "")
-	if told != `/[b]/d.part /b.part /device/a.part /link/a.part '/gone.part' is no file, so it isn't read '/odd.part' is no file, so it isn't read` {
+	if told != `/[b]/d.part /b.part /device-b.part /device/a.part /link/a.part '/gone.part' is no file, so it isn't read '/odd.part' is no file, so it isn't read` {
 		t.Error(told)
 	}
 	if found := partsIn(filepath.Join(room, "none")); len(found.paths) > 0 || len(found.others) != 1 || !strings.Contains(found.others[0], "can't be read") {

@@ -13,6 +13,7 @@ import (
 	"syncthing-audit/choice"
 	"syncthing-audit/exit"
 	"syncthing-audit/history"
+	"syncthing-audit/page"
 	"syncthing-audit/summary"
 	"syncthing-audit/watch"
 )
@@ -150,10 +151,19 @@ func TestWhatIsToldEachNight(t *testing.T) {
 			t.Errorf("night %d: %+v, %v", night, kept, err)
 		}
 		if !strings.Contains(r.read("metrics"), fmt.Sprintf("\nsyncthing_audit_status %d\n", r.night.status())) || strings.Contains(r.read("metrics"), "syncthing_audit_names{") != (row.audit.answer != nil) ||
-			!strings.Contains(r.read("page.html"), "<html") {
+			!strings.Contains(r.read("page.html"), "<html") || modeOf(r, "metrics") != 0o644 || modeOf(r, "page.html") != 0o644 {
 			t.Errorf("night %d: %s", night, r.read("metrics"))
 		}
 	}
+}
+
+// modeOf gives who may read a file of the night.
+func modeOf(r *room, name string) os.FileMode {
+	about, err := os.Stat(filepath.Join(r.directory, name))
+	if err != nil {
+		return 0
+	}
+	return about.Mode()
 }
 
 // What can't be written of a night is a fault of it, and all else is.
@@ -175,6 +185,9 @@ func TestWhatANightCannotWrite(t *testing.T) {
 		status := r.tellAgain(t, answered("a", exit.Done, 0))
 		if status != exit.Refused || !strings.Contains(r.output.String(), row.told) || !strings.HasSuffix(r.output.String(), "a is told\n") || (r.log.Len() > 0) != (row.told == "") {
 			t.Errorf("%s: status %d, %s, %s", what, status, r.output.String(), r.log.String())
+		}
+		if kept, err := page.Read(filepath.Join(r.directory, "state")); what == "the metrics" && (err != nil || len(kept.Nights) != 1 || kept.Nights[0].Status != exit.Refused) {
+			t.Errorf("%s: %+v, %v", what, kept, err)
 		}
 		if row.told != "" && (len(r.faults) == 0 || !strings.Contains(r.read("text"), row.told)) {
 			t.Errorf("%s: %q, %s", what, r.faults, r.read("text"))
