@@ -111,12 +111,9 @@ func cannot(world *forecast.World, name string, step Step) string {
 
 // take takes a step of a name.
 func take(world *forecast.World, name string, step Step) {
-	switch step.Act {
-	case Touch:
-		advice.Step{Act: advice.Touch, Device: memberOf(step.Device), Name: name}.On(world, presentOfPlans)
-	case Copy:
-		advice.Step{Act: advice.Copy, Device: memberOf(step.Device), From: memberOf(step.From), Name: name}.On(world, presentOfPlans)
-	case Delete:
-		advice.Step{Act: advice.Delete, Device: memberOf(step.Device), Name: name}.On(world, presentOfPlans)
+	for act, told := range acts {
+		if told == step.Act {
+			advice.Step{Act: act, Device: memberOf(step.Device), From: memberOf(step.From), Name: name}.On(world, presentOfPlans)
+		}
 	}
 }

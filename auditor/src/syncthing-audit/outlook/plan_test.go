@@ -4,7 +4,6 @@ import (
 	"reflect"
 	"testing"
 
-	"syncthing-audit/advice"
 	"syncthing-audit/forecast"
 	"syncthing-audit/forecast/read"
 	"syncthing-audit/join"
@@ -133,17 +132,7 @@ func carryOut(world *forecast.World, name string, plan *Plan) {
 		return
 	}
 	for _, step := range plan.Steps {
-		what := world.At(memberOf(step.Device), name)
-		switch step.Act {
-		case Touch:
-			touched := *what
-			touched.Time = presentOfPlans
-			world.Put(memberOf(step.Device), name, touched)
-		case Copy:
-			advice.Step{Act: advice.Copy, Device: memberOf(step.Device), From: memberOf(step.From), Name: name}.On(world, presentOfPlans)
-		case Delete:
-			world.Remove(memberOf(step.Device), name)
-		}
+		take(world, name, step)
 	}
 }
 

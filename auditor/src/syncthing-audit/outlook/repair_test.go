@@ -27,16 +27,7 @@ func changed(row *join.Row, member int, hash byte, time int64) {
 }
 
 // directory gives a directory that is at rest on three devices.
-func directory(name string) *join.Row {
-	made := calm(name, 3, 0)
-	for _, at := range made.At {
-		at.Own.Type, at.Own.Content, at.Disk = 1, nil, &part.Node{Type: 1, Permissions: 0o755}
-		for _, seen := range at.Views {
-			seen.Record.Type, seen.Record.Content = 1, nil
-		}
-	}
-	return made
-}
+func directory(name string) *join.Row { return calmDirectory(name, 3) }
 
 // full gives a directory with so many files, all at rest.
 func full(files int) []*join.Row {

@@ -11,16 +11,16 @@ import (
 
 // calmDirectory gives a directory that is at rest on so many devices.
 func calmDirectory(name string, devices int) *join.Row {
-	made := calm(name, devices, 0)
+	row := calm(name, devices, 0)
 	toDirectory := func(record *part.Record) { record.Type, record.Content = 1, nil }
-	for _, at := range made.At {
+	for _, at := range row.At {
 		toDirectory(at.Own)
 		for view := range at.Views {
 			toDirectory(at.Views[view].Record)
 		}
 		at.Disk = &part.Node{Type: 1, ModifiedS: 100, Permissions: 0o755}
 	}
-	return made
+	return row
 }
 
 // A directory that is gone is copied with all below it, by one step.
