@@ -60,10 +60,10 @@ func TestCountsOfBlocks(t *testing.T) {
 		{"in a file that grew", at(size, 9*size+1, part.Differ{Count: 9, Ranges: [][2]int64{{1, 9}}}), 10, 0},
 		{"in a file that shrank", at(9*size, size, part.Differ{Count: 8, Ranges: [][2]int64{{1, 8}}}), 9, 0},
 	}
-	for _, one := range cases {
-		made := blocksOf(one.at)
-		if made.Count != one.at.Disk.Differ.Count || made.Of != one.of || made.Unlisted != one.unlisted {
-			t.Errorf("%s: %+v", one.why, made)
+	for _, row := range cases {
+		blocks := blocksOf(row.at)
+		if blocks.Count != row.at.Disk.Differ.Count || blocks.Of != row.of || blocks.Unlisted != row.unlisted {
+			t.Errorf("%s: %+v", row.why, blocks)
 		}
 	}
 }

@@ -12,9 +12,9 @@ import (
 // A device that has the recorded bytes with another time hasn't the file as recorded, and nothing is copied from there while another device
 // has it. Where none has, its bytes are told.
 func TestWhoHasAFileOfAnotherTime(t *testing.T) {
-	touched := func() *part.Name { return with(file(1, 1), func(one *part.Name) { one.Disk.ModifiedS = later }) }
+	touched := func() *part.Name { return with(file(1, 1), func(at *part.Name) { at.Disk.ModifiedS = later }) }
 	const source = "copy it from "
-	for _, one := range []struct {
+	for _, example := range []struct {
 		devices    int
 		row        []*part.Name
 		reasons    []string
@@ -24,10 +24,10 @@ func TestWhoHasAFileOfAnotherTime(t *testing.T) {
 		{2, []*part.Name{touched(), with(file(1, 1), rotten)}, []string{"StoreUnclean 1", "StoreDiffers 2"}, " the recorded bytes on: laptop if nothing is done", ""},
 		{2, []*part.Name{touched(), file(1, 1)}, []string{"StoreUnclean 1"}, " as recorded on: server if nothing is done", ""},
 	} {
-		text := printed(answerOf(one.devices, func(folder *finding.Folder) { fails(folder, "a", one.row, one.reasons...) }))
-		if !strings.Contains(text, one.told) || strings.Count(text, " on: ") != 1 || strings.Contains(text, source) != (one.from != "") ||
-			!strings.Contains(text, source+one.from) && one.from != "" {
-			t.Errorf("%s: %s", one.told, text)
+		text := printed(answerOf(example.devices, func(folder *finding.Folder) { fails(folder, "a", example.row, example.reasons...) }))
+		if !strings.Contains(text, example.told) || strings.Count(text, " on: ") != 1 || strings.Contains(text, source) != (example.from != "") ||
+			!strings.Contains(text, source+example.from) && example.from != "" {
+			t.Errorf("%s: %s", example.told, text)
 		}
 	}
 }
@@ -37,7 +37,7 @@ func TestWhoHasManyFilesOfAnotherTime(t *testing.T) {
 	for devices, told := range map[int]string{1: " the recorded bytes on: laptop if nothing is done", 2: " as recorded on: server if nothing is done"} {
 		text := printed(answerOf(devices, func(folder *finding.Folder) {
 			for at := 0; at < mostAlone+1; at++ {
-				row := []*part.Name{with(file(1, 1), func(one *part.Name) { one.Disk.ModifiedS = later }), file(1, 1)}
+				row := []*part.Name{with(file(1, 1), func(at *part.Name) { at.Disk.ModifiedS = later }), file(1, 1)}
 				fails(folder, fmt.Sprint("a", at), row[:devices], "StoreUnclean 1")
 			}
 		}))

@@ -17,7 +17,7 @@ func TestConverging(t *testing.T) {
 	right := &outlook.Outlook{Names: 1, Right: 1}
 	pairs := int64(2147)
 	hindrance := &finding.Failure{Reason: "Concurrent", Name: "a", Device: 2}
-	for _, one := range []struct {
+	for _, row := range []struct {
 		first   *finding.Failure
 		outlook *outlook.Outlook
 		proved  bool
@@ -30,19 +30,19 @@ func TestConverging(t *testing.T) {
 	} {
 		answer := answerOf(2, func(folder *finding.Folder) {
 			fails(folder, "a", []*part.Name{file(1, 1), nil}, "RecordMissing 2")
-			folder.Convergence = finding.Convergence{Asked: true, First: one.first, Pairs: &pairs}
-			folder.Outlook = one.outlook
+			folder.Convergence = finding.Convergence{Asked: true, First: row.first, Pairs: &pairs}
+			folder.Outlook = row.outlook
 		})
 		text := printed(answer)
 		place, foretold := strings.Index(text, "proved for devices that keep a few rules"), strings.Index(text, "if nobody does anything in docs")
-		if strings.Contains(text, "still to come: 2,147 pairs of a name and a device proved for devices ") != one.proved {
-			t.Errorf("%+v: %s", one, text)
+		if strings.Contains(text, "still to come: 2,147 pairs of a name and a device proved for devices ") != row.proved {
+			t.Errorf("%+v: %s", row, text)
 		}
-		if (place > 0) != one.proved || place > 0 && foretold > place || place > strings.Index(text, " a (in docs") {
-			t.Errorf("%+v: %s", one, text)
+		if (place > 0) != row.proved || place > 0 && foretold > place || place > strings.Index(text, " a (in docs") {
+			t.Errorf("%+v: %s", row, text)
 		}
-		if written, err := json.Marshal(Of(answer)); err != nil || !strings.Contains(string(written), one.json) {
-			t.Errorf("%+v: %s, %v", one, written, err)
+		if written, err := json.Marshal(Of(answer)); err != nil || !strings.Contains(string(written), row.json) {
+			t.Errorf("%+v: %s, %v", row, written, err)
 		}
 	}
 }

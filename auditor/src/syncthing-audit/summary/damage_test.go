@@ -10,9 +10,9 @@ import (
 )
 
 // lost has a file whose bytes the disk doesn't give.
-func lost(one *part.Name) {
-	one.Disk.Lost = "read lost: input/output error"
-	one.Disk.Contents = []part.Content{{Size: 300000, BlockSize: 131072, Hash: part.Hash{77}}}
+func lost(at *part.Name) {
+	at.Disk.Lost = "read lost: input/output error"
+	at.Disk.Contents = []part.Content{{Size: 300000, BlockSize: 131072, Hash: part.Hash{77}}}
 }
 
 const (
@@ -79,12 +79,12 @@ d/  (in docs)
 
 // What a disk itself fails to give is wrong on that device. Who has the file's bytes is told, and what else is wrong with it.
 func TestWhatADiskFailsToGive(t *testing.T) {
-	for _, one := range textsOfDamage {
+	for _, row := range textsOfDamage {
 		var written strings.Builder
-		made := Of(answerOf(2, one.fill))
-		made.Print(&written, time.UTC, time.Time{})
-		if made.Verdict != NotInStep || !strings.HasPrefix(written.String(), lineOfFolder+one.text) {
-			t.Errorf("%s: %s\n%s", one.why, made.Verdict, written.String())
+		summary := Of(answerOf(2, row.fill))
+		summary.Print(&written, time.UTC, time.Time{})
+		if summary.Verdict != NotInStep || !strings.HasPrefix(written.String(), lineOfFolder+row.text) {
+			t.Errorf("%s: %s\n%s", row.why, summary.Verdict, written.String())
 		}
 	}
 }

@@ -12,7 +12,7 @@ import (
 
 // Versions of Syncthing that this program wasn't tried with are told.
 func TestAnotherSyncthing(t *testing.T) {
-	for _, one := range []struct {
+	for _, row := range []struct {
 		runs []string
 		told string
 	}{
@@ -21,13 +21,13 @@ func TestAnotherSyncthing(t *testing.T) {
 			"\nnot tried with such a Syncthing: laptop v1.2.9, phone v1.190.0; it was with 1.19 and 1.29" + lastLine},
 	} {
 		answer := answerOf(3, func(*finding.Folder) {})
-		for place, version := range one.runs {
+		for place, version := range row.runs {
 			answer.Devices[place].Runs = version
 		}
 		var written strings.Builder
 		Of(answer).Print(&written, time.UTC, time.Time{})
-		if !strings.HasSuffix(written.String(), one.told) || strings.Contains(written.String(), "not tried") != (one.told != lastLine) {
-			t.Errorf("%s: %s", one.runs, written.String())
+		if !strings.HasSuffix(written.String(), row.told) || strings.Contains(written.String(), "not tried") != (row.told != lastLine) {
+			t.Errorf("%s: %s", row.runs, written.String())
 		}
 	}
 }
@@ -35,7 +35,7 @@ func TestAnotherSyncthing(t *testing.T) {
 // A part that was made long ago may be of one moment with the others by all indexes. When it was made is told then.
 func TestOldParts(t *testing.T) {
 	now := time.Unix(later, 0)
-	for _, one := range []struct {
+	for _, row := range []struct {
 		ages []time.Duration
 		told string
 	}{
@@ -45,12 +45,12 @@ func TestOldParts(t *testing.T) {
 	} {
 		answer := answerOf(2, func(*finding.Folder) {})
 		for place := range answer.Devices {
-			answer.Devices[place].Made = now.Add(-one.ages[place])
+			answer.Devices[place].Made = now.Add(-row.ages[place])
 		}
 		var written strings.Builder
 		Of(answer).Print(&written, time.UTC, now)
-		if !strings.HasSuffix(written.String(), "on laptop, server\n"+one.told) {
-			t.Errorf("%s\nnot\n%s", written.String(), one.told)
+		if !strings.HasSuffix(written.String(), "on laptop, server\n"+row.told) {
+			t.Errorf("%s\nnot\n%s", written.String(), row.told)
 		}
 	}
 }
@@ -64,9 +64,9 @@ func TestAnIndexThatMayBeOld(t *testing.T) {
 	if text := printed(answer); !strings.Contains(text, told) || strings.Contains(text, "that of laptop was written") {
 		t.Error(text)
 	}
-	made, err := json.Marshal(Of(answer).Devices)
-	if err != nil || !strings.Contains(string(made), `"index":{"written":"2020-09-13T12:26:40Z","configured":"2020-09-13T12:27:40Z"}`) || strings.Count(string(made), `"index"`) != 1 {
-		t.Errorf("%s, %v", made, err)
+	written, err := json.Marshal(Of(answer).Devices)
+	if err != nil || !strings.Contains(string(written), `"index":{"written":"2020-09-13T12:26:40Z","configured":"2020-09-13T12:27:40Z"}`) || strings.Count(string(written), `"index"`) != 1 {
+		t.Errorf("%s, %v", written, err)
 	}
 }
 
@@ -82,10 +82,10 @@ func TestANewerIndex(t *testing.T) {
 			t.Error(text)
 		}
 	}
-	made, err := json.Marshal(Of(answer).Devices)
+	written, err := json.Marshal(Of(answer).Devices)
 	const member = `"newer_index":{"path":"/srv/a b/index-v0.14.0.db","written":"2020-09-13T12:27:40Z","read":"2020-09-13T12:26:40Z","of_syncthing_2":true}`
-	if err != nil || strings.Count(string(made), member) != 1 || strings.Count(string(made), "newer_index") != 1 {
-		t.Errorf("%s, %v", made, err)
+	if err != nil || strings.Count(string(written), member) != 1 || strings.Count(string(written), "newer_index") != 1 {
+		t.Errorf("%s, %v", written, err)
 	}
 }
 
@@ -99,9 +99,9 @@ func TestTimesThatAreNear(t *testing.T) {
 	if text := printed(answer); !strings.Contains(text, told) || strings.Count(text, "times taken") != 1 {
 		t.Error(text)
 	}
-	made, err := json.Marshal(Of(answer).Folders[0].Devices)
-	if err != nil || strings.Count(string(made), `"time_window":2`) != 2 || strings.Count(string(made), `"near_times":3`) != 1 {
-		t.Errorf("%s, %v", made, err)
+	written, err := json.Marshal(Of(answer).Folders[0].Devices)
+	if err != nil || strings.Count(string(written), `"time_window":2`) != 2 || strings.Count(string(written), `"near_times":3`) != 1 {
+		t.Errorf("%s, %v", written, err)
 	}
 }
 
@@ -115,9 +115,9 @@ func TestTemporaryNames(t *testing.T) {
 	if text := printed(answer); !strings.HasPrefix(text, "docs (Documents): in step") || !strings.Contains(text, told) || strings.Count(text, "outside") != 1 {
 		t.Error(text)
 	}
-	made, err := json.Marshal(Of(answer).Folders[0].Devices)
-	if err != nil || strings.Count(string(made), `"temporary"`) != 1 || !strings.Contains(string(made), `"temporary":{"names":2,"bytes":3100}`) {
-		t.Errorf("%s, %v", made, err)
+	written, err := json.Marshal(Of(answer).Folders[0].Devices)
+	if err != nil || strings.Count(string(written), `"temporary"`) != 1 || !strings.Contains(string(written), `"temporary":{"names":2,"bytes":3100}`) {
+		t.Errorf("%s, %v", written, err)
 	}
 }
 
@@ -129,8 +129,8 @@ func TestAnIndexThatIsToBeRepaired(t *testing.T) {
 	if text := printed(answer); !strings.Contains(text, told) || strings.Count(text, "to be repaired") != 1 {
 		t.Error(text)
 	}
-	made, err := json.Marshal(Of(answer).Devices)
-	if err != nil || strings.Count(string(made), `"index_to_repair":true`) != 1 || strings.Contains(string(made), `"index":`) {
-		t.Errorf("%s, %v", made, err)
+	written, err := json.Marshal(Of(answer).Devices)
+	if err != nil || strings.Count(string(written), `"index_to_repair":true`) != 1 || strings.Contains(string(written), `"index":`) {
+		t.Errorf("%s, %v", written, err)
 	}
 }

@@ -38,9 +38,9 @@ func TestManyNamesOfOtherBytes(t *testing.T) {
 `
 	for names, entries := range map[int]int{mostAlone: mostAlone, 40: 0} {
 		answer := answerOf(3, fill(names))
-		made := Of(answer)
+		summary := Of(answer)
 		var written strings.Builder
-		made.Print(&written, time.UTC, time.Time{})
+		summary.Print(&written, time.UTC, time.Time{})
 		text := written.String()
 		if found := strings.Count(text, "\nphotos/"); found != entries || strings.Contains(text, many) != (names == 40) {
 			t.Errorf("%d names have %d entries:\n%s", names, found, text)
@@ -48,8 +48,8 @@ func TestManyNamesOfOtherBytes(t *testing.T) {
 		if !strings.Contains(text, "\n'photos/10 on another'  (in docs") || !strings.Contains(text, "\n'photos/20 of another mode'  (in docs") {
 			t.Errorf("what is another's isn't told by itself:\n%s", text)
 		}
-		if len(made.Folders[0].Files) != names+2 || made.Folders[0].Files[0].Faults[0].Blocks.Count != 1 {
-			t.Errorf("%d names are told to programs", len(made.Folders[0].Files))
+		if len(summary.Folders[0].Files) != names+2 || summary.Folders[0].Files[0].Faults[0].Blocks.Count != 1 {
+			t.Errorf("%d names are told to programs", len(summary.Folders[0].Files))
 		}
 	}
 }
@@ -57,8 +57,8 @@ func TestManyNamesOfOtherBytes(t *testing.T) {
 // So are many files that were changed while Syncthing was off; what is of another type on the disk is told apart.
 func TestManyChanges(t *testing.T) {
 	answer := answerOf(2, func(folder *finding.Folder) {
-		changed := func(one *part.Name) { rotten(one); one.Disk.ModifiedS = later }
-		link := func(one *part.Name) { one.Disk = &part.Node{Type: 4, Target: "elsewhere"} }
+		changed := func(at *part.Name) { rotten(at); at.Disk.ModifiedS = later }
+		link := func(at *part.Name) { at.Disk = &part.Node{Type: 4, Target: "elsewhere"} }
 		for next := 0; next < 40; next++ {
 			fails(folder, fmt.Sprintf("a/%02d", next), []*part.Name{file(1, 1), with(file(1, 1), changed)}, "StoreDiffers 2")
 			fails(folder, fmt.Sprintf("b/%02d", next), []*part.Name{file(1, 1), with(file(1, 1), link)}, "StoreDiffers 2")
@@ -88,15 +88,15 @@ func TestManyChanges(t *testing.T) {
 // Of a device that is behind as a whole what it has still to delete is told apart: to let it finish deletes that there.
 func TestManyDeletions(t *testing.T) {
 	answer := answerOf(2, func(folder *finding.Folder) {
-		deleted := func(one *part.Name) { one.Own.Deleted, one.Own.Content, one.Disk = true, nil, nil }
+		deleted := func(at *part.Name) { at.Own.Deleted, at.Own.Content, at.Disk = true, nil, nil }
 		for next := 0; next < 40; next++ {
 			fails(folder, fmt.Sprintf("c/%02d", next), []*part.Name{file(2, 1), file(1, 2)}, "RecordDiffers 2", "StoreDiffers 2")
 			fails(folder, fmt.Sprintf("d/%02d", next), []*part.Name{with(file(2, 1), deleted), file(1, 2)}, "RecordDiffers 2", "StoreDiffers 2")
 		}
 	})
-	made := Of(answer)
+	summary := Of(answer)
 	var written strings.Builder
-	made.Print(&written, time.UTC, time.Time{})
+	summary.Print(&written, time.UTC, time.Time{})
 	text := written.String()
 	for _, told := range []string{`
   server: behind: hasn't taken what is newest
@@ -107,7 +107,7 @@ func TestManyDeletions(t *testing.T) {
 			t.Errorf("this isn't told once: %s\nbut:\n%s", told, text)
 		}
 	}
-	if groups := made.Folders[0].Groups; len(groups) != 2 || groups[0].Deleted || !groups[1].Deleted {
+	if groups := summary.Folders[0].Groups; len(groups) != 2 || groups[0].Deleted || !groups[1].Deleted {
 		t.Error(groups)
 	}
 }
@@ -116,10 +116,10 @@ func TestManyDeletions(t *testing.T) {
 // these Syncthing makes no conflict copies.
 func TestManyConflicts(t *testing.T) {
 	answer := answerOf(3, func(folder *finding.Folder) {
-		other := func(one *part.Name) {
-			one.Own.Version, one.Own.ModifiedS, one.Disk.ModifiedS = [][2]uint64{{2, 1}}, started-1, started-1
+		other := func(at *part.Name) {
+			at.Own.Version, at.Own.ModifiedS, at.Disk.ModifiedS = [][2]uint64{{2, 1}}, started-1, started-1
 		}
-		deleted := func(one *part.Name) { other(one); one.Own.Deleted, one.Own.Content, one.Disk = true, nil, nil }
+		deleted := func(at *part.Name) { other(at); at.Own.Deleted, at.Own.Content, at.Disk = true, nil, nil }
 		for next := 0; next < 40; next++ {
 			fails(folder, fmt.Sprintf("c/%02d", next), []*part.Name{file(2, 1), with(file(1, 2), other), file(1, 3)}, "RecordDiffers 2", "RecordDiffers 3")
 			fails(folder, fmt.Sprintf("d/%02d", next), []*part.Name{file(2, 1), with(file(1, 2), deleted), file(1, 3)}, "RecordDiffers 2", "RecordDiffers 3")
@@ -149,7 +149,7 @@ func TestManyLocalChanges(t *testing.T) {
 	answer := answerOf(2, func(folder *finding.Folder) {
 		folder.Members[1].About.Kind = "receive-only"
 		local := func(deleted bool) *part.Name {
-			return with(file(1, 2), func(one *part.Name) { one.Own.Invalid, one.Own.Deleted = true, deleted })
+			return with(file(1, 2), func(at *part.Name) { at.Own.Invalid, at.Own.Deleted = true, deleted })
 		}
 		for next := 0; next < 40; next++ {
 			fails(folder, fmt.Sprintf("a/%02d", next), []*part.Name{file(2, 1), local(false)}, "LocalOnly 2", "StoreDiffers 2")
@@ -157,9 +157,9 @@ func TestManyLocalChanges(t *testing.T) {
 		}
 		fails(folder, "c", []*part.Name{file(2, 1), local(true)}, "LocalOnly 2", "StoreDiffers 2")
 	})
-	made := Of(answer)
+	summary := Of(answer)
 	var written strings.Builder
-	made.Print(&written, time.UTC, time.Time{})
+	summary.Print(&written, time.UTC, time.Time{})
 	text := written.String()
 	for _, told := range []string{`
 40 names in docs: 12.0 MB
@@ -177,7 +177,7 @@ c  (in docs, 300.0 kB)
 			t.Errorf("this isn't told: %s\nbut:\n%s", told, text)
 		}
 	}
-	if strings.Contains(text, "\na/") || strings.Contains(text, "\nb/") || len(made.Folders[0].Files) != 81 {
-		t.Errorf("%d names are told to programs:\n%s", len(made.Folders[0].Files), text)
+	if strings.Contains(text, "\na/") || strings.Contains(text, "\nb/") || len(summary.Folders[0].Files) != 81 {
+		t.Errorf("%d names are told to programs:\n%s", len(summary.Folders[0].Files), text)
 	}
 }

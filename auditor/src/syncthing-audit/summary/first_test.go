@@ -34,7 +34,7 @@ func TestWhatComesFirst(t *testing.T) {
 	rots := func(folder *finding.Folder, name string) {
 		fails(folder, name, []*part.Name{file(1, 1), with(file(1, 1), rotten)}, "StoreDiffers 2")
 	}
-	for why, one := range map[string]struct {
+	for why, row := range map[string]struct {
 		fill    func(*finding.Folder)
 		isKnown bool
 		told    bool
@@ -47,13 +47,13 @@ func TestWhatComesFirst(t *testing.T) {
 		"two are deleted":                    {func(folder *finding.Folder) { gone(folder, "a"); gone(folder, "b") }, true, false},
 		"a mode":                             {func(folder *finding.Folder) { modesOn(folder, "a"); modesOn(folder, "b") }, false, true},
 	} {
-		answer := answerOf(2, one.fill)
-		if one.isKnown {
+		answer := answerOf(2, row.fill)
+		if row.isKnown {
 			foretellAll(answer)
 		}
 		var written strings.Builder
 		Of(answer).Print(&written, time.UTC, time.Time{})
-		if strings.Contains(written.String(), told) != one.told {
+		if strings.Contains(written.String(), told) != row.told {
 			t.Errorf("%s:\n%s", why, written.String())
 		}
 	}
@@ -61,8 +61,8 @@ func TestWhatComesFirst(t *testing.T) {
 
 // Where names are missing that don't come back by themselves, whoever reads is to see first that the disk is mounted, once for each device.
 func TestADiskThatMayNotBeMounted(t *testing.T) {
-	gone := func(one *part.Name) { again(one); absent(one) }
-	for _, one := range []struct {
+	gone := func(at *part.Name) { again(at); absent(at) }
+	for _, example := range []struct {
 		row     []*part.Name
 		reasons []string
 		isKnown bool
@@ -74,14 +74,14 @@ func TestADiskThatMayNotBeMounted(t *testing.T) {
 		{[]*part.Name{with(file(2, 2), gone), with(file(1, 1), absent)}, []string{"RecordDiffers 2", "StoreDiffers 2"}, true, ""},
 	} {
 		answer := answerOf(2, func(folder *finding.Folder) {
-			fails(folder, "a", one.row, one.reasons...)
-			fails(folder, "b", one.row, one.reasons...)
+			fails(folder, "a", example.row, example.reasons...)
+			fails(folder, "b", example.row, example.reasons...)
 		})
-		if one.isKnown {
+		if example.isKnown {
 			foretellAll(answer)
 		}
-		if text := printed(answer); !strings.Contains(text, one.told) || strings.Contains(text, "mounted") != (one.told != "") {
-			t.Errorf("%v: %s", one.reasons, text)
+		if text := printed(answer); !strings.Contains(text, example.told) || strings.Contains(text, "mounted") != (example.told != "") {
+			t.Errorf("%v: %s", example.reasons, text)
 		}
 	}
 }
@@ -89,7 +89,7 @@ func TestADiskThatMayNotBeMounted(t *testing.T) {
 // Who asked for some names alone doesn't know what a start does to the others.
 func TestWhatIsNotKnownBeforeAStart(t *testing.T) {
 	const told = "before a start, on laptop, server: as Syncthing starts, it scans all folders. What that does to names that weren't asked for isn't known: they may be missing there"
-	for _, one := range []struct {
+	for _, row := range []struct {
 		asked     choice.Names
 		isToStart bool
 		live      *finding.Live
@@ -100,17 +100,17 @@ func TestWhatIsNotKnownBeforeAStart(t *testing.T) {
 	} {
 		answer := answerOf(2, func(folder *finding.Folder) {
 			for _, member := range folder.Members {
-				member.Head.Names = one.asked
+				member.Head.Names = row.asked
 			}
-			folder.Live = one.live
-			if one.isToStart {
+			folder.Live = row.live
+			if row.isToStart {
 				fresh(folder, 1)
 			}
 		})
 		var written strings.Builder
 		Of(answer).Print(&written, time.UTC, time.Time{})
-		if strings.Contains(written.String(), told) != one.told {
-			t.Errorf("%+v:\n%s", one.asked, written.String())
+		if strings.Contains(written.String(), told) != row.told {
+			t.Errorf("%+v:\n%s", row.asked, written.String())
 		}
 	}
 }
@@ -148,15 +148,15 @@ func TestNamesWithoutDetailsComeFirst(t *testing.T) {
 
 // What comes first stands in the JSON, too, with the devices and in the same words.
 func TestWhatComesFirstInJSON(t *testing.T) {
-	made := Of(answerOf(3, func(folder *finding.Folder) {
+	summary := Of(answerOf(3, func(folder *finding.Folder) {
 		fails(folder, "a", []*part.Name{file(1, 1), with(file(1, 1), emptied), file(1, 1)}, "StoreDiffers 2")
 		fails(folder, "b", []*part.Name{file(1, 1), with(file(1, 1), absent), file(1, 1)}, "StoreDiffers 2")
 		fails(folder, "c", []*part.Name{file(1, 1), file(1, 1), with(file(1, 1), grown)}, "StoreDiffers 3")
 		waits(folder, "d", 0, []int{1}, absent)
 	}))
 	told := []string{}
-	for _, one := range made.First {
-		told = append(told, fmt.Sprint(one.Why, one.Devices, one.Names))
+	for _, first := range summary.First {
+		told = append(told, fmt.Sprint(first.Why, first.Devices, first.Names))
 	}
 	want := []string{fmt.Sprint(isUnscanned, []string{laptop}, 1), fmt.Sprint(isLonger, []string{phone}, 1), fmt.Sprint(isDamaged, []string{server}, 1),
 		fmt.Sprint(isMissing, []string{server}, 1), fmt.Sprint(isMadeSafe, []string{server, phone}, 0)}
@@ -164,13 +164,13 @@ func TestWhatComesFirstInJSON(t *testing.T) {
 		t.Errorf("%v, not %v", told, want)
 	}
 	var text, document strings.Builder
-	made.Print(&text, time.UTC, time.Time{})
-	for _, one := range made.First {
-		if !strings.Contains(strings.Join(strings.Fields(text.String()), " "), one.Text) {
-			t.Errorf("%q isn't in %s", one.Text, text.String())
+	summary.Print(&text, time.UTC, time.Time{})
+	for _, first := range summary.First {
+		if !strings.Contains(strings.Join(strings.Fields(text.String()), " "), first.Text) {
+			t.Errorf("%q isn't in %s", first.Text, text.String())
 		}
 	}
-	if err := made.WriteJSON(&document); err != nil {
+	if err := summary.WriteJSON(&document); err != nil {
 		t.Fatal(err)
 	}
 	if told, err := validate(t, document.String()); err != nil {

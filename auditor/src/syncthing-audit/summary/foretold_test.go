@@ -97,20 +97,20 @@ var foretoldSo = []struct {
 
 // An entry says what happens if nothing is done as it is foretold, and what to do by the steps that were found.
 func TestAnEntrySaysWhatIsForetold(t *testing.T) {
-	for _, one := range foretoldSo {
+	for _, row := range foretoldSo {
 		answer := answerOf(2, func(folder *finding.Folder) {
-			folder.Members[1].About.Kind = one.kind
-			fails(folder, "a", one.row, one.reasons...)
+			folder.Members[1].About.Kind = row.kind
+			fails(folder, "a", row.row, row.reasons...)
 		})
 		foretellAll(answer)
 		text := printed(answer)
-		for _, has := range one.has {
+		for _, has := range row.has {
 			if !strings.Contains(text, has) {
-				t.Errorf("%s: %q isn't in %s", one.why, has, text)
+				t.Errorf("%s: %q isn't in %s", row.why, has, text)
 			}
 		}
-		if strings.Contains(text, one.hasnt) {
-			t.Errorf("%s: %q is in %s", one.why, one.hasnt, text)
+		if strings.Contains(text, row.hasnt) {
+			t.Errorf("%s: %q is in %s", row.why, row.hasnt, text)
 		}
 	}
 }
@@ -161,24 +161,24 @@ func TestEntriesOfRandomNames(t *testing.T) {
 			foretellAll(answer)
 		}
 		row, folder := answer.Folders[0].Rows["a"], answer.Folders[0]
-		made := Of(answer)
-		for _, one := range made.Folders[0].Files {
-			text := strings.Join(one.Advice, " ")
+		summary := Of(answer)
+		for _, file := range summary.Folders[0].Files {
+			text := strings.Join(file.Advice, " ")
 			switch {
-			case len(one.Faults) == 0:
-			case one.foretold.isKnown():
+			case len(file.Faults) == 0:
+			case file.foretold.isKnown():
 				known++
-				if one.Foretold == "" || one.foretold.is(outlook.Lost) && !strings.Contains(text, "the steps for it above") {
-					t.Errorf("seed %d: %s\n%s\n%s", seed, one.Foretold, text, rowText(row))
+				if file.Foretold == "" || file.foretold.is(outlook.Lost) && !strings.Contains(text, "the steps for it above") {
+					t.Errorf("seed %d: %s\n%s\n%s", seed, file.Foretold, text, rowText(row))
 				}
 			default:
 				unknown++
-				if !strings.HasPrefix(one.Foretold, "it isn't known what happens: ") {
-					t.Errorf("seed %d: %s", seed, one.Foretold)
+				if !strings.HasPrefix(file.Foretold, "it isn't known what happens: ") {
+					t.Errorf("seed %d: %s", seed, file.Foretold)
 				}
 			}
 			for _, found := range putBack.FindAllStringSubmatch(text, -1) {
-				from, to := placeOf(folder, made.Called(), found[2]), placeOf(folder, made.Called(), found[3])
+				from, to := placeOf(folder, summary.Called(), found[2]), placeOf(folder, summary.Called(), found[3])
 				if own := row.At[to].Own; own != nil && own.Content != nil && found[1] == found[3] {
 					copied++
 					if row.At[from] == nil || row.At[from].Disk == nil || !slices.Contains(row.At[from].Disk.Contents, *own.Content) {

@@ -30,8 +30,8 @@ func TestAGroupSpeaksOfEachOfItsNames(t *testing.T) {
 		if seed%10 == 0 {
 			foretellAll(answer)
 		}
-		made := Of(answer)
-		for _, group := range made.Folders[0].Groups {
+		summary := Of(answer)
+		for _, group := range summary.Folders[0].Groups {
 			groups++
 			if group.of.foretold.isKnown() {
 				known++
@@ -39,7 +39,7 @@ func TestAGroupSpeaksOfEachOfItsNames(t *testing.T) {
 			for _, name := range group.First {
 				many := *all.alone(string(name), answer)
 				many.isMany = true
-				told, foretold := adviceOf(&many, made.Called()), many.tell(made.Called())
+				told, foretold := adviceOf(&many, summary.Called()), many.tell(summary.Called())
 				if !reflect.DeepEqual(told, group.Advice) || foretold != group.Foretold {
 					t.Fatalf("seed %d: a group says\n%s\n%q, and %s\n%s\n%q\n%s", seed, group.Foretold, group.Advice, name, foretold, told,
 						rowText(answer.Folders[0].Rows[string(name)]))

@@ -28,7 +28,7 @@ func full(folder *finding.Folder) {
 	for _, name := range []string{"1", "2", "3", "4", "5", "6"} {
 		fails(folder, name, []*part.Name{file(1, 1), nil}, "RecordMissing 2")
 	}
-	unwon(folder, "new", 0, finding.Unscanned, with(file(1, 1), func(one *part.Name) { one.Own = nil }))
+	unwon(folder, "new", 0, finding.Unscanned, with(file(1, 1), func(at *part.Name) { at.Own = nil }))
 	folder.Permissions.Add(finding.Permissions{Name: "rotten", At: []finding.Bits{{Has: true, Index: 0o644, OnDisk: true, Disk: 0o600}, {}}})
 	folder.Conflicts = []finding.Conflict{{Name: "a.sync-conflict-20261126-170000.txt", Bytes: 1}}
 	folder.LeftOut = []*finding.LeftOut{{Name: "odd\xff", Names: 1, Why: []finding.Reason{{Member: -1, Kind: part.Large, Why: "large"}, {Member: 0, Kind: part.OddName}}}}
@@ -48,8 +48,8 @@ func TestSchema(t *testing.T) {
 	answer.Devices[1].Unasked = []finding.Unasked{{ID: "music", Label: "my music", InPart: true}, {ID: "pics"}}
 	answer.Devices[0].IsSilent = true
 	var written strings.Builder
-	for _, one := range []*finding.Answer{answer, answerOf(1, func(*finding.Folder) {}), answerOf(3, notFirm), {}} {
-		if err := Of(one).WriteJSON(&written); err != nil {
+	for _, next := range []*finding.Answer{answer, answerOf(1, func(*finding.Folder) {}), answerOf(3, notFirm), {}} {
+		if err := Of(next).WriteJSON(&written); err != nil {
 			t.Fatal(err)
 		}
 	}
@@ -96,15 +96,15 @@ func TestNoTimeOfASymlink(t *testing.T) {
 		t.Fatal(err)
 	}
 	files := read.Folders[0].Files
-	for _, one := range []struct {
+	for _, row := range []struct {
 		file  int
 		state string
 		has   bool
 	}{{0, "due", false}, {0, "recorded", false}, {0, "found", true}, {1, "due", true}, {1, "recorded", false}} {
-		state := files[one.file].Faults[0][one.state].(map[string]interface{})
+		state := files[row.file].Faults[0][row.state].(map[string]interface{})
 		at, has := state["modified"]
-		if has != one.has || has && !strings.HasPrefix(at.(string), "2020-09-13T") {
-			t.Errorf("%+v: %v", one, state)
+		if has != row.has || has && !strings.HasPrefix(at.(string), "2020-09-13T") {
+			t.Errorf("%+v: %v", row, state)
 		}
 	}
 }

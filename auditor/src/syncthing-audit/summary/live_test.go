@@ -12,11 +12,11 @@ import (
 
 // inMotion gives names that changed on the server.
 func inMotion(count int) []finding.Moving {
-	made := []finding.Moving{}
+	moving := []finding.Moving{}
 	for next := 0; next < count; next++ {
-		made = append(made, finding.Moving{Name: part.Bytes(fmt.Sprint("n", next)), At: []finding.Moved{{Member: 1, Why: []string{part.MovedDisk}}}})
+		moving = append(moving, finding.Moving{Name: part.Bytes(fmt.Sprint("n", next)), At: []finding.Moved{{Member: 1, Why: []string{part.MovedDisk}}}})
 	}
-	return made
+	return moving
 }
 
 // What waits for a scan is never told to come to rest by itself.
@@ -34,9 +34,9 @@ func TestAdviceForWhatWaitsForAScan(t *testing.T) {
 			"audit again, and for what waits for a scan after one by Syncthing, as with --rescan"},
 		{Live{Moving: 2, Names: []Moving{moved(part.MovedUnscanned)}}, "audit again, and for what waits for a scan after one by Syncthing, as with --rescan"},
 	}
-	for _, one := range cases {
-		if made := one.live.advice(); made != one.advice {
-			t.Errorf("%+v: %s", one.live, made)
+	for _, row := range cases {
+		if told := row.live.advice(); told != row.advice {
+			t.Errorf("%+v: %s", row.live, told)
 		}
 	}
 }
@@ -87,13 +87,13 @@ not heard of in docs: what laptop recorded last of 3 still names hasn't reached 
 // What was still, for how long, and what was in motion: it is never called in step.
 func TestTextOfRunningDevices(t *testing.T) {
 	var documents strings.Builder
-	for _, one := range textsOfRunningDevices {
+	for _, row := range textsOfRunningDevices {
 		var written strings.Builder
-		live := one.live
+		live := row.live
 		answer := answerOf(2, func(folder *finding.Folder) { folder.Live = &live })
 		Of(answer).Print(&written, time.UTC, time.Time{})
-		if written.String() != one.text {
-			t.Errorf("%s:\n%s\nnot\n%s", one.why, written.String(), one.text)
+		if written.String() != row.text {
+			t.Errorf("%s:\n%s\nnot\n%s", row.why, written.String(), row.text)
 		}
 		if err := Of(answer).WriteJSON(&documents); err != nil {
 			t.Fatal(err)

@@ -11,29 +11,29 @@ import (
 )
 
 // emptied has no bytes on the disk any more.
-func emptied(one *part.Name) {
-	rotten(one)
-	one.Disk.Size = 0
-	one.Disk.Differ.First.Found = nil
+func emptied(at *part.Name) {
+	rotten(at)
+	at.Disk.Size = 0
+	at.Disk.Differ.First.Found = nil
 }
 
 // resized has bytes of another size on the disk.
-func resized(one *part.Name) {
-	rotten(one)
-	one.Disk.Size = 1000
+func resized(at *part.Name) {
+	rotten(at)
+	at.Disk.Size = 1000
 }
 
 // grown has more bytes on the disk than were recorded.
-func grown(one *part.Name) {
-	rotten(one)
-	one.Disk.Size = 400000
+func grown(at *part.Name) {
+	rotten(at)
+	at.Disk.Size = 400000
 }
 
 // zeroed has zeros in place of its last block, which is shorter than the others.
-func zeroed(one *part.Name) {
-	rotten(one)
+func zeroed(at *part.Name) {
+	rotten(at)
 	zeros := part.Hash(sha256.Sum256(make([]byte, 300000-2*131072)))
-	one.Disk.Differ.First.Found = &zeros
+	at.Disk.Differ.First.Found = &zeros
 }
 
 // zerosOf gives the hash of a block of so many zeros, and that of the content of a file of zeros.
@@ -52,22 +52,22 @@ func zerosOf(size int64) (last, all part.Hash) {
 }
 
 // allZeros has zeros in place of all its blocks.
-func allZeros(one *part.Name) {
-	rotten(one)
-	last, all := zerosOf(one.Disk.Size)
-	one.Disk.Contents[0].Hash, one.Disk.Differ.First.Found = all, &last
+func allZeros(at *part.Name) {
+	rotten(at)
+	last, all := zerosOf(at.Disk.Size)
+	at.Disk.Contents[0].Hash, at.Disk.Differ.First.Found = all, &last
 }
 
 // overZeros has other bytes than the zeros that were recorded.
-func overZeros(one *part.Name) {
-	rotten(one)
-	last, all := zerosOf(one.Own.Content.Size)
-	one.Own.Content.Hash, one.Disk.Differ.First.Recorded = all, &last
+func overZeros(at *part.Name) {
+	rotten(at)
+	last, all := zerosOf(at.Own.Content.Size)
+	at.Own.Content.Hash, at.Disk.Differ.First.Recorded = all, &last
 }
 
 // afterwards gives a change that comes with a later time.
 func afterwards(change func(*part.Name)) func(*part.Name) {
-	return func(one *part.Name) { change(one); touched(one) }
+	return func(at *part.Name) { change(at); touched(at) }
 }
 
 // looking are changes of a file on the server's disk; what a person reads of them, and whether they look like damage.
@@ -92,13 +92,13 @@ var looking = []struct {
 // What looks like damage is told as that, and comes first.
 func TestWhatLooksDamaged(t *testing.T) {
 	const first = "first, on server: 1 file looks damaged, not edited. Do what is said of that below before Syncthing starts or scans there"
-	for _, one := range looking {
-		text := toldOf([]*part.Name{file(1, 1), with(file(1, 1), one.change)}, "StoreDiffers 2", 0, 1, func(*finding.Folder) {})
-		if !strings.Contains(text, one.has) {
-			t.Errorf("%s: %q isn't in %s", one.why, one.has, text)
+	for _, row := range looking {
+		text := toldOf([]*part.Name{file(1, 1), with(file(1, 1), row.change)}, "StoreDiffers 2", 0, 1, func(*finding.Folder) {})
+		if !strings.Contains(text, row.has) {
+			t.Errorf("%s: %q isn't in %s", row.why, row.has, text)
 		}
-		if strings.Contains(text, first) != one.isDamaged {
-			t.Errorf("%s: whether %q is told is wrong: %s", one.why, first, text)
+		if strings.Contains(text, first) != row.isDamaged {
+			t.Errorf("%s: whether %q is told is wrong: %s", row.why, first, text)
 		}
 	}
 }
@@ -136,11 +136,11 @@ func TestManyThatLookDamaged(t *testing.T) {
 			folder.Members[1].About.Kind = kind
 			fails(folder, "0", []*part.Name{file(1, 1), with(file(1, 1), afterwards(rotten))}, "StoreDiffers 2")
 		})
-		const one = "6 names in docs: 1.8 MB server: looks damaged: 1.8 MB recorded, 0 bytes on the disk: EMPTY the first: a0"
-		if !strings.Contains(text, one) || strings.Contains(text, "first, on server: 6 files look damaged") != isFirst {
+		const entry = "6 names in docs: 1.8 MB server: looks damaged: 1.8 MB recorded, 0 bytes on the disk: EMPTY the first: a0"
+		if !strings.Contains(text, entry) || strings.Contains(text, "first, on server: 6 files look damaged") != isFirst {
 			t.Errorf("%s: %s", kind, text)
 		}
-		if isFirst && strings.Index(text, one) > strings.Index(text, "0 (in docs") {
+		if isFirst && strings.Index(text, entry) > strings.Index(text, "0 (in docs") {
 			t.Errorf("an edit comes before what is damaged: %s", text)
 		}
 	}

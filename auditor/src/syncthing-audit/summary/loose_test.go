@@ -46,29 +46,29 @@ func TestWhatAPersonReadsOfFirmness(t *testing.T) {
 		{"it wasn't asked", func(folder *finding.Folder) { folder.Firmness = finding.Firmness{} }, "docs (Documents): in step; " + lineOfDevices +
 			"\nnot asked: whether what is in step is firm, too: this syncaudit is too old to say so\n" + lastLine[1:]},
 	}
-	for _, one := range cases {
+	for _, row := range cases {
 		var written strings.Builder
-		Of(answerOf(3, one.fill)).Print(&written, time.UTC, time.Time{})
-		if !strings.HasPrefix(written.String(), one.text) {
-			t.Errorf("%s:\n%s\nnot\n%s", one.why, written.String(), one.text)
+		Of(answerOf(3, row.fill)).Print(&written, time.UTC, time.Time{})
+		if !strings.HasPrefix(written.String(), row.text) {
+			t.Errorf("%s:\n%s\nnot\n%s", row.why, written.String(), row.text)
 		}
 	}
 }
 
 // linesOf gives so many lines with their numbers.
 func linesOf(count int, format string) string {
-	made := ""
+	lines := ""
 	for next := 0; next < count; next++ {
-		made += fmt.Sprintf(format, next)
+		lines += fmt.Sprintf(format, next)
 	}
-	return made
+	return lines
 }
 
 // A program reads the same, and of names beyond those that are listed their count.
 func TestWhatAProgramReadsOfFirmness(t *testing.T) {
-	made := Of(answerOf(3, notFirm))
-	folder := made.Folders[0]
-	if made.Verdict != InStep || made.Firm != finding.NotFirm || folder.Firm != finding.NotFirm || folder.Loose != 2 || len(folder.NotFirm) != 2 ||
+	summary := Of(answerOf(3, notFirm))
+	folder := summary.Folders[0]
+	if summary.Verdict != InStep || summary.Firm != finding.NotFirm || folder.Firm != finding.NotFirm || folder.Loose != 2 || len(folder.NotFirm) != 2 ||
 		folder.NotFirm[0].Devices[0] != (LooseAt{server, finding.VersionDiffers, false}) {
 		t.Errorf("%+v", folder)
 	}

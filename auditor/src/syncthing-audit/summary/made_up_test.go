@@ -42,8 +42,8 @@ func answerOf(devices int, fill func(*finding.Folder)) *finding.Answer {
 	told = nil
 	fill(folder)
 	sort.SliceStable(told, func(a, b int) bool { return finding.IsBefore(&told[a], &told[b]) })
-	for _, one := range told {
-		folder.Failures.Add(one)
+	for _, failure := range told {
+		folder.Failures.Add(failure)
 	}
 	return answer
 }
@@ -59,22 +59,22 @@ func file(version uint64, hash byte) *part.Name {
 }
 
 // with gives the same with a change.
-func with(one *part.Name, change func(*part.Name)) *part.Name {
-	change(one)
-	return one
+func with(at *part.Name, change func(*part.Name)) *part.Name {
+	change(at)
+	return at
 }
 
 // rotten has one block of other bytes.
-func rotten(one *part.Name) {
-	one.Disk.Contents[0].Hash = part.Hash{99}
-	one.Disk.Differ = &part.Differ{Count: 1, Ranges: [][2]int64{{2, 2}}, First: part.Pair{Recorded: &part.Hash{0xab, 0xcd}, Found: &part.Hash{0x12}}}
+func rotten(at *part.Name) {
+	at.Disk.Contents[0].Hash = part.Hash{99}
+	at.Disk.Differ = &part.Differ{Count: 1, Ranges: [][2]int64{{2, 2}}, First: part.Pair{Recorded: &part.Hash{0xab, 0xcd}, Found: &part.Hash{0x12}}}
 }
 
 // fails adds a name with its reasons, such as 'StoreDiffers 2'.
 func fails(folder *finding.Folder, name string, row []*part.Name, reasons ...string) {
-	for _, one := range reasons {
+	for _, reason := range reasons {
 		failure := finding.Failure{Name: name}
-		fmt.Sscan(one, &failure.Reason, &failure.Device)
+		fmt.Sscan(reason, &failure.Reason, &failure.Device)
 		told = append(told, failure)
 	}
 	if row != nil {

@@ -21,19 +21,19 @@ func TestNamesWithoutDetails(t *testing.T) {
 			fails(folder, fmt.Sprintf("b%03d", next), nil, reasons[next%4]...)
 		}
 	})
-	made := Of(answer).Folders[0]
-	if made.Wrong != 401 || len(made.Files) != 1 || made.Files[0].Name != "a" {
-		t.Errorf("%d names are wrong, %d are told one by one", made.Wrong, len(made.Files))
+	docs := Of(answer).Folders[0]
+	if docs.Wrong != 401 || len(docs.Files) != 1 || docs.Files[0].Name != "a" {
+		t.Errorf("%d names are wrong, %d are told one by one", docs.Wrong, len(docs.Files))
 	}
 	names := map[string]int64{}
-	for _, one := range made.Groups {
-		words := []string{string(one.Cause)}
-		for _, device := range one.Devices {
+	for _, group := range docs.Groups {
+		words := []string{string(group.Cause)}
+		for _, device := range group.Devices {
 			words = append(words, device[:6])
 		}
-		names[strings.Join(words, " ")] += one.Names
-		if one.Unsized != one.Names {
-			t.Errorf("details are told of %d", one.Names-one.Unsized)
+		names[strings.Join(words, " ")] += group.Names
+		if group.Unsized != group.Names {
+			t.Errorf("details are told of %d", group.Names-group.Unsized)
 		}
 	}
 	expected := map[string]int64{"differs SERVER": 200, "differs LAPTOP SERVER": 100, "behind SERVER": 100}
@@ -49,9 +49,9 @@ func TestManyKindsOfModes(t *testing.T) {
 			folder.Permissions.Add(finding.Permissions{Name: fmt.Sprintf("%05d", next), At: []finding.Bits{{Has: true, Index: next}, {Has: true, Index: next + 1}}})
 		}
 	})
-	made := Of(answer).Folders[0]
-	if len(made.Files) != mostKinds || len(made.Groups) != 1 || made.Groups[0].Names != 2*mostKinds || made.Wrong != 0 {
-		t.Errorf("%d alone, %d groups, %d wrong", len(made.Files), len(made.Groups), made.Wrong)
+	docs := Of(answer).Folders[0]
+	if len(docs.Files) != mostKinds || len(docs.Groups) != 1 || docs.Groups[0].Names != 2*mostKinds || docs.Wrong != 0 {
+		t.Errorf("%d alone, %d groups, %d wrong", len(docs.Files), len(docs.Groups), docs.Wrong)
 	}
 }
 
@@ -69,16 +69,16 @@ func TestMemory(t *testing.T) {
 		folder.Failures.Add(finding.Failure{Reason: "StoreDiffers", Name: name, Device: uint64(next%2 + 1)})
 		folder.Unwon.Add(finding.Unwon{Name: name + "~", At: []finding.Cause{{Kind: finding.Unscanned}}})
 	}
-	made := Of(answer)
+	summary := Of(answer)
 	runtime.GC()
 	runtime.ReadMemStats(&after)
 	if grown := int64(after.HeapAlloc) - int64(before.HeapAlloc); grown > most {
 		t.Errorf("%d names take %d bytes", names, grown)
 	}
 	var written strings.Builder
-	made.Print(&written, time.UTC, time.Time{})
-	if made.Folders[0].Wrong != 2*names || !strings.Contains(written.String(), "100,000 names are wrong") || answer.Err() != nil {
-		t.Errorf("%d names are wrong, %v", made.Folders[0].Wrong, answer.Err())
+	summary.Print(&written, time.UTC, time.Time{})
+	if summary.Folders[0].Wrong != 2*names || !strings.Contains(written.String(), "100,000 names are wrong") || answer.Err() != nil {
+		t.Errorf("%d names are wrong, %v", summary.Folders[0].Wrong, answer.Err())
 	}
 	count := 0
 	folder.EachFailure(func(*finding.Failure) { count++ })

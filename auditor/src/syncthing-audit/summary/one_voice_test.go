@@ -98,31 +98,31 @@ func TestWhatAnEntryPointsToStandsAbove(t *testing.T) {
 
 // adviceIn gives what each entry of a folder tells to do.
 func adviceIn(folder *Folder) [][]string {
-	var made [][]string
-	for _, one := range folder.Files {
-		made = append(made, one.Advice)
+	var advice [][]string
+	for _, file := range folder.Files {
+		advice = append(advice, file.Advice)
 	}
-	for _, one := range folder.Groups {
-		made = append(made, one.Advice)
+	for _, group := range folder.Groups {
+		advice = append(advice, group.Advice)
 	}
-	return made
+	return advice
 }
 
 // randomModes gives a name's permissions where they differ: now and then on a disk from what is recorded.
 func randomModes(random *rand.Rand, row []*part.Name) []finding.Bits {
-	made, differ := make([]finding.Bits, len(row)), false
+	bits, differ := make([]finding.Bits, len(row)), false
 	for place, at := range row {
 		if at == nil || at.Own == nil || at.Own.Deleted {
 			continue
 		}
-		made[place] = finding.Bits{Has: true, Index: 0o644, OnDisk: at.Disk != nil}
+		bits[place] = finding.Bits{Has: true, Index: 0o644, OnDisk: at.Disk != nil}
 		if at.Disk != nil {
-			made[place].Disk = []uint32{0o644, 0o644, 0o600}[random.Intn(3)]
-			differ = differ || made[place].Disk != 0o644
+			bits[place].Disk = []uint32{0o644, 0o644, 0o600}[random.Intn(3)]
+			differ = differ || bits[place].Disk != 0o644
 		}
 	}
 	if !differ {
 		return nil
 	}
-	return made
+	return bits
 }

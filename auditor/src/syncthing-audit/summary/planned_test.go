@@ -24,7 +24,7 @@ func planFor(below int64, names ...string) *outlook.Outlook {
 
 // The steps end with a start of all devices. Whatever an entry says to do before that, and no step puts right, comes before it.
 func TestNothingStartsBeforeWhatHasNoSteps(t *testing.T) {
-	for _, one := range []struct {
+	for _, row := range []struct {
 		why, told string
 		outlook   *outlook.Outlook
 		names     []string
@@ -35,21 +35,21 @@ func TestNothingStartsBeforeWhatHasNoSteps(t *testing.T) {
 		{"two have none", "for 2 names that no step here puts right: a/b b 3. start", planFor(0, "a"), []string{"a", "a/b", "b"}},
 		{"one comes back with what is above it", "2. start Syncthing on all its devices", planFor(1, "a"), []string{"a", "a/b"}},
 		{"a plan saves alone", "2. start Syncthing on all its devices", func() *outlook.Outlook {
-			made := planFor(0, "a")
-			made.Plans[0].Goal, made.Plans[0].Steps[0].Act = nil, outlook.Save
-			return made
+			planned := planFor(0, "a")
+			planned.Plans[0].Goal, planned.Plans[0].Steps[0].Act = nil, outlook.Save
+			return planned
 		}(), []string{"a"}},
 	} {
 		answer := answerOf(2, func(folder *finding.Folder) {
-			folder.Outlook = one.outlook
-			for _, name := range one.names {
+			folder.Outlook = row.outlook
+			for _, name := range row.names {
 				missing(folder, name, 1)
 			}
 		})
 		var written strings.Builder
 		Of(answer).Print(&written, time.UTC, time.Time{})
-		if text := strings.Join(strings.Fields(written.String()), " "); !strings.Contains(text, one.told) {
-			t.Error(fmt.Sprint(one.why, ": ", text))
+		if text := strings.Join(strings.Fields(written.String()), " "); !strings.Contains(text, row.told) {
+			t.Error(fmt.Sprint(row.why, ": ", text))
 		}
 	}
 }

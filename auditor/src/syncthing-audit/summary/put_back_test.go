@@ -9,21 +9,21 @@ import (
 )
 
 // rottenMore has two blocks of other bytes, and rottenAll has all.
-func rottenMore(one *part.Name) {
-	rotten(one)
-	one.Disk.Contents[0].Hash = part.Hash{98}
-	one.Disk.Differ.Count, one.Disk.Differ.Ranges = 2, [][2]int64{{0, 0}, {2, 2}}
+func rottenMore(at *part.Name) {
+	rotten(at)
+	at.Disk.Contents[0].Hash = part.Hash{98}
+	at.Disk.Differ.Count, at.Disk.Differ.Ranges = 2, [][2]int64{{0, 0}, {2, 2}}
 }
 
-func rottenAll(one *part.Name) {
-	rotten(one)
-	one.Disk.Differ.Count, one.Disk.Differ.Ranges = 3, [][2]int64{{0, 2}}
+func rottenAll(at *part.Name) {
+	rotten(at)
+	at.Disk.Differ.Count, at.Disk.Differ.Ranges = 3, [][2]int64{{0, 2}}
 }
 
 // Where no audited device has what is recorded, an entry says so before all else, and on which disks some of its blocks are. These are saved.
 func TestWhatNoDeviceHas(t *testing.T) {
 	const begins = "to do: look among old versions and backups: no audited device has what is recorded"
-	for why, one := range map[string]struct {
+	for why, example := range map[string]struct {
 		row         []*part.Name
 		told, saves string
 	}{
@@ -40,26 +40,26 @@ func TestWhatNoDeviceHas(t *testing.T) {
 		if why != "one device has all" {
 			reasons = "StoreDiffers 1," + reasons
 		}
-		text := toldOf(one.row, reasons, 0, 1, func(*finding.Folder) {})
-		if !strings.Contains(text, one.told) || strings.Contains(text, begins) != (one.told != "") {
+		text := toldOf(example.row, reasons, 0, 1, func(*finding.Folder) {})
+		if !strings.Contains(text, example.told) || strings.Contains(text, begins) != (example.told != "") {
 			t.Errorf("%s: %s", why, text)
 		}
-		if one.saves != "" && !strings.Contains(text, "copy elsewhere what is to stay of what stands on "+one.saves) {
+		if example.saves != "" && !strings.Contains(text, "copy elsewhere what is to stay of what stands on "+example.saves) {
 			t.Errorf("%s: %s", why, text)
 		}
 	}
 }
 
 // edit is an edit that no scan has seen.
-func edit(one *part.Name) *part.Name { return with(one, afterwards(rotten)) }
+func edit(row *part.Name) *part.Name { return with(row, afterwards(rotten)) }
 
 // Bytes that a device recorded, and that another one has at their time, are copied from there, whatever is due.
 func TestFromWhereBytesArePutBack(t *testing.T) {
 	inConflict := func(phone *part.Name) []*part.Name { // the server has another change of the name than the others
 		return []*part.Name{file(2, 2), with(with(file(1, 1), another), rotten), phone}
 	}
-	old := with(with(file(1, 1), another), func(one *part.Name) { one.Disk.ModifiedS-- })
-	for why, one := range map[string]struct {
+	old := with(with(file(1, 1), another), func(row *part.Name) { row.Disk.ModifiedS-- })
+	for why, row := range map[string]struct {
 		phone  *part.Name
 		isTold bool
 	}{
@@ -68,11 +68,11 @@ func TestFromWhereBytesArePutBack(t *testing.T) {
 		"no device has them":                {file(2, 2), false},
 	} {
 		reasons := "RecordDiffers 2,StoreDiffers 2"
-		if one.phone.Own.Version[0][0] == 2 {
+		if row.phone.Own.Version[0][0] == 2 {
 			reasons += ",RecordDiffers 3"
 		}
-		text := toldOf(inConflict(one.phone), reasons, 0, 1, func(*finding.Folder) {})
-		if strings.Contains(text, "to have again what server recorded, copy it from phone to server with its time alone, into the file that stands there (cp --preserve=timestamps, ") != one.isTold {
+		text := toldOf(inConflict(row.phone), reasons, 0, 1, func(*finding.Folder) {})
+		if strings.Contains(text, "to have again what server recorded, copy it from phone to server with its time alone, into the file that stands there (cp --preserve=timestamps, ") != row.isTold {
 			t.Errorf("%s: %s", why, text)
 		}
 	}
@@ -80,7 +80,7 @@ func TestFromWhereBytesArePutBack(t *testing.T) {
 
 // What is missing, or stands in place of something else, is copied whole.
 func TestHowBytesArePutBack(t *testing.T) {
-	link := func(one *part.Name) { one.Disk = &part.Node{Type: 4, Target: "elsewhere"} }
+	link := func(at *part.Name) { at.Disk = &part.Node{Type: 4, Target: "elsewhere"} }
 	for has, change := range map[string]func(*part.Name){
 		"to server as it is (cp -a, or rsync -aIX, as the user who runs Syncthing there), with the directories above that aren't there, while Syncthing is stopped there": absent,
 		"to server as it is (cp -a, or rsync -aIX, as the user who runs Syncthing there), once what stands there is moved away, while Syncthing is stopped there":         link,
@@ -92,7 +92,7 @@ func TestHowBytesArePutBack(t *testing.T) {
 }
 
 // another is recorded by the second device, beside what the first one recorded.
-func another(one *part.Name) { one.Own.Version, one.Own.ModifiedBy = [][2]uint64{{2, 1}}, 2 }
+func another(at *part.Name) { at.Own.Version, at.Own.ModifiedBy = [][2]uint64{{2, 1}}, 2 }
 
 // An entry tells the size of what is due, and not the greatest of all devices.
 func TestTheSizeIsThatOfWhatIsDue(t *testing.T) {

@@ -26,14 +26,14 @@ var calledSo = []string{"laptop", "server", "phone", "tablet"}
 
 // randomWorld gives a folder of two to four devices that has no names yet.
 func randomWorld(random *rand.Rand) *world {
-	made := &world{rows: map[string][]*part.Name{}, modes: map[string][]finding.Bits{}}
+	drawn := &world{rows: map[string][]*part.Name{}, modes: map[string][]finding.Bits{}}
 	for place, name := range calledSo[:2+random.Intn(3)] {
-		made.names, made.numbers = append(made.names, name), append(made.numbers, uint64(place+1))
-		made.kinds = append(made.kinds, []string{"send-receive", "send-receive", "send-receive", receiveOnly, sendOnly}[random.Intn(5)])
-		made.runs = append(made.runs, []string{"v1.19.2", "v1.29.5", ""}[random.Intn(3)])
-		made.areWide = append(made.areWide, random.Intn(6) == 0)
+		drawn.names, drawn.numbers = append(drawn.names, name), append(drawn.numbers, uint64(place+1))
+		drawn.kinds = append(drawn.kinds, []string{"send-receive", "send-receive", "send-receive", receiveOnly, sendOnly}[random.Intn(5)])
+		drawn.runs = append(drawn.runs, []string{"v1.19.2", "v1.29.5", ""}[random.Intn(3)])
+		drawn.areWide = append(drawn.areWide, random.Intn(6) == 0)
 	}
-	return made
+	return drawn
 }
 
 // answer gives what is found of the names, as the audit and syncaudit tell it.
@@ -67,8 +67,8 @@ func (w *world) answer() *finding.Answer {
 		}
 	}
 	sort.SliceStable(failures, func(a, b int) bool { return finding.IsBefore(&failures[a], &failures[b]) })
-	for _, one := range failures {
-		folder.Failures.Add(one)
+	for _, failure := range failures {
+		folder.Failures.Add(failure)
 	}
 	return answer
 }
@@ -78,21 +78,21 @@ var idsOfWorld = []string{laptop, server, phone, "TABLETA" + restOfID}
 
 // order gives the places of the devices, their numbers rising.
 func (w *world) order() []int {
-	made := []int{}
+	places := []int{}
 	for place := range w.names {
-		made = append(made, place)
+		places = append(places, place)
 	}
-	sort.Slice(made, func(a, b int) bool { return w.numbers[made[a]] < w.numbers[made[b]] })
-	return made
+	sort.Slice(places, func(a, b int) bool { return w.numbers[places[a]] < w.numbers[places[b]] })
+	return places
 }
 
 // row gives a name as the audit has it: versions have the devices' numbers in place of their places.
 func (w *world) row(name string, order []int) *join.Row {
-	made := &join.Row{Name: name}
+	joined := &join.Row{Name: name}
 	for _, place := range order {
 		at := w.rows[name][place]
 		if at == nil {
-			made.At = append(made.At, nil)
+			joined.At = append(joined.At, nil)
 			continue
 		}
 		next := &part.Name{Name: part.Bytes(name), Disk: at.Disk}
@@ -101,19 +101,19 @@ func (w *world) row(name string, order []int) *join.Row {
 			own.Version, own.Local, own.ModifiedBy = w.numbered(own.Version), w.numbered(own.Local), w.numbers[own.ModifiedBy]
 			next.Own = &own
 		}
-		made.At = append(made.At, next)
+		joined.At = append(joined.At, next)
 	}
-	return made
+	return joined
 }
 
 // numbered gives a version of places by the devices' numbers, rising.
 func (w *world) numbered(version [][2]uint64) [][2]uint64 {
-	var made [][2]uint64
-	for _, one := range version {
-		made = append(made, [2]uint64{w.numbers[one[0]], one[1]})
+	var named [][2]uint64
+	for _, counter := range version {
+		named = append(named, [2]uint64{w.numbers[counter[0]], counter[1]})
 	}
-	sort.Slice(made, func(a, b int) bool { return made[a][0] < made[b][0] })
-	return made
+	sort.Slice(named, func(a, b int) bool { return named[a][0] < named[b][0] })
+	return named
 }
 
 // addFound adds a name that has no winner, or gives the reasons that syncaudit tells of it (docs/reasons.md).
@@ -123,31 +123,31 @@ func addFound(folder *finding.Folder, row *join.Row) []finding.Failure {
 		folder.Unwon.Add(finding.Unwon{Name: row.Name, At: withoutWinner(row)})
 		return nil
 	}
-	made := []finding.Failure{}
+	failures := []finding.Failure{}
 	for place, member := range folder.Members {
 		at := row.At[place]
 		if at == nil {
 			at = &part.Name{}
 		}
 		for _, reason := range reasonsAt(at, winner) {
-			made = append(made, finding.Failure{Reason: reason, Name: row.Name, Device: member.Number})
+			failures = append(failures, finding.Failure{Reason: reason, Name: row.Name, Device: member.Number})
 		}
 	}
-	return made
+	return failures
 }
 
 func withoutWinner(row *join.Row) []finding.Cause {
-	made := []finding.Cause{}
+	causes := []finding.Cause{}
 	for place, at := range row.At {
 		switch {
 		case at == nil:
 		case at.Own != nil:
-			made = append(made, finding.Cause{Member: place, Kind: finding.LocalChange})
+			causes = append(causes, finding.Cause{Member: place, Kind: finding.LocalChange})
 		case at.Disk != nil:
-			made = append(made, finding.Cause{Member: place, Kind: finding.Unscanned})
+			causes = append(causes, finding.Cause{Member: place, Kind: finding.Unscanned})
 		}
 	}
-	return made
+	return causes
 }
 
 // documentWinner gives the record that wins a name in a document: at equal times by who modified it, and then by the device.
@@ -166,39 +166,39 @@ func documentWinner(row *join.Row) *part.Record {
 	return winner
 }
 
-func comesFirst(one, other *part.Record) bool {
+func comesFirst(record, other *part.Record) bool {
 	switch {
-	case one.Deleted != other.Deleted:
+	case record.Deleted != other.Deleted:
 		return other.Deleted
-	case one.ModifiedS != other.ModifiedS:
-		return one.ModifiedS > other.ModifiedS
+	case record.ModifiedS != other.ModifiedS:
+		return record.ModifiedS > other.ModifiedS
 	}
-	return one.ModifiedBy < other.ModifiedBy
+	return record.ModifiedBy < other.ModifiedBy
 }
 
 // reasonsAt gives the reasons that fail of a device.
 func reasonsAt(at *part.Name, winner *part.Record) []string {
-	made, own, disk := []string{}, at.Own, at.Disk
+	reasons, own, disk := []string{}, at.Own, at.Disk
 	if own == nil && !winner.Deleted {
-		made = append(made, "RecordMissing")
+		reasons = append(reasons, "RecordMissing")
 	}
 	if own != nil && !own.Invalid && (own.Deleted != winner.Deleted || !own.Deleted && !(own.Type == winner.Type && own.Target == winner.Target && sameContent(own, winner))) {
-		made = append(made, "RecordDiffers")
+		reasons = append(reasons, "RecordDiffers")
 	}
 	if own != nil && own.Invalid {
-		made = append(made, "LocalOnly")
+		reasons = append(reasons, "LocalOnly")
 	}
 	if winner.Deleted != (disk == nil) || disk != nil && !isSame(disk, winner) {
-		made = append(made, "StoreDiffers")
+		reasons = append(reasons, "StoreDiffers")
 	}
 	if isUnclean(own, disk) {
-		made = append(made, "StoreUnclean")
+		reasons = append(reasons, "StoreUnclean")
 	}
-	return made
+	return reasons
 }
 
-func sameContent(one, other *part.Record) bool {
-	return (one.Content == nil) == (other.Content == nil) && (one.Content == nil || *one.Content == *other.Content)
+func sameContent(record, other *part.Record) bool {
+	return (record.Content == nil) == (other.Content == nil) && (record.Content == nil || *record.Content == *other.Content)
 }
 
 func isUnclean(own *part.Record, disk *part.Node) bool {
@@ -252,9 +252,9 @@ func (w *world) randomHistory(random *rand.Rand) []*part.Name {
 			w.takeFrom(at[place], at[other], place, other)
 		}
 	}
-	for place, one := range at {
-		differ(one)
-		if one.Own == nil && one.Disk == nil {
+	for place, has := range at {
+		differ(has)
+		if has.Own == nil && has.Disk == nil {
 			at[place] = nil
 		}
 	}
@@ -307,16 +307,16 @@ func (w *world) scan(at *part.Name, place int, clock int64) {
 
 // raised gives a version on top of another one by a device.
 func raised(was [][2]uint64, place uint64) [][2]uint64 {
-	made, top := [][2]uint64{}, uint64(0)
-	for _, one := range was {
-		if one[1] > top {
-			top = one[1]
+	version, top := [][2]uint64{}, uint64(0)
+	for _, counter := range was {
+		if counter[1] > top {
+			top = counter[1]
 		}
-		if one[0] != place {
-			made = append(made, one)
+		if counter[0] != place {
+			version = append(version, counter)
 		}
 	}
-	return append(made, [2]uint64{place, top + 1})
+	return append(version, [2]uint64{place, top + 1})
 }
 
 // takeFrom has a device take what another one recorded, where Syncthing does.
@@ -351,44 +351,44 @@ func differ(at *part.Name) {
 func (w *world) randomRow(random *rand.Rand) []*part.Name {
 	at := make([]*part.Name, len(w.names))
 	for place := range at {
-		one := &part.Name{}
+		has := &part.Name{}
 		if random.Intn(4) > 0 {
-			one.Disk = randomNode(random, started+60*int64(random.Intn(3)))
-			w.scan(one, place, started)
-			one.Own.Invalid, one.Own.Local, one.Own.Deleted = false, nil, random.Intn(5) == 0
-			if one.Own.Version = randomVersion(random, len(at)); one.Own.Deleted {
-				one.Own.Content, one.Own.Target, one.Disk = nil, "", nil
+			has.Disk = randomNode(random, started+60*int64(random.Intn(3)))
+			w.scan(has, place, started)
+			has.Own.Invalid, has.Own.Local, has.Own.Deleted = false, nil, random.Intn(5) == 0
+			if has.Own.Version = randomVersion(random, len(at)); has.Own.Deleted {
+				has.Own.Content, has.Own.Target, has.Disk = nil, "", nil
 			}
 			if w.kinds[place] == receiveOnly && random.Intn(2) == 0 {
-				one.Own.Invalid, one.Own.Local, one.Own.Version = true, one.Own.Version, nil
+				has.Own.Invalid, has.Own.Local, has.Own.Version = true, has.Own.Version, nil
 			}
 		}
 		switch random.Intn(6) {
 		case 0:
-			one.Disk = nil
+			has.Disk = nil
 		case 1:
-			one.Disk = randomNode(random, started+60*int64(random.Intn(3)))
+			has.Disk = randomNode(random, started+60*int64(random.Intn(3)))
 		case 2:
-			spoil(one, random)
+			spoil(has, random)
 		}
-		if differ(one); one.Own != nil || one.Disk != nil {
-			at[place] = one
+		if differ(has); has.Own != nil || has.Disk != nil {
+			at[place] = has
 		}
 	}
 	return at
 }
 
 func randomVersion(random *rand.Rand, devices int) [][2]uint64 {
-	made := [][2]uint64{}
+	version := [][2]uint64{}
 	for place := 0; place < devices; place++ {
 		if value := uint64(random.Intn(3)); value > 0 {
-			made = append(made, [2]uint64{uint64(place), value})
+			version = append(version, [2]uint64{uint64(place), value})
 		}
 	}
-	if len(made) == 0 {
-		made = append(made, [2]uint64{0, 1})
+	if len(version) == 0 {
+		version = append(version, [2]uint64{0, 1})
 	}
-	return made
+	return version
 }
 
 // randomName gives a name of one kind or the other.

@@ -20,8 +20,8 @@ var renames = []struct {
 		fails(folder, "old", []*part.Name{gone(), file(1, 7)}, "RecordDiffers 2", "StoreDiffers 2", "ViewAhead 2")
 	}, map[string]string{"new": "old"}},
 	{"renamed on the server's disk, and no scan has seen it", func(folder *finding.Folder) {
-		unwon(folder, "new", 1, finding.Unscanned, with(file(1, 7), func(one *part.Name) { one.Own = nil }))
-		fails(folder, "old", []*part.Name{file(1, 7), with(file(1, 7), func(one *part.Name) { one.Disk = nil })}, "StoreDiffers 2")
+		unwon(folder, "new", 1, finding.Unscanned, with(file(1, 7), func(at *part.Name) { at.Own = nil }))
+		fails(folder, "old", []*part.Name{file(1, 7), with(file(1, 7), func(at *part.Name) { at.Disk = nil })}, "StoreDiffers 2")
 	}, map[string]string{"new": "old"}},
 	{"two of the same bytes, one of which goes", func(folder *finding.Folder) {
 		fails(folder, "new", []*part.Name{file(1, 7), nil}, "RecordMissing 2", "StoreDiffers 2")
@@ -37,7 +37,7 @@ var renames = []struct {
 		fails(folder, "old", []*part.Name{gone(), file(1, 7)}, "RecordDiffers 2", "StoreDiffers 2", "ViewAhead 2")
 	}, nil},
 	{"empty files", func(folder *finding.Folder) {
-		empty := func(one *part.Name) { one.Own.Content.Size = 0 }
+		empty := func(at *part.Name) { at.Own.Content.Size = 0 }
 		fails(folder, "new", []*part.Name{with(file(1, 7), empty), nil}, "RecordMissing 2", "StoreDiffers 2")
 		fails(folder, "old", []*part.Name{gone(), with(file(1, 7), empty)}, "RecordDiffers 2", "StoreDiffers 2", "ViewAhead 2")
 	}, nil},
@@ -51,24 +51,24 @@ func gone() *part.Name {
 // A file that was renamed is told as one: each of its two names says the other one, to people and to programs.
 func TestRenames(t *testing.T) {
 	var documents strings.Builder
-	for _, one := range renames {
+	for _, row := range renames {
 		var written strings.Builder
-		made := Of(answerOf(2, one.fill))
-		made.Print(&written, time.UTC, time.Time{})
+		summary := Of(answerOf(2, row.fill))
+		summary.Print(&written, time.UTC, time.Time{})
 		told := 0
-		for _, file := range made.Folders[0].Files {
-			if string(file.RenamedFrom) != one.from[string(file.Name)] {
-				t.Errorf("%s: %s is renamed from %q", one.why, file.Name, file.RenamedFrom)
+		for _, file := range summary.Folders[0].Files {
+			if string(file.RenamedFrom) != row.from[string(file.Name)] {
+				t.Errorf("%s: %s is renamed from %q", row.why, file.Name, file.RenamedFrom)
 			}
-			if file.RenamedTo != "" && one.from[string(file.RenamedTo)] == string(file.Name) {
+			if file.RenamedTo != "" && row.from[string(file.RenamedTo)] == string(file.Name) {
 				told++
 			}
 		}
-		if told != len(one.from) || strings.Contains(written.String(), "  it seems to be renamed from old: the recorded bytes are the same\n") != (told > 0) ||
+		if told != len(row.from) || strings.Contains(written.String(), "  it seems to be renamed from old: the recorded bytes are the same\n") != (told > 0) ||
 			strings.Contains(written.String(), "  it seems to be renamed to new: the recorded bytes are the same\n") != (told > 0) {
-			t.Errorf("%s:\n%s", one.why, written.String())
+			t.Errorf("%s:\n%s", row.why, written.String())
 		}
-		if err := made.WriteJSON(&documents); err != nil {
+		if err := summary.WriteJSON(&documents); err != nil {
 			t.Fatal(err)
 		}
 	}

@@ -84,7 +84,7 @@ func goesByIDs(folder *finding.Folder) bool {
 }
 
 // isByID says whether two records are of one time and neither is on top of the other.
-func isByID(one, other *part.Record) bool {
-	claim, against := join.ClaimOf(one), join.ClaimOf(other)
+func isByID(record, other *part.Record) bool {
+	claim, against := join.ClaimOf(record), join.ClaimOf(other)
 	return !claim.IsBelow(against) && !against.IsBelow(claim)
 }

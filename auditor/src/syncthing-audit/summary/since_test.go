@@ -55,20 +55,20 @@ func TestWhatChangedAndIsRecordedComesFirst(t *testing.T) {
 	for takes, first := range map[int64]string{
 		0: "", 1: "first, on all devices but 1, 2: copy elsewhere what the history names above (1 file), ", 7: "first, on all devices but 1, 2: copy elsewhere what the history names above (7 files), ",
 	} {
-		made := &Summary{First: []First{{Why: isUnscanned}}}
-		made.Remember(&history.Since{Takes: takes, Taken: []history.Changed{{Devices: []string{"1"}}, {Devices: []string{"1", "2"}}}})
+		summary := &Summary{First: []First{{Why: isUnscanned}}}
+		summary.Remember(&history.Since{Takes: takes, Taken: []history.Changed{{Devices: []string{"1"}}, {Devices: []string{"1", "2"}}}})
 		if takes == 0 {
-			if len(made.First) != 1 || made.Since == nil {
-				t.Errorf("%+v", made.First)
+			if len(summary.First) != 1 || summary.Since == nil {
+				t.Errorf("%+v", summary.First)
 			}
 			continue
 		}
-		if len(made.First) != 2 || made.First[0].Why != isChanged || made.First[0].Names != takes || len(made.First[0].Devices) != 2 || !strings.HasPrefix(made.First[0].Text, first) {
-			t.Errorf("%+v, not %s", made.First, first)
+		if len(summary.First) != 2 || summary.First[0].Why != isChanged || summary.First[0].Names != takes || len(summary.First[0].Devices) != 2 || !strings.HasPrefix(summary.First[0].Text, first) {
+			t.Errorf("%+v, not %s", summary.First, first)
 		}
 	}
-	made := &Summary{}
-	if made.Remember(nil); made.Since != nil || made.First != nil {
-		t.Errorf("%+v", made)
+	summary := &Summary{}
+	if summary.Remember(nil); summary.Since != nil || summary.First != nil {
+		t.Errorf("%+v", summary)
 	}
 }

@@ -102,7 +102,7 @@ a  (in docs, 300.0 kB)
          what stands on server.
 ` + lastLine},
 	{"a missing file", 2, func(folder *finding.Folder) {
-		fails(folder, "a", []*part.Name{file(1, 1), with(file(1, 1), func(one *part.Name) { one.Disk = nil })}, "StoreDiffers 2")
+		fails(folder, "a", []*part.Name{file(1, 1), with(file(1, 1), func(at *part.Name) { at.Disk = nil })}, "StoreDiffers 2")
 	}, lineOfFolder + `
 first, on server: see that the disk of docs (Documents) is mounted before Syncthing starts or scans there: 1 name is missing
 
@@ -117,7 +117,7 @@ a  (in docs, 300.0 kB)
          while Syncthing is stopped there.
 ` + lastLine},
 	{"a device that took one of two changes, and lacks the other one", 2, func(folder *finding.Folder) {
-		fails(folder, "a", []*part.Name{file(1, 1), with(file(1, 2), func(one *part.Name) { one.Own.Version = [][2]uint64{{2, 1}} })}, "RecordDiffers 2",
+		fails(folder, "a", []*part.Name{file(1, 1), with(file(1, 2), func(at *part.Name) { at.Own.Version = [][2]uint64{{2, 1}} })}, "RecordDiffers 2",
 			"StoreDiffers 2")
 	}, lineOfFolder + `
 a  (in docs, 300.0 kB)
@@ -128,7 +128,7 @@ a  (in docs, 300.0 kB)
          what stands on laptop, server.
 ` + lastLine},
 	{"a device that is behind, and what others still see of it", 3, func(folder *finding.Folder) {
-		old := with(file(1, 2), func(one *part.Name) { one.Own.ModifiedS = started - 60; one.Disk.ModifiedS = started - 60 })
+		old := with(file(1, 2), func(at *part.Name) { at.Own.ModifiedS = started - 60; at.Disk.ModifiedS = started - 60 })
 		fails(folder, "a", []*part.Name{file(2, 1), old, file(2, 1)}, "RecordDiffers 2", "StoreDiffers 2", "ViewAhead 2", "ViewAhead 3")
 	}, `docs (Documents): NOT in step, 1 name is wrong; 1,204 names (4 deleted), 335.2 MB hashed on laptop, phone, server
 
@@ -170,7 +170,7 @@ added  (in docs, 300.0 kB)
          what stands on server.
 ` + lastLine},
 	{"a file that no scan has seen", 2, func(folder *finding.Folder) {
-		unwon(folder, "new", 0, finding.Unscanned, with(file(1, 1), func(one *part.Name) { one.Own = nil; one.Disk.ModifiedS = later }))
+		unwon(folder, "new", 0, finding.Unscanned, with(file(1, 1), func(at *part.Name) { at.Own = nil; at.Disk.ModifiedS = later }))
 	}, lineOfFolder + `
 new  (in docs, 300.0 kB)
   laptop: on the disk, and no scan has seen it (modified 2020-09-13 12:27:40 UTC)
@@ -305,11 +305,11 @@ not compared: owners, extended attributes, old versions
 }
 
 func TestWhatAPersonReads(t *testing.T) {
-	for _, one := range textsForAPerson {
+	for _, row := range textsForAPerson {
 		var written strings.Builder
-		Of(answerOf(one.devices, one.fill)).Print(&written, time.UTC, time.Time{})
-		if written.String() != one.text {
-			t.Errorf("%s:\n%s\nnot\n%s", one.why, written.String(), one.text)
+		Of(answerOf(row.devices, row.fill)).Print(&written, time.UTC, time.Time{})
+		if written.String() != row.text {
+			t.Errorf("%s:\n%s\nnot\n%s", row.why, written.String(), row.text)
 		}
 	}
 }

@@ -12,9 +12,9 @@ import (
 // Two devices with other contents under one version are told as that, and not as behind: neither takes anything from the other. What comes of it the outlook says.
 func TestOtherContentsUnderOneVersion(t *testing.T) {
 	symlinkTo := func(target string) *part.Name {
-		return with(file(2, 1), func(one *part.Name) {
-			one.Own.Type, one.Own.Target, one.Own.Content = 4, target, nil
-			one.Disk = &part.Node{Type: 4, Target: target}
+		return with(file(2, 1), func(at *part.Name) {
+			at.Own.Type, at.Own.Target, at.Own.Content = 4, target, nil
+			at.Disk = &part.Node{Type: 4, Target: target}
 		})
 	}
 	for why, row := range map[string][]*part.Name{

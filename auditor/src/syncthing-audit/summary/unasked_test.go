@@ -20,7 +20,7 @@ func TestFoldersThatWereNotAudited(t *testing.T) {
 	silent := func(answer *finding.Answer) { answer.Devices[1].IsSilent = true }
 	bothSilent := func(answer *finding.Answer) { answer.Devices[0].IsSilent, answer.Devices[1].IsSilent = true, true }
 	const toldOfSilent = "not told: which other folders server may share; an older syncthing-audit made its part\n"
-	for _, one := range []struct {
+	for _, row := range []struct {
 		why      string
 		isByName bool
 		change   func(*finding.Answer)
@@ -39,13 +39,13 @@ func TestFoldersThatWereNotAudited(t *testing.T) {
 		{"an old part, and one folder was asked for", true, silent, InStep, toldOfSilent},
 	} {
 		answer := answerOf(2, func(*finding.Folder) {})
-		answer.IsByName = one.isByName
-		one.change(answer)
+		answer.IsByName = row.isByName
+		row.change(answer)
 		var written strings.Builder
-		made := Of(answer)
-		made.Print(&written, time.UTC, time.Time{})
-		if made.Verdict != one.verdict || !strings.HasSuffix(written.String(), "on laptop, server\n\n"+one.told+lastLine[1:]) {
-			t.Errorf("%s: %s\n%s", one.why, made.Verdict, written.String())
+		summary := Of(answer)
+		summary.Print(&written, time.UTC, time.Time{})
+		if summary.Verdict != row.verdict || !strings.HasSuffix(written.String(), "on laptop, server\n\n"+row.told+lastLine[1:]) {
+			t.Errorf("%s: %s\n%s", row.why, summary.Verdict, written.String())
 		}
 	}
 }
@@ -54,7 +54,7 @@ func TestFoldersThatWereNotAudited(t *testing.T) {
 // the parts tell it. Who answers without the flags didn't choose these.
 func TestNamesThatWereNotAudited(t *testing.T) {
 	begun, sliced, both := choice.Names{Prefix: "a b"}, choice.Names{Slice: 3, Slices: 7}, choice.Names{Prefix: "a b", Slice: 3, Slices: 7}
-	for _, one := range []struct {
+	for _, row := range []struct {
 		asked         choice.Names
 		indexed       int64
 		byNames       bool
@@ -73,16 +73,16 @@ func TestNamesThatWereNotAudited(t *testing.T) {
 	} {
 		answer := answerOf(2, func(folder *finding.Folder) {
 			for _, member := range folder.Members {
-				member.Head.Names = one.asked
+				member.Head.Names = row.asked
 			}
-			folder.Members[1].About.Indexed = one.indexed
+			folder.Members[1].About.Indexed = row.indexed
 		})
-		answer.ByNames = one.byNames
+		answer.ByNames = row.byNames
 		var written strings.Builder
-		made := Of(answer)
-		made.Print(&written, time.UTC, time.Time{})
-		if made.Verdict != one.verdict || made.Folders[0].Verdict != one.verdict || !strings.HasSuffix(written.String(), "on laptop, server\n\n"+one.told+lastLine[1:]) {
-			t.Errorf("%s\n%s", made.Verdict, written.String())
+		summary := Of(answer)
+		summary.Print(&written, time.UTC, time.Time{})
+		if summary.Verdict != row.verdict || summary.Folders[0].Verdict != row.verdict || !strings.HasSuffix(written.String(), "on laptop, server\n\n"+row.told+lastLine[1:]) {
+			t.Errorf("%s\n%s", summary.Verdict, written.String())
 		}
 	}
 }

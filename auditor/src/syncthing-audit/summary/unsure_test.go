@@ -11,7 +11,7 @@ import (
 // A folder that something may change without a record is in step as far as audited, and not known to be firm. What that is stands below, with what
 // to do; so it does as JSON.
 func TestWhatMayChangeAFirmFolder(t *testing.T) {
-	for kind, one := range map[string]struct {
+	for kind, row := range map[string]struct {
 		change func(folder *finding.Folder)
 		told   string
 	}{
@@ -34,10 +34,10 @@ func TestWhatMayChangeAFirmFolder(t *testing.T) {
 	} {
 		answer := answerOf(2, func(folder *finding.Folder) {
 			folder.Firmness = finding.Firmness{Asked: true}
-			one.change(folder)
+			row.change(folder)
 		})
 		text := strings.Join(strings.Fields(printed(answer)), " ")
-		if !strings.Contains(text, "in step as far as audited, not known to be firm; ") || !strings.Contains(text, "not known to be firm: "+one.told) {
+		if !strings.Contains(text, "in step as far as audited, not known to be firm; ") || !strings.Contains(text, "not known to be firm: "+row.told) {
 			t.Errorf("%s: %s", kind, text)
 		}
 		folder := Of(answer).Folders[0]
@@ -56,8 +56,8 @@ func TestWhatMayChangeAFirmFolder(t *testing.T) {
 		folder.Firmness = finding.Firmness{Asked: true}
 		folder.Live, folder.Members[0].About.Kind = &finding.Live{Timed: true}, receiveOnly
 		waits(folder, "b", 0, []int{1}, noBytes)                                    // it sends nothing
-		waits(folder, "c", 1, nil, func(one *part.Name) { one.Own = nil })          // it takes nothing away
-		waits(folder, "d", 1, nil, func(one *part.Name) { one.Own.Deleted = true }) // nor does this
+		waits(folder, "c", 1, nil, func(row *part.Name) { row.Own = nil })          // it takes nothing away
+		waits(folder, "d", 1, nil, func(row *part.Name) { row.Own.Deleted = true }) // nor does this
 		folder.Members[1].Linked = &part.Count{}
 	})
 	if text := printed(calm); strings.Contains(text, "not known") || Of(calm).Firm != finding.IsFirm {

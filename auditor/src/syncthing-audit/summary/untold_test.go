@@ -10,12 +10,12 @@ import (
 
 // A device that has heard of later changes, and not of this one, isn't told of it again by Syncthing.
 func TestChangesThatNobodyTells(t *testing.T) {
-	newest := func() *part.Name { return with(file(2, 1), func(one *part.Name) { one.Own.Sequence = 7 }) }
-	seeing := func(one *part.Name, version uint64) *part.Name {
-		one.Views = []part.Seen{{View: 0, Record: file(version, 1).Own}}
-		return one
+	newest := func() *part.Name { return with(file(2, 1), func(row *part.Name) { row.Own.Sequence = 7 }) }
+	seeing := func(row *part.Name, version uint64) *part.Name {
+		row.Views = []part.Seen{{View: 0, Record: file(version, 1).Own}}
+		return row
 	}
-	for _, one := range []struct {
+	for _, row := range []struct {
 		why   string
 		has   *part.Name
 		view  part.View
@@ -30,16 +30,16 @@ func TestChangesThatNobodyTells(t *testing.T) {
 		{"the view is of another device", seeing(file(1, 2), 1), part.View{Device: phone, IndexID: 5, Max: 7}, false},
 	} {
 		reason := "RecordDiffers 2"
-		if one.has == nil {
+		if row.has == nil {
 			reason = "RecordMissing 2"
 		}
 		text := printed(answerOf(2, func(folder *finding.Folder) {
 			folder.Members[0].About.IndexID = 5
-			folder.Members[1].About.Views = []part.View{one.view}
-			fails(folder, "a", []*part.Name{newest(), one.has}, reason, "StoreDiffers 2")
+			folder.Members[1].About.Views = []part.View{row.view}
+			fails(folder, "a", []*part.Name{newest(), row.has}, reason, "StoreDiffers 2")
 		}))
-		if strings.Contains(text, "start it there once by 'syncthing serve --reset-deltas', as the same user and with the same --home, --config and --data as ever.") != one.isFor {
-			t.Errorf("%s: %s", one.why, text)
+		if strings.Contains(text, "start it there once by 'syncthing serve --reset-deltas', as the same user and with the same --home, --config and --data as ever.") != row.isFor {
+			t.Errorf("%s: %s", row.why, text)
 		}
 	}
 }

@@ -18,9 +18,9 @@ func waits(folder *finding.Folder, name string, member int, have []int, change f
 		Waits: finding.KindOfWaiting(at), As: at, Have: have}}})
 }
 
-func noBytes(one *part.Name)  { one.Disk.Size = 0 }
-func cutShort(one *part.Name) { one.Disk.Size = 1000 }
-func edited(one *part.Name)   { one.Disk.ModifiedS++ }
+func noBytes(at *part.Name)  { at.Disk.Size = 0 }
+func cutShort(at *part.Name) { at.Disk.Size = 1000 }
+func edited(at *part.Name)   { at.Disk.ModifiedS++ }
 
 // What no scan has seen is told of each device above all entries, with how it differs, and from where what is recorded can be copied.
 func TestWhatNoScanHasSeenComesFirst(t *testing.T) {
@@ -30,7 +30,7 @@ func TestWhatNoScanHasSeenComesFirst(t *testing.T) {
 		waits(folder, "c", 1, []int{0}, noBytes)
 		waits(folder, "d", 1, nil, absent)
 		waits(folder, "e", 2, []int{0, 1}, cutShort)
-		waits(folder, "f", 0, nil, func(one *part.Name) { one.Own = nil })
+		waits(folder, "f", 0, nil, func(at *part.Name) { at.Own = nil })
 	}))
 	plain := strings.Join(strings.Fields(text), " ")
 	place := 0
@@ -125,13 +125,13 @@ func TestAScanUnderWayComesFirst(t *testing.T) {
 
 // What is longer than recorded may be what was put back: a copy of it is kept before anything is copied over it.
 func TestWhatIsLongerIsKept(t *testing.T) {
-	longer := func(one *part.Name) { one.Disk.Size = 400000 }
-	for _, one := range []struct {
+	longer := func(row *part.Name) { row.Disk.Size = 400000 }
+	for _, row := range []struct {
 		change func(*part.Name)
 		kept   bool
 	}{{longer, true}, {noBytes, false}} {
-		text := printed(answerOf(2, func(folder *finding.Folder) { waits(folder, "b", 1, []int{0}, one.change) }))
-		if strings.Contains(text, "Of what is longer, or isn't the recorded zeros, first keep a copy outside the folder: what was recorded may be the damage. As recorded: 1 on laptop") != one.kept {
+		text := printed(answerOf(2, func(folder *finding.Folder) { waits(folder, "b", 1, []int{0}, row.change) }))
+		if strings.Contains(text, "Of what is longer, or isn't the recorded zeros, first keep a copy outside the folder: what was recorded may be the damage. As recorded: 1 on laptop") != row.kept {
 			t.Error(text)
 		}
 	}

@@ -34,9 +34,9 @@ func TestRotOfWhichNoDeviceHasACopy(t *testing.T) {
 		all.rows["a"] = row
 		answer := all.answer()
 		foretellAll(answer)
-		for _, one := range Of(answer).Folders[0].Files {
+		for _, file := range Of(answer).Folders[0].Files {
 			seen++
-			said := strings.Join(one.Advice, "\n")
+			said := strings.Join(file.Advice, "\n")
 			if strings.HasPrefix(said, "nothing") || !strings.Contains(said, "backups") && !strings.Contains(said, "the steps for it above") {
 				t.Fatalf("seed %d: %s\n%s", seed, said, rowText(answer.Folders[0].Rows["a"]))
 			}

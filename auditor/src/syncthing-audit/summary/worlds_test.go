@@ -10,9 +10,9 @@ import (
 )
 
 var (
-	absent  = func(one *part.Name) { one.Disk = nil }
-	touched = func(one *part.Name) { one.Disk.ModifiedS = later }
-	again   = func(one *part.Name) { one.Own.Deleted, one.Own.Content = true, nil }
+	absent  = func(at *part.Name) { at.Disk = nil }
+	touched = func(at *part.Name) { at.Disk.ModifiedS = later }
+	again   = func(at *part.Name) { at.Own.Deleted, at.Own.Content = true, nil }
 )
 
 // toldOf gives what a person reads of names that devices have so.
@@ -42,30 +42,30 @@ func toldOf(row []*part.Name, reasons string, stray, names int, more func(*findi
 var onFirst = [][2]uint64{{1, 1}, {2, 5}}
 
 // local gives what a device has whose record is a local change, with the version that its index has of it.
-func local(one *part.Name, version ...[2]uint64) *part.Name {
-	one.Own.Invalid, one.Own.Version, one.Own.Local = true, nil, version
-	return one
+func local(at *part.Name, version ...[2]uint64) *part.Name {
+	at.Own.Invalid, at.Own.Version, at.Own.Local = true, nil, version
+	return at
 }
 
 // changedTo is a file that was changed on the disk since the last scan.
 func changedTo(hash byte) *part.Name {
-	return with(file(1, 1), func(one *part.Name) {
-		rotten(one)
-		one.Disk.Contents[0].Hash, one.Disk.ModifiedS = part.Hash{hash}, later
+	return with(file(1, 1), func(at *part.Name) {
+		rotten(at)
+		at.Disk.Contents[0].Hash, at.Disk.ModifiedS = part.Hash{hash}, later
 	})
 }
 
 // directory gives what a device in step has of a directory, under this version of its first device.
 func directory(version uint64) *part.Name {
-	return with(file(version, 1), func(one *part.Name) {
-		one.Own.Type, one.Own.Content = 1, nil
-		one.Disk = &part.Node{Type: 1, ModifiedS: started}
+	return with(file(version, 1), func(at *part.Name) {
+		at.Own.Type, at.Own.Content = 1, nil
+		at.Disk = &part.Node{Type: 1, ModifiedS: started}
 	})
 }
 
 // replaced gives what a device has that has this file in place of a directory that it recorded.
 func replaced() *part.Name {
-	return with(directory(1), func(one *part.Name) { one.Disk = file(1, 2).Disk })
+	return with(directory(1), func(at *part.Name) { at.Disk = file(1, 2).Disk })
 }
 
 // isSame says whether what stands on a disk is what a record says, whatever the times.

@@ -19,8 +19,8 @@ func TestWordsOfText(t *testing.T) {
 		"a  b":                                  {"a", "", "b"},
 		"":                                      {""},
 	} {
-		if made := wordsOfText(text); fmt.Sprintf("%q", made) != fmt.Sprintf("%q", words) || strings.Join(made, " ") != text {
-			t.Errorf("%q: %q", text, made)
+		if parts := wordsOfText(text); fmt.Sprintf("%q", parts) != fmt.Sprintf("%q", words) || strings.Join(parts, " ") != text {
+			t.Errorf("%q: %q", text, parts)
 		}
 	}
 }
