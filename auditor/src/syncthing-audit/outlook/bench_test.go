@@ -18,15 +18,15 @@ func BenchmarkNames(b *testing.B) {
 	}
 	b.ResetTimer()
 	for round := 0; round < b.N; round++ {
-		made := outlookBy(forecast.Usual, folderOf("send-receive", "send-receive", "receive-only"), all)
+		told := outlookBy(forecast.Usual, folderOf("send-receive", "send-receive", "receive-only"), all)
 		planned := int64(0)
-		for _, plan := range made.Plans {
+		for _, plan := range told.Plans {
 			planned += plan.Count
 		}
-		b.ReportMetric(float64(made.Names), "names")
-		b.ReportMetric(float64(made.Walked), "walked")
+		b.ReportMetric(float64(told.Names), "names")
+		b.ReportMetric(float64(told.Walked), "walked")
 		b.ReportMetric(float64(planned), "planned")
-		b.ReportMetric(float64(made.NotKnown), "not-known")
+		b.ReportMetric(float64(told.NotKnown), "not-known")
 	}
 }
 

@@ -21,15 +21,15 @@ func TestWhatAHarmedChangeReplacedIsLost(t *testing.T) {
 		row := calm("a", 3, 1)
 		changed(row, 0, 2, 300)
 		harm(row.At[0])
-		made := outlookOf(folderOf("send-receive", "send-receive", "send-receive"), []*join.Row{row})
-		if made.Lost != 1 || len(made.Listed[0].Loses) != 1 || shown(made.Plans) != "a: save on 1" {
-			t.Errorf("%s: %v %s", why, countsOf(made), shown(made.Plans))
+		told := outlookOf(folderOf("send-receive", "send-receive", "send-receive"), []*join.Row{row})
+		if told.Lost != 1 || len(told.Listed[0].Loses) != 1 || shown(told.Plans) != "a: save on 1" {
+			t.Errorf("%s: %v %s", why, countsOf(told), shown(told.Plans))
 		}
 	}
 	row := calm("a", 3, 1)
 	changed(row, 0, 2, 300)
-	if made := outlookOf(folderOf("send-receive", "send-receive", "send-receive"), []*join.Row{row}); made.Right != 1 || len(made.Plans) > 0 {
-		t.Errorf("sound: %v %s", countsOf(made), shown(made.Plans))
+	if told := outlookOf(folderOf("send-receive", "send-receive", "send-receive"), []*join.Row{row}); told.Right != 1 || len(told.Plans) > 0 {
+		t.Errorf("sound: %v %s", countsOf(told), shown(told.Plans))
 	}
 }
 
@@ -39,9 +39,9 @@ func TestWhatAnEmptyFileReplacesIsLost(t *testing.T) {
 	changed(row, 0, 2, 300)
 	cut(row.At[0].Disk, 0, 0)
 	*row.At[0].Own.Content = row.At[0].Disk.Contents[0]
-	made := outlookOf(folderOf("send-receive", "send-receive", "send-receive"), []*join.Row{row})
-	if made.Lost != 1 || shown(made.Plans) != "a: save on 1" {
-		t.Errorf("%v %s", countsOf(made), shown(made.Plans))
+	told := outlookOf(folderOf("send-receive", "send-receive", "send-receive"), []*join.Row{row})
+	if told.Lost != 1 || shown(told.Plans) != "a: save on 1" {
+		t.Errorf("%v %s", countsOf(told), shown(told.Plans))
 	}
 }
 

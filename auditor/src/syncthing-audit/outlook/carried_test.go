@@ -41,26 +41,26 @@ func renamed(devices, by int, rotten []int, over bool) []*join.Row {
 // Rotten bytes that a device moves to the name that another one gave them have steps: the right bytes are copied to it.
 func TestRottenBytesThatARenameCarries(t *testing.T) {
 	for _, over := range []bool{false, true} {
-		made := outlookOf(folderOf("send-receive", "send-receive", "send-receive"), renamed(3, 0, []int{1}, over))
-		for _, name := range made.Listed {
+		told := outlookOf(folderOf("send-receive", "send-receive", "send-receive"), renamed(3, 0, []int{1}, over))
+		for _, name := range told.Listed {
 			if name.Name == "b" && name.Fate != Stays {
 				t.Errorf("over %v: %+v", over, name)
 			}
 		}
 		var plan *Plan
-		for _, found := range made.Plans {
+		for _, found := range told.Plans {
 			if found.Goal != nil && found.Names[0] == "b" {
 				plan = found
 			}
 		}
 		if plan == nil || !reflect.DeepEqual(plan.Goal.Devices, at(0)) {
-			t.Fatalf("over %v: %+v", over, made.Plans)
+			t.Fatalf("over %v: %+v", over, told.Plans)
 		}
-		saved := slices.IndexFunc(made.Plans, func(plan *Plan) bool {
+		saved := slices.IndexFunc(told.Plans, func(plan *Plan) bool {
 			return plan.Goal == nil && plan.Names[0] == "a" && reflect.DeepEqual(plan.Steps, []Step{{Act: Save, Device: idOf(1)}})
 		})
 		if saved < 0 {
-			t.Errorf("over %v: the rotten bytes aren't saved: %+v", over, made.Plans)
+			t.Errorf("over %v: the rotten bytes aren't saved: %+v", over, told.Plans)
 		}
 		copied := plan.Steps[len(plan.Steps)-1]
 		if copied.Act != Copy || copied.Device != idOf(1) || copied.From != idOf(0) {
@@ -84,8 +84,8 @@ func TestNamesWithBytesThatNoScanSeesHaveSteps(t *testing.T) {
 		}
 		kinds := kindsOf(seed, devices)
 		all := renamed(devices, by, rotten, random.Intn(2) == 0)
-		made := outlookOf(folderOf(kinds...), all)
-		for _, name := range made.Listed {
+		told := outlookOf(folderOf(kinds...), all)
+		for _, name := range told.Listed {
 			if !isNotSeen(&name) || !hasRightBytes(&name) {
 				continue
 			}

@@ -61,8 +61,8 @@ func (w *worldOfCase) foretold(runs string) (*Outlook, []forecast.World) {
 		}
 	}
 	folder := folderOf(kinds...)
-	for _, one := range folder.Members {
-		one.Head.Runs = runs
+	for _, member := range folder.Members {
+		member.Head.Runs = runs
 	}
 	from, again := read.NewRows(folder), read.NewRows(folder)
 	for _, row := range w.Rows {
@@ -84,19 +84,19 @@ func (w *worldOfCase) foretold(runs string) (*Outlook, []forecast.World) {
 // steps lead where they say, and they may be left after each of them.
 func TestCases(t *testing.T) {
 	counts, led := map[Fate]int64{}, 0
-	for at, one := range cases(t) {
-		made, groups := one.foretold([]string{"v1.19.2", "v1.29.5"}[at%2])
+	for at, example := range cases(t) {
+		made, groups := example.foretold([]string{"v1.19.2", "v1.29.5"}[at%2])
 		told := map[string]*Name{}
 		for place := range made.Listed {
 			name := &made.Listed[place]
 			told[string(name.Name)] = name
 			counts[name.Fate]++
 			if name.Fate == Lost && (name.Plan == nil || len(name.Plan.Steps) == 0 && name.Plan.by == "" && name.Plan.Goal == nil) {
-				t.Errorf("case %d, %s: %s is lost, and has no steps", at, one.Test, name.Name)
+				t.Errorf("case %d, %s: %s is lost, and has no steps", at, example.Test, name.Name)
 			}
 		}
 		for place := range groups {
-			led += follow(t, fmt.Sprintf("case %d, %s", at, one.Test), &groups[place], told)
+			led += follow(t, fmt.Sprintf("case %d, %s", at, example.Test), &groups[place], told)
 		}
 	}
 	if led < 50 || counts[Unknown] > counts[Lost] {
@@ -110,18 +110,18 @@ func follow(t *testing.T, why string, group *forecast.World, told map[string]*Na
 	forecaster, world, saved := forecast.New(forecast.Budget{States: 1500, Walks: 40, Total: 300000}), group.Copied(), map[forecast.Content]bool{}
 	lostAt := func(world *forecast.World) map[forecast.Content]bool {
 		answer := forecaster.OfGroup(world.Devices, world.Copied().Names)
-		made := map[forecast.Content]bool{}
+		contents := map[forecast.Content]bool{}
 		for place := range answer.Ends {
 			left := answer.Ends[place].Contents()
 			for at := range group.Names {
 				for _, thing := range thingsNow(anyDevices, &group.Names[at]) {
 					if thing.Content.Size > 0 && !left[thing.Content] {
-						made[thing.Content] = true
+						contents[thing.Content] = true
 					}
 				}
 			}
 		}
-		return made
+		return contents
 	}
 	before := lostAt(&world)
 	for place := range group.Names {

@@ -41,17 +41,17 @@ func viewOf(member, view int) int {
 func TestChoicesOfADeviceThatOnlyReceives(t *testing.T) {
 	row := calm("a", 2, 1)
 	changedAt(row, 1, 70, true)
-	made := outlookOf(folderOf("send-receive", "receive-only"), []*join.Row{row})
-	if made.Stays != 1 || len(made.Plans) != 0 {
-		t.Fatalf("%+v", made)
+	foretold := outlookOf(folderOf("send-receive", "receive-only"), []*join.Row{row})
+	if foretold.Stays != 1 || len(foretold.Plans) != 0 {
+		t.Fatalf("%+v", foretold)
 	}
 	told := map[Act]*Choice{}
-	for _, choice := range made.Choices {
+	for _, choice := range foretold.Choices {
 		told[choice.Act] = choice
 	}
 	revert, both := told[Revert], told[Both]
 	if len(told) != 2 || revert.Device != idOf(1) || revert.Names != 1 || revert.Alike != 1 || both.Names != 1 || both.Alike != 1 || revert.Unknown+both.Unknown > 0 {
-		t.Errorf("%+v", made.Choices)
+		t.Errorf("%+v", foretold.Choices)
 	}
 	if revert.Lost != 1 || !reflect.DeepEqual(revert.Loses[0].Loses[0].Devices, at(1)) || revert.Loses[0].Loses[0].Content.Size != 7 {
 		t.Errorf("a revert loses %+v", revert.Loses)
@@ -62,11 +62,11 @@ func TestChoicesOfADeviceThatOnlyReceives(t *testing.T) {
 func TestChoicesOfADeviceThatOnlySends(t *testing.T) {
 	row := calm("a", 2, 1)
 	changedAt(row, 0, 70, false)
-	made := outlookOf(folderOf("send-receive", "send-only"), []*join.Row{row})
-	if made.Stays != 1 || len(made.Choices) != 2 || made.Choices[0].Act != Override || made.Choices[1].Act != Both {
-		t.Fatalf("%+v", made)
+	told := outlookOf(folderOf("send-receive", "send-only"), []*join.Row{row})
+	if told.Stays != 1 || len(told.Choices) != 2 || told.Choices[0].Act != Override || told.Choices[1].Act != Both {
+		t.Fatalf("%+v", told)
 	}
-	override, both := made.Choices[0], made.Choices[1]
+	override, both := told.Choices[0], told.Choices[1]
 	if override.Device != idOf(1) || override.Alike != 1 || override.Lost != 1 || !reflect.DeepEqual(override.Loses[0].Loses[0].Devices, at(0)) {
 		t.Errorf("an override: %+v", override)
 	}
@@ -82,9 +82,9 @@ func TestChoicesOfADeviceThatOnlySends(t *testing.T) {
 func TestChoicesOfAFolderOfItsOwn(t *testing.T) {
 	row := calm("a", 1, 1)
 	row.At[0].Disk.Contents[0].Hash, row.At[0].Disk.ModifiedS = part.Hash{70}, 200
-	made := outlookOf(folderOf("receive-only"), []*join.Row{row})
-	if len(made.Choices) != 1 || made.Choices[0].Act != Revert || made.Choices[0].Lost != 1 {
-		t.Errorf("%+v", made.Choices)
+	told := outlookOf(folderOf("receive-only"), []*join.Row{row})
+	if len(told.Choices) != 1 || told.Choices[0].Act != Revert || told.Choices[0].Lost != 1 {
+		t.Errorf("%+v", told.Choices)
 	}
 }
 
@@ -93,8 +93,8 @@ func TestNothingToChoose(t *testing.T) {
 	for _, kinds := range [][]string{{"send-receive", "send-receive"}, {"send-receive", "receive-only"}, {"send-only", "send-receive"}} {
 		row := calm("a", 2, 1)
 		row.At[0].Disk.Contents[0].Hash, row.At[0].Disk.ModifiedS = part.Hash{70}, 200
-		if made := outlookOf(folderOf(kinds...), []*join.Row{row}); len(made.Choices) > 0 || made.Names != 1 {
-			t.Errorf("%v: %+v", kinds, made)
+		if told := outlookOf(folderOf(kinds...), []*join.Row{row}); len(told.Choices) > 0 || told.Names != 1 {
+			t.Errorf("%v: %+v", kinds, told)
 		}
 	}
 }
@@ -105,11 +105,11 @@ func TestWhatGoesByItselfGoesByNoChoice(t *testing.T) {
 	changed(row, 2, 60, 200)
 	changed(row, 0, 70, 300)
 	row.At[0].Own.Version = [][2]uint64{{1, 6}, {3, 5}, {9, 1}}
-	made := outlookOf(folderOf("send-receive", "send-only", "send-receive"), []*join.Row{row})
-	for _, choice := range made.Choices {
+	told := outlookOf(folderOf("send-receive", "send-only", "send-receive"), []*join.Row{row})
+	for _, choice := range told.Choices {
 		if choice.Act == Both && choice.Gone == 1 && len(choice.Goes[0].Loses) == 1 && reflect.DeepEqual(choice.Goes[0].Loses[0].Devices, at(1)) {
 			return
 		}
 	}
-	t.Errorf("%+v", made.Choices)
+	t.Errorf("%+v", told.Choices)
 }

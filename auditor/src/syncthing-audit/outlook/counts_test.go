@@ -21,15 +21,15 @@ func newTeller() *teller {
 // An answer that doesn't say what becomes of names says why: the budget comes before all else.
 func TestWhyThereIsNoAnswer(t *testing.T) {
 	end := []forecast.End{{}}
-	for place, one := range []struct {
+	for place, row := range []struct {
 		answer forecast.Answer
 		due    read.Why
 	}{
 		{forecast.Answer{Ends: end}, ""}, {forecast.Answer{}, read.Endless}, {forecast.Answer{Ends: end, Endless: 1}, read.Endless},
 		{forecast.Answer{IsOver: true}, read.Budget}, {forecast.Answer{IsOver: true, Untried: []int{1}}, read.Budget}, {forecast.Answer{Untried: []int{0}}, read.Untried},
 	} {
-		if why := newTeller().whyNoAnswer(&forecast.World{}, &one.answer); why != one.due {
-			t.Errorf("%d: %q, not %q", place, why, one.due)
+		if why := newTeller().whyNoAnswer(&forecast.World{}, &row.answer); why != row.due {
+			t.Errorf("%d: %q, not %q", place, why, row.due)
 		}
 	}
 }
@@ -49,7 +49,7 @@ func TestWhyAGroupIsUnknown(t *testing.T) {
 	if read.Damaged < first {
 		first = read.Damaged
 	}
-	for place, one := range []struct {
+	for place, row := range []struct {
 		group *forecast.World
 		due   read.Why
 	}{
@@ -57,8 +57,8 @@ func TestWhyAGroupIsUnknown(t *testing.T) {
 		{group(make([]string, MostTogether)...), ""}, {group(make([]string, MostTogether+1)...), read.Budget},
 		{group(append(make([]string, MostTogether), "b")...), read.Moving},
 	} {
-		if why := teller.whyUnknown(one.group); why != one.due {
-			t.Errorf("%d: %q, not %q", place, why, one.due)
+		if why := teller.whyUnknown(row.group); why != row.due {
+			t.Errorf("%d: %q, not %q", place, why, row.due)
 		}
 	}
 }
@@ -94,29 +94,29 @@ func TestWhatAnOutlookCounts(t *testing.T) {
 			}
 			teller.add(name)
 		}
-		made := teller.end()
+		foretold := teller.end()
 		counts := map[Fate]int64{}
-		for place, name := range made.Listed {
+		for place, name := range foretold.Listed {
 			counts[name.Fate]++
-			if place > 0 && made.Listed[place].isBefore(&made.Listed[place-1]) {
-				t.Fatalf("%d: %+v comes behind %+v", seed, name, made.Listed[place-1])
+			if place > 0 && foretold.Listed[place].isBefore(&foretold.Listed[place-1]) {
+				t.Fatalf("%d: %+v comes behind %+v", seed, name, foretold.Listed[place-1])
 			}
 		}
 		told := map[string]int64{}
-		for _, group := range made.Kept {
+		for _, group := range foretold.Kept {
 			if group.Why != string(forecast.OnlySends) {
 				t.Errorf("%d: %+v", seed, group)
 			}
 			told[group.Devices[0]] = group.Names
 		}
 		toldUnknown := map[read.Why]int64{}
-		for _, group := range made.Unknown {
+		for _, group := range foretold.Unknown {
 			toldUnknown[read.Why(group.Why)] = group.Names
 		}
-		if !reflect.DeepEqual(counts, countsOf(made)) || made.Walked != walked || made.Names != int64(len(made.Listed)) || !reflect.DeepEqual(told, kept) || !reflect.DeepEqual(toldUnknown, unknown) {
-			t.Fatalf("%d: %+v, not %v, %d, %v, %v", seed, made, counts, walked, kept, unknown)
+		if !reflect.DeepEqual(counts, countsOf(foretold)) || foretold.Walked != walked || foretold.Names != int64(len(foretold.Listed)) || !reflect.DeepEqual(told, kept) || !reflect.DeepEqual(toldUnknown, unknown) {
+			t.Fatalf("%d: %+v, not %v, %d, %v, %v", seed, foretold, counts, walked, kept, unknown)
 		}
-		for _, groups := range [][]Group{made.Kept, made.Unknown} {
+		for _, groups := range [][]Group{foretold.Kept, foretold.Unknown} {
 			if !sort.SliceIsSorted(groups, func(a, b int) bool { return groups[a].Names > groups[b].Names }) {
 				t.Fatalf("%d: %+v", seed, groups)
 			}
@@ -132,9 +132,9 @@ func TestWhatAnOutlookLists(t *testing.T) {
 	for count := 0; count < MostListed+1; count++ {
 		teller.addUnknown(&forecast.World{Names: []forecast.Name{{Name: "a"}}}, read.Paused)
 	}
-	made := teller.end()
-	if len(made.Listed) != MostListed || made.Names != MostListed+1 || !reflect.DeepEqual(made.Unknown, []Group{{Why: string(read.Paused), Devices: at(2, 3), Names: MostListed + 1}}) {
-		t.Errorf("%d listed of %d: %+v", len(made.Listed), made.Names, made.Unknown)
+	told := teller.end()
+	if len(told.Listed) != MostListed || told.Names != MostListed+1 || !reflect.DeepEqual(told.Unknown, []Group{{Why: string(read.Paused), Devices: at(2, 3), Names: MostListed + 1}}) {
+		t.Errorf("%d listed of %d: %+v", len(told.Listed), told.Names, told.Unknown)
 	}
 }
 

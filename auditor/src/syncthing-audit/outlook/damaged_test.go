@@ -25,9 +25,9 @@ func TestWhatADeletionTakesBesideRotIsSaved(t *testing.T) {
 	changed(row, 0, 50, 300)
 	row.At[0].Own.Deleted, row.At[0].Own.Content, row.At[0].Disk = true, nil, nil
 	row.At[2].Disk.Contents[0].Hash = part.Hash{99}
-	made := outlookOf(folderOf("send-receive", "send-receive", "send-receive"), []*join.Row{row})
-	if len(made.Plans) != 1 || !made.Plans[0].isOf([]Step{{Act: Save, Device: idOf(2)}, {Act: Save, Device: idOf(1)}}, nil) {
-		t.Errorf("%+v", made.Plans)
+	told := outlookOf(folderOf("send-receive", "send-receive", "send-receive"), []*join.Row{row})
+	if len(told.Plans) != 1 || !told.Plans[0].isOf([]Step{{Act: Save, Device: idOf(2)}, {Act: Save, Device: idOf(1)}}, nil) {
+		t.Errorf("%+v", told.Plans)
 	}
 }
 
@@ -39,12 +39,12 @@ func TestWhatDamageReplacesIsLost(t *testing.T) {
 			changed(row, 0, 50, 300)
 		}
 		zeroed(row.At[0])
-		made := outlookOf(folderOf("send-receive", "send-receive", "send-receive"), []*join.Row{row})
-		if len(made.Listed) != 1 || made.Listed[0].Fate != Lost || len(made.Listed[0].Loses) != 1 || len(made.Listed[0].Loses[0].Devices) != 2 {
-			t.Fatalf("changed %v: %+v", isChanged, made.Listed)
+		told := outlookOf(folderOf("send-receive", "send-receive", "send-receive"), []*join.Row{row})
+		if len(told.Listed) != 1 || told.Listed[0].Fate != Lost || len(told.Listed[0].Loses) != 1 || len(told.Listed[0].Loses[0].Devices) != 2 {
+			t.Fatalf("changed %v: %+v", isChanged, told.Listed)
 		}
-		if len(made.Plans) != 1 {
-			t.Errorf("changed %v: %+v", isChanged, made.Plans)
+		if len(told.Plans) != 1 {
+			t.Errorf("changed %v: %+v", isChanged, told.Plans)
 		}
 	}
 }

@@ -14,26 +14,26 @@ import (
 
 // harmedTree gives directories and files on some devices, of which some are gone or replaced on some disks, and some files changed elsewhere.
 func harmedTree(random *rand.Rand, devices int) []*join.Row {
-	made := []*join.Row{}
+	rows := []*join.Row{}
 	for number, name := range []string{"d", "d/a", "d/s", "d/s/c", "d/s/t", "d/s/t/e", "f"} {
 		if name == "d" || name == "d/s" || name == "d/s/t" {
-			made = append(made, calmDirectory(name, devices))
+			rows = append(rows, calmDirectory(name, devices))
 		} else {
-			made = append(made, calm(name, devices, byte(number+1)))
+			rows = append(rows, calm(name, devices, byte(number+1)))
 		}
 	}
 	for count := random.Intn(4); count > 0; count-- {
 		place, member := []int{1, 3, 5, 6}[random.Intn(4)], random.Intn(devices)
-		changed(made[place], member, byte(50+count), int64(200+random.Intn(100)))
+		changed(rows[place], member, byte(50+count), int64(200+random.Intn(100)))
 	}
 	for count := 1 + random.Intn(4); count > 0; count-- {
-		harmTree(made, random.Intn(len(made)), random.Intn(devices), random.Intn(3) == 0)
+		harmTree(rows, random.Intn(len(rows)), random.Intn(devices), random.Intn(3) == 0)
 	}
 	if random.Intn(2) == 0 { // a directory is replaced on one device, and one below it is gone on another
-		harmTree(made, 0, 0, true)
-		harmTree(made, 2, 1, false)
+		harmTree(rows, 0, 0, true)
+		harmTree(rows, 2, 1, false)
 	}
-	return made
+	return rows
 }
 
 // harmTree has nothing stand at a name on a disk, nor below it, or a file.
@@ -70,12 +70,12 @@ func TestStepsCanBeTakenFromTheTop(t *testing.T) {
 		for _, row := range all {
 			from.Take(row)
 		}
-		world, made, above := from.World(), outlookOf(folder, all), map[string]bool{}
-		for _, plan := range made.Plans {
+		world, told, above := from.World(), outlookOf(folder, all), map[string]bool{}
+		for _, plan := range told.Plans {
 			for _, step := range plan.Steps {
 				for _, name := range plan.Names {
 					if why := cannot(&world, string(name), step); why != "" {
-						t.Fatalf("seed %d: %+v of %s can't be taken: %s\n%+v", seed, step, name, why, made.Plans)
+						t.Fatalf("seed %d: %+v of %s can't be taken: %s\n%+v", seed, step, name, why, told.Plans)
 					}
 					take(&world, string(name), step)
 					taken++

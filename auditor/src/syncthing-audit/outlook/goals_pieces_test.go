@@ -122,15 +122,15 @@ func TestWhatWasModifiedLast(t *testing.T) {
 	}
 	copied := end(3)
 	copied[0].IsCopy = true
-	for place, one := range []struct {
+	for place, row := range []struct {
 		ends [][]Thing
 		due  *forecast.Node
 	}{
 		{nil, nil}, {[][]Thing{end(1)}, nil}, {[][]Thing{end(2), nil}, name.Disk[0]}, {[][]Thing{end(2), end(3)}, name.Disk[2]}, {[][]Thing{end(3), end(2)}, name.Disk[2]},
 		{[][]Thing{end(4), end(3)}, name.Disk[3]}, {[][]Thing{end(2), copied}, name.Disk[0]},
 	} {
-		if made := laterOf(name, &Name{Ends: one.ends}); made != one.due {
-			t.Errorf("%d: %+v, not %+v", place, made, one.due)
+		if made := laterOf(name, &Name{Ends: row.ends}); made != row.due {
+			t.Errorf("%d: %+v, not %+v", place, made, row.due)
 		}
 	}
 }
@@ -147,7 +147,7 @@ func TestDirectoriesThatHoldWhatIsLost(t *testing.T) {
 		}
 		return forecast.Name{Name: called, Disk: disks, Own: own}
 	}
-	for place, one := range []struct {
+	for place, row := range []struct {
 		names []forecast.Name
 		fate  Fate
 		is    bool
@@ -158,7 +158,7 @@ func TestDirectoriesThatHoldWhatIsLost(t *testing.T) {
 		{[]forecast.Name{name("d", directory, nil), name("d/a", directory, nil)}, Lost, false}, {[]forecast.Name{name("d", directory, nil), name("da", file, nil)}, Lost, false},
 		{[]forecast.Name{name("d", directory, nil), name("e/d/a", file, nil)}, Lost, false},
 	} {
-		if is := holdsLost(&forecast.World{Names: one.names}, []Name{{}, {Fate: one.fate}}, 0); is != one.is {
+		if is := holdsLost(&forecast.World{Names: row.names}, []Name{{}, {Fate: row.fate}}, 0); is != row.is {
 			t.Errorf("%d: %v", place, is)
 		}
 	}
@@ -167,20 +167,20 @@ func TestDirectoriesThatHoldWhatIsLost(t *testing.T) {
 // Which plan is taken of several: the first that deletes nothing, or else the first.
 func TestTheBestPlan(t *testing.T) {
 	steps := func(acts ...advice.Act) advice.Plan {
-		var made advice.Plan
+		var found advice.Plan
 		for _, act := range acts {
-			made.Steps = append(made.Steps, advice.Step{Act: act})
+			found.Steps = append(found.Steps, advice.Step{Act: act})
 		}
-		return made
+		return found
 	}
 	deleting, twice, kept := steps(advice.Copy, advice.Delete), steps(advice.Delete, advice.Touch), steps(advice.Copy)
-	for place, one := range []struct {
+	for place, row := range []struct {
 		plans []advice.Plan
 		due   int
 	}{{nil, -1}, {[]advice.Plan{deleting}, 0}, {[]advice.Plan{deleting, twice}, 0}, {[]advice.Plan{deleting, kept, kept}, 1}, {[]advice.Plan{kept, deleting}, 0}, {[]advice.Plan{steps(), kept}, 0}} {
-		made := best(one.plans)
-		if (made == nil) != (one.due < 0) || made != nil && made != &one.plans[one.due] {
-			t.Errorf("%d: %+v", place, made)
+		found := best(row.plans)
+		if (found == nil) != (row.due < 0) || found != nil && found != &row.plans[row.due] {
+			t.Errorf("%d: %+v", place, found)
 		}
 	}
 }
@@ -191,15 +191,15 @@ func TestWhatIsSavedFirst(t *testing.T) {
 		return &forecast.Node{Type: forecast.File, Content: smallContents[place]}
 	}
 	name := &forecast.Name{Disk: []*forecast.Node{node(2), node(1), node(3), node(3)}}
-	save := func(members ...int) (made []Step) {
+	save := func(members ...int) (steps []Step) {
 		for _, member := range members {
-			made = append(made, Step{Act: Save, Device: idOf(member)})
+			steps = append(steps, Step{Act: Save, Device: idOf(member)})
 		}
-		return made
+		return steps
 	}
 	things := thingsNow(anyDevices, name)
 	none := make([]damage.Kind, 4)
-	for place, one := range []struct {
+	for place, row := range []struct {
 		things []Thing
 		kinds  []damage.Kind
 		due    []Step
@@ -207,8 +207,8 @@ func TestWhatIsSavedFirst(t *testing.T) {
 		{nil, nil, nil}, {things, nil, save(0, 2)}, {things[:1], none, save(0)}, {things[:1], []damage.Kind{damage.Longer, damage.None, damage.Cut, damage.OverZeros}, save(0, 3)},
 		{nil, []damage.Kind{damage.None, damage.Longer, damage.None, damage.None}, save(1)}, {things[1:2], none, nil},
 	} {
-		if made := savesOf(anyDevices, name, one.things, one.kinds); !reflect.DeepEqual(made, one.due) {
-			t.Errorf("%d: %+v, not %+v", place, made, one.due)
+		if steps := savesOf(anyDevices, name, row.things, row.kinds); !reflect.DeepEqual(steps, row.due) {
+			t.Errorf("%d: %+v, not %+v", place, steps, row.due)
 		}
 	}
 	link := Thing{Type: forecast.Symlink}
@@ -241,8 +241,8 @@ func TestPlansThatStandTogether(t *testing.T) {
 	for place := range many {
 		many[place] = Name{Name: "a", Plan: &Plan{Steps: touch}}
 	}
-	if made := plansOf(many); len(made) != 1 || made[0].Count != MostListed+1 || len(made[0].Names) != MostListed {
-		t.Errorf("%d plans", len(made))
+	if plans := plansOf(many); len(plans) != 1 || plans[0].Count != MostListed+1 || len(plans[0].Names) != MostListed {
+		t.Errorf("%d plans", len(plans))
 	}
 }
 

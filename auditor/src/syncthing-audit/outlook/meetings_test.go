@@ -12,9 +12,9 @@ func TestCopiesThatMeet(t *testing.T) {
 	for member, at := range row.At {
 		cut(at.Disk, int64(7+member), int64(100-member))
 	}
-	made := outlookOf(folderOf("send-receive", "send-receive", "send-receive"), []*join.Row{row})
-	if one := made.Listed[0]; one.Fate != Lost || len(one.Loses) != 2 || len(one.Ends) < 2 || shown(made.Plans) != "a: save on 1, save on 2" {
-		t.Errorf("%v %+v %s", countsOf(made), one.Loses, shown(made.Plans))
+	told := outlookOf(folderOf("send-receive", "send-receive", "send-receive"), []*join.Row{row})
+	if name := told.Listed[0]; name.Fate != Lost || len(name.Loses) != 2 || len(name.Ends) < 2 || shown(told.Plans) != "a: save on 1, save on 2" {
+		t.Errorf("%v %+v %s", countsOf(told), name.Loses, shown(told.Plans))
 	}
 }
 
@@ -27,8 +27,8 @@ func TestCopiesThatDoNotMeet(t *testing.T) {
 				cut(at.Disk, sizes[member], int64(100-member))
 			}
 		}
-		if made := outlookOf(folderOf("send-receive", "send-receive", "send-receive"), []*join.Row{row}); made.Lost != 0 {
-			t.Errorf("%v: %v %+v", sizes, countsOf(made), made.Listed)
+		if told := outlookOf(folderOf("send-receive", "send-receive", "send-receive"), []*join.Row{row}); told.Lost != 0 {
+			t.Errorf("%v: %v %+v", sizes, countsOf(told), told.Listed)
 		}
 	}
 }
@@ -38,8 +38,8 @@ func TestPlansSaveCopiesThatMeet(t *testing.T) {
 	row := calm("a", 3, 1)
 	changedAt(row, 2, 70, true)
 	cut(row.At[1].Disk, 0, 0)
-	made := outlookOf(folderOf("send-receive", "send-receive", "receive-only"), []*join.Row{row})
-	if text := shown(made.Plans); text != "a: save on 2, touch on 0; then what 0 have, and copies of 1" {
+	told := outlookOf(folderOf("send-receive", "send-receive", "receive-only"), []*join.Row{row})
+	if text := shown(told.Plans); text != "a: save on 2, touch on 0; then what 0 have, and copies of 1" {
 		t.Error(text)
 	}
 }

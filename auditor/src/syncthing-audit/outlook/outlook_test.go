@@ -60,7 +60,7 @@ func placesOf(ids []string) []int {
 
 // folderOf gives a folder that these devices share, whose kinds these are.
 func folderOf(kinds ...string) *join.Folder {
-	made := &join.Folder{ID: "docs"}
+	folder := &join.Folder{ID: "docs"}
 	for place, kind := range kinds {
 		about := &part.Folder{ID: "docs", Kind: kind, IndexID: uint64(place + 1), Max: 9, Options: &part.Options{MaxConflicts: 10}}
 		for other := range kinds {
@@ -70,9 +70,9 @@ func folderOf(kinds ...string) *join.Folder {
 			}
 		}
 		head := &part.Head{Device: idOf(place), Runs: "v1.29.5", Folders: []part.Folder{*about}}
-		made.Members = append(made.Members, join.Member{Device: &join.Device{Head: head, Number: head.Number()}, About: about})
+		folder.Members = append(folder.Members, join.Member{Device: &join.Device{Head: head, Number: head.Number()}, About: about})
 	}
-	return made
+	return folder
 }
 
 // rows draws rows of a folder: names with records that some devices changed and others heard of, and disks on which something was changed.
@@ -140,11 +140,11 @@ func (r *rows) disk(own *part.Record) *part.Node {
 
 func draw(seed int64, devices, names int) []*join.Row {
 	from := &rows{rand.New(rand.NewSource(seed)), devices}
-	var made []*join.Row
+	var all []*join.Row
 	for place := 0; place < names; place++ {
-		made = append(made, from.row(fmt.Sprintf("n%02d", place)))
+		all = append(all, from.row(fmt.Sprintf("n%02d", place)))
 	}
-	return made
+	return all
 }
 
 func kindsOf(seed int64, devices int) []string {
@@ -172,22 +172,22 @@ func outlookBy(budget forecast.Budget, folder *join.Folder, all []*join.Row) *Ou
 func TestEachNameHasOneFate(t *testing.T) {
 	seen := map[Fate]int64{}
 	for seed := int64(0); seed < 48; seed++ {
-		made := outlookOf(folderOf(kindsOf(seed, 2+int(seed)%2)...), draw(seed, 2+int(seed)%2, 6))
+		told := outlookOf(folderOf(kindsOf(seed, 2+int(seed)%2)...), draw(seed, 2+int(seed)%2, 6))
 		counts, sum := map[Fate]int64{}, int64(0)
 		names := map[part.Bytes]bool{}
-		for _, name := range made.Listed {
+		for _, name := range told.Listed {
 			counts[name.Fate]++
 			names[name.Name] = true
 		}
-		for fate, count := range countsOf(made) {
+		for fate, count := range countsOf(told) {
 			sum += count
 			seen[fate] += count
 			if counts[fate] != count {
 				t.Errorf("seed %d: %d names are counted as %s, %d are listed", seed, count, fate, counts[fate])
 			}
 		}
-		if sum != made.Names || int64(len(names)) != made.Names {
-			t.Errorf("seed %d: %d names, %d counted, %d listed", seed, made.Names, sum, len(names))
+		if sum != told.Names || int64(len(names)) != told.Names {
+			t.Errorf("seed %d: %d names, %d counted, %d listed", seed, told.Names, sum, len(names))
 		}
 	}
 	for _, fate := range []Fate{Lost, Depends, Changed, Deleted, Stays, ByItself} {
@@ -229,13 +229,13 @@ func TestNothingIsLostThatIsNotTold(t *testing.T) {
 }
 
 func disksOf(row *join.Row) []*part.Node {
-	var made []*part.Node
+	var disks []*part.Node
 	for _, at := range row.At {
 		if at.Disk != nil {
-			made = append(made, at.Disk)
+			disks = append(disks, at.Disk)
 		}
 	}
-	return made
+	return disks
 }
 
 func isContent(thing Thing, node *part.Node) bool {
@@ -308,12 +308,12 @@ func TestTheOrderOfDevicesChangesNothing(t *testing.T) {
 // turn gives the same devices and rows with the last device first. Of which device a view is goes by its place in the device's own list.
 func turn(folder *join.Folder, all []*join.Row) (*join.Folder, []*join.Row) {
 	last := len(folder.Members) - 1
-	made := &join.Folder{ID: folder.ID, Members: append([]join.Member{folder.Members[last]}, folder.Members[:last]...)}
+	turned := &join.Folder{ID: folder.ID, Members: append([]join.Member{folder.Members[last]}, folder.Members[:last]...)}
 	var rows []*join.Row
 	for _, row := range all {
 		rows = append(rows, &join.Row{Name: row.Name, At: append([]*part.Name{row.At[last]}, row.At[:last]...)})
 	}
-	return made, rows
+	return turned, rows
 }
 
 // A file that is rotten on the one device that has it never comes right: no scan sees it.

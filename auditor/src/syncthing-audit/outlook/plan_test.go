@@ -12,7 +12,7 @@ import (
 
 // calm gives a name that is at rest on so many devices.
 func calm(name string, devices int, hash byte) *join.Row {
-	made := &join.Row{Name: name}
+	row := &join.Row{Name: name}
 	for member := 0; member < devices; member++ {
 		record := func() *part.Record {
 			return &part.Record{ModifiedS: 100, ModifiedBy: 9, Version: [][2]uint64{{9, 1}}, Sequence: 5, Content: &part.Content{Size: 5, BlockSize: 1 << 17, Hash: part.Hash{hash}}}
@@ -21,9 +21,9 @@ func calm(name string, devices int, hash byte) *join.Row {
 		for view := 0; view < devices-1; view++ {
 			at.Views = append(at.Views, part.Seen{View: view, Record: record()})
 		}
-		made.At = append(made.At, at)
+		row.At = append(row.At, at)
 	}
-	return made
+	return row
 }
 
 func (p *Plan) isOf(steps []Step, goal []int) bool {
@@ -54,18 +54,18 @@ var plansOfNames = []struct {
 }
 
 func TestPlans(t *testing.T) {
-	for _, one := range plansOfNames {
+	for _, example := range plansOfNames {
 		folder, row := folderOf("send-receive", "send-receive", "send-receive"), calm("a", 3, 1)
-		one.change(folder, row)
-		made := outlookOf(folder, []*join.Row{row})
-		if one.steps == nil {
-			if len(made.Plans) > 0 {
-				t.Errorf("%s: %+v", one.why, made.Plans)
+		example.change(folder, row)
+		told := outlookOf(folder, []*join.Row{row})
+		if example.steps == nil {
+			if len(told.Plans) > 0 {
+				t.Errorf("%s: %+v", example.why, told.Plans)
 			}
 			continue
 		}
-		if len(made.Plans) != 1 || !made.Plans[0].isOf(one.steps, one.goal) {
-			t.Errorf("%s: %+v", one.why, made.Plans)
+		if len(told.Plans) != 1 || !told.Plans[0].isOf(example.steps, example.goal) {
+			t.Errorf("%s: %+v", example.why, told.Plans)
 		}
 	}
 }
@@ -152,7 +152,7 @@ func TestWhatGoesFromSomeDevicesIsSaved(t *testing.T) {
 	}
 	copied := thing("good", 0)
 	copied.IsCopy = true
-	for _, one := range []struct {
+	for _, row := range []struct {
 		ends   [][]Thing
 		isTold bool
 	}{
@@ -163,10 +163,10 @@ func TestWhatGoesFromSomeDevicesIsSaved(t *testing.T) {
 		{[][]Thing{{thing("rot", 1), thing("good", 0, 2)}, {thing("rot", 1)}}, true},
 	} {
 		for _, fate := range []Fate{Stays, Depends, Deleted, ByItself} {
-			name := Name{Fate: fate, Now: []Thing{thing("rot", 1), thing("good", 0, 2)}, Ends: one.ends}
+			name := Name{Fate: fate, Now: []Thing{thing("rot", 1), thing("good", 0, 2)}, Ends: row.ends}
 			saved := name.toSave()
-			if is := len(saved) == 1 && saved[0].Content.Hash == "good"; is != (one.isTold && (fate == Stays || fate == Depends)) || !is && len(saved) > 0 {
-				t.Errorf("%s, %v: %v", fate, one.ends, saved)
+			if is := len(saved) == 1 && saved[0].Content.Hash == "good"; is != (row.isTold && (fate == Stays || fate == Depends)) || !is && len(saved) > 0 {
+				t.Errorf("%s, %v: %v", fate, row.ends, saved)
 			}
 		}
 	}

@@ -82,7 +82,7 @@ func (r *repair) at(called string) int {
 func TestWhatIsHarmed(t *testing.T) {
 	rotten := &forecast.Node{Type: forecast.File, Content: smallContents[3]}
 	later := &forecast.Node{Type: forecast.File, Content: smallContents[3], Time: 9}
-	for place, one := range []struct {
+	for place, row := range []struct {
 		name   string
 		change func(r *repair, name *forecast.Name)
 		is     bool
@@ -117,9 +117,9 @@ func TestWhatIsHarmed(t *testing.T) {
 		{"d", func(r *repair, name *forecast.Name) { name.Disk[1] = nil; r.told[r.at("d/e")].Fate = Lost }, false},
 	} {
 		r, find := tree()
-		name := find(one.name)
-		one.change(r, name)
-		if is := r.isHarmed(name, 1, name.Disk[1], &r.told[r.at(one.name)]); is != one.is {
+		name := find(row.name)
+		row.change(r, name)
+		if is := r.isHarmed(name, 1, name.Disk[1], &r.told[r.at(row.name)]); is != row.is {
 			t.Errorf("%d: %v", place, is)
 		}
 	}
@@ -168,7 +168,7 @@ func TestWhatIsDue(t *testing.T) {
 	}
 	deleted := version(9, 0)
 	deleted.Deleted = true
-	for place, one := range []struct {
+	for place, row := range []struct {
 		own    []*forecast.Record
 		disk   []*forecast.Node
 		change func(r *repair)
@@ -194,13 +194,13 @@ func TestWhatIsDue(t *testing.T) {
 	} {
 		r, _ := tree()
 		name := &r.group.Names[r.at("f")]
-		name.Own, name.Disk = one.own, one.disk
-		if one.change != nil {
-			one.change(r)
+		name.Own, name.Disk = row.own, row.disk
+		if row.change != nil {
+			row.change(r)
 		}
 		due, from := r.dueOf(name, &r.told[r.at("f")])
-		if from != one.from || (due == nil) != (from < 0) || from >= 0 && due != name.Disk[from] {
-			t.Errorf("%d: %+v from %d, not %d", place, due, from, one.from)
+		if from != row.from || (due == nil) != (from < 0) || from >= 0 && due != name.Disk[from] {
+			t.Errorf("%d: %+v from %d, not %d", place, due, from, row.from)
 		}
 	}
 }
@@ -208,7 +208,7 @@ func TestWhatIsDue(t *testing.T) {
 // Of a directory on several devices that one is taken below which least is otherwise than due; of these the one with most of it.
 func TestFromWhichDeviceADirectoryIsTaken(t *testing.T) {
 	rotten := &forecast.Node{Type: forecast.File, Content: smallContents[3]}
-	for place, one := range []struct {
+	for place, row := range []struct {
 		change func(find func(string) *forecast.Name)
 		from   int
 	}{
@@ -222,9 +222,9 @@ func TestFromWhichDeviceADirectoryIsTaken(t *testing.T) {
 		{func(find func(string) *forecast.Name) { find("d").Disk = []*forecast.Node{nil, nil} }, -1},
 	} {
 		r, find := tree()
-		one.change(find)
-		if due, from := r.holderOf(find("d"), find("d").Own[0]); from != one.from || (due == nil) != (from < 0) {
-			t.Errorf("%d: from %d, not %d", place, from, one.from)
+		row.change(find)
+		if due, from := r.holderOf(find("d"), find("d").Own[0]); from != row.from || (due == nil) != (from < 0) {
+			t.Errorf("%d: from %d, not %d", place, from, row.from)
 		}
 	}
 	r, find := tree()

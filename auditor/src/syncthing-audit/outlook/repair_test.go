@@ -31,11 +31,11 @@ func directory(name string) *join.Row { return calmDirectory(name, 3) }
 
 // full gives a directory with so many files, all at rest.
 func full(files int) []*join.Row {
-	made := []*join.Row{directory("d")}
+	rows := []*join.Row{directory("d")}
 	for place := 0; place < files; place++ {
-		made = append(made, calm(fmt.Sprintf("d/%02d", place), 3, byte(place+1)))
+		rows = append(rows, calm(fmt.Sprintf("d/%02d", place), 3, byte(place+1)))
 	}
-	return made
+	return rows
 }
 
 // goneAt has nothing stand at all these names on a device.
@@ -168,19 +168,19 @@ func shown(all []*Plan) string {
 
 // What is due is put back where a disk was harmed.
 func TestRepairs(t *testing.T) {
-	for _, one := range repairs {
-		made := outlookOf(folderOf("send-receive", "send-receive", "send-receive"), one.rows())
-		if text := shown(made.Plans); text != one.plans {
-			t.Errorf("%s: %s, %+v", one.why, text, made.Listed)
+	for _, row := range repairs {
+		told := outlookOf(folderOf("send-receive", "send-receive", "send-receive"), row.rows())
+		if text := shown(told.Plans); text != row.plans {
+			t.Errorf("%s: %s, %+v", row.why, text, told.Listed)
 		}
 	}
 }
 
 // What a device that only receives changed isn't carried to others with the directory above it.
 func TestLocalChangesAreNotCopied(t *testing.T) {
-	made := outlookOf(folderOf("send-receive", "receive-only", "send-receive"), changedBelow())
-	if text := shown(made.Plans); text != "d and 1 below: copy to 0 from 2; then what 1, 2 have | d/00: save on 2" {
-		t.Errorf("%s, %+v", text, made.Listed)
+	told := outlookOf(folderOf("send-receive", "receive-only", "send-receive"), changedBelow())
+	if text := shown(told.Plans); text != "d and 1 below: copy to 0 from 2; then what 1, 2 have | d/00: save on 2" {
+		t.Errorf("%s, %+v", text, told.Listed)
 	}
 }
 
@@ -226,8 +226,8 @@ func TestAllPlansAreSafeFromTheTop(t *testing.T) {
 // isNobodys says whether a device has other bytes than it recorded, under the recorded time.
 func isNobodys(world *forecast.World, name string, member int) bool {
 	for place := range world.Names {
-		if one := &world.Names[place]; one.Name == name {
-			own, what := one.Own[member], one.Disk[member]
+		if other := &world.Names[place]; other.Name == name {
+			own, what := other.Own[member], other.Disk[member]
 			return own != nil && what != nil && own.Time == what.Time && own.Content != what.Content
 		}
 	}
@@ -235,15 +235,15 @@ func isNobodys(world *forecast.World, name string, member int) bool {
 }
 
 func bytesOnDisks(world *forecast.World) map[forecast.Content]bool {
-	made := map[forecast.Content]bool{}
+	contents := map[forecast.Content]bool{}
 	for place := range world.Names {
 		for _, what := range world.Names[place].Disk {
 			if what != nil && what.Content.Size > 0 {
-				made[what.Content] = true
+				contents[what.Content] = true
 			}
 		}
 	}
-	return made
+	return contents
 }
 
 // lostAtEnds gives which of these bytes are on no disk at some end, and weren't saved; nothing where that isn't known.
@@ -262,11 +262,11 @@ func lostAtEnds(world *forecast.World, before, saved map[forecast.Content]bool) 
 			left[content] = left[content] || isAtAll
 		}
 	}
-	made := map[forecast.Content]bool{}
+	contents := map[forecast.Content]bool{}
 	for content := range before {
 		if !left[content] && !saved[content] {
-			made[content] = true
+			contents[content] = true
 		}
 	}
-	return made, true
+	return contents, true
 }

@@ -12,11 +12,11 @@ import (
 
 // folderDevices gives so many devices of a folder that send and receive.
 func folderDevices(count int) []forecast.Device {
-	made := make([]forecast.Device, count)
-	for place := range made {
-		made[place].ID = idOf(place)
+	devices := make([]forecast.Device, count)
+	for place := range devices {
+		devices[place].ID = idOf(place)
 	}
-	return made
+	return devices
 }
 
 // anyDevices are more devices than any folder here has.

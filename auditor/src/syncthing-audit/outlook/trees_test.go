@@ -29,11 +29,11 @@ func TestADirectoryIsCopiedWithAllBelow(t *testing.T) {
 	for _, row := range all[:3] {
 		row.At[1].Disk = nil
 	}
-	made := outlookOf(folderOf("send-receive", "send-receive", "send-receive"), all)
-	if made.Lost != 3 || len(made.Plans) != 1 {
-		t.Fatalf("%+v", made)
+	told := outlookOf(folderOf("send-receive", "send-receive", "send-receive"), all)
+	if told.Lost != 3 || len(told.Plans) != 1 {
+		t.Fatalf("%+v", told)
 	}
-	plan := made.Plans[0]
+	plan := told.Plans[0]
 	if fmt.Sprint(plan.Names) != "[d]" || plan.Below != 2 || !reflect.DeepEqual(plan.Steps, []Step{{Act: Copy, Device: idOf(1), From: idOf(0)}}) || !reflect.DeepEqual(plan.Goal.Devices, at(0, 2)) {
 		t.Errorf("%+v", plan)
 	}
@@ -44,8 +44,8 @@ func TestWhatGoesForADirectoryIsSaved(t *testing.T) {
 	all := []*join.Row{calmDirectory("d", 3), calm("d/a", 3, 1)}
 	all[0].At[1].Disk = &part.Node{ModifiedS: 200, Size: 4, Contents: []part.Content{{Size: 4, BlockSize: 1 << 17, Hash: part.Hash{77}}}, Permissions: 0o644}
 	all[1].At[1].Disk = nil
-	made := outlookOf(folderOf("send-receive", "send-receive", "send-receive"), all)
-	for _, plan := range made.Plans {
+	told := outlookOf(folderOf("send-receive", "send-receive", "send-receive"), all)
+	for _, plan := range told.Plans {
 		if plan.Names[0] == "d" && plan.Goal != nil && plan.Goal.Type == 2 {
 			if !reflect.DeepEqual(plan.Steps, []Step{{Act: Save, Device: idOf(1)}, {Act: Delete, Device: idOf(1)}, {Act: Copy, Device: idOf(1), From: idOf(0)}}) {
 				t.Errorf("%+v", plan)
@@ -53,7 +53,7 @@ func TestWhatGoesForADirectoryIsSaved(t *testing.T) {
 			return
 		}
 	}
-	t.Errorf("the directory has no plan: %+v", made.Plans)
+	t.Errorf("the directory has no plan: %+v", told.Plans)
 }
 
 // Many names that hang together have a plan, too: all of them the same.
@@ -68,9 +68,9 @@ func TestManyNamesThatHangTogether(t *testing.T) {
 			change(row)
 			all = append(all, row)
 		}
-		made := outlookOf(folderOf("send-receive", "send-receive", "send-receive"), all)
-		if len(made.Plans) != 1 || made.Plans[0].Count != 30 || made.Plans[0].Goal == nil || !reflect.DeepEqual(made.Plans[0].Goal.Devices, at(0, 2)) {
-			t.Errorf("%+v", made.Plans)
+		told := outlookOf(folderOf("send-receive", "send-receive", "send-receive"), all)
+		if len(told.Plans) != 1 || told.Plans[0].Count != 30 || told.Plans[0].Goal == nil || !reflect.DeepEqual(told.Plans[0].Goal.Devices, at(0, 2)) {
+			t.Errorf("%+v", told.Plans)
 		}
 	}
 }
@@ -99,8 +99,8 @@ func TestWhatIsNotKnownIsSaved(t *testing.T) {
 	row := calm("a", 3, 1)
 	row.At[1].Disk.Contents[0].Hash = part.Hash{99}
 	row.At[2].Own.Invalid = true // of a local change whose version isn't told
-	made := outlookOf(folderOf("send-receive", "send-receive", "receive-only"), []*join.Row{row})
-	if made.NotKnown != 1 || len(made.Plans) != 1 || made.Plans[0].Goal != nil || !reflect.DeepEqual(made.Plans[0].Steps, []Step{{Act: Save, Device: idOf(0)}, {Act: Save, Device: idOf(1)}}) {
-		t.Errorf("%+v, %+v", made, made.Plans)
+	told := outlookOf(folderOf("send-receive", "send-receive", "receive-only"), []*join.Row{row})
+	if told.NotKnown != 1 || len(told.Plans) != 1 || told.Plans[0].Goal != nil || !reflect.DeepEqual(told.Plans[0].Steps, []Step{{Act: Save, Device: idOf(0)}, {Act: Save, Device: idOf(1)}}) {
+		t.Errorf("%+v, %+v", told, told.Plans)
 	}
 }

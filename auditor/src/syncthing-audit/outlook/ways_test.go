@@ -171,7 +171,7 @@ func TestWhereTwinsMatter(t *testing.T) {
 		return forecast.Name{Own: []*forecast.Record{record(1), record(value)}, Views: [][]*forecast.Record{{nil, record(value)}, {record(1), nil}}, Disk: []*forecast.Node{node, node}}
 	}
 	whole, rotten := smallContents[2], smallContents[3]
-	for place, one := range []struct {
+	for place, row := range []struct {
 		names []forecast.Name
 		stuck []forecast.Stuck
 		is    bool
@@ -180,8 +180,8 @@ func TestWhereTwinsMatter(t *testing.T) {
 		{[]forecast.Name{of(1, rotten), of(2, whole)}, nil, true}, {[]forecast.Name{of(2, whole), of(1, rotten)}, nil, true}, {[]forecast.Name{of(1, rotten), of(1, rotten)}, nil, false},
 		{[]forecast.Name{of(1, whole)}, []forecast.Stuck{{Why: forecast.OnlySends}}, false}, {[]forecast.Name{of(1, whole)}, []forecast.Stuck{{Why: forecast.OnlySends}, {Why: forecast.NoSource}}, true},
 	} {
-		answer := &forecast.Answer{Ends: []forecast.End{{}, {Stuck: one.stuck}}}
-		if is := mayTakeFromTwins(&forecast.World{Names: one.names}, answer); is != one.is {
+		answer := &forecast.Answer{Ends: []forecast.End{{}, {Stuck: row.stuck}}}
+		if is := mayTakeFromTwins(&forecast.World{Names: row.names}, answer); is != row.is {
 			t.Errorf("%d: %v", place, is)
 		}
 	}
@@ -194,7 +194,7 @@ func TestWhatAChoiceCounts(t *testing.T) {
 	}
 	both := Thing{Devices: at(0, 1), Type: forecast.File, Content: smallContents[2]}
 	before := &Name{Name: "a", Ends: [][]Thing{{file(0, 2)}}, Loses: []Thing{file(0, 3)}, IsAll: true}
-	for place, one := range []struct {
+	for place, row := range []struct {
 		after Name
 		due   Choice
 	}{
@@ -206,17 +206,17 @@ func TestWhatAChoiceCounts(t *testing.T) {
 		{Name{Name: "a", Ends: [][]Thing{{file(1, 3)}}, IsAll: true, Loses: []Thing{file(0, 3), file(0, 4)}},
 			Choice{Names: 1, IsAll: true, Lost: 1, Loses: []Loss{{"a", []Thing{file(0, 4)}}}}},
 	} {
-		made := Choice{IsAll: true}
-		if made.take(before, one.after, 2); !reflect.DeepEqual(made, one.due) {
-			t.Errorf("%d: %+v, not %+v", place, made, one.due)
+		choice := Choice{IsAll: true}
+		if choice.take(before, row.after, 2); !reflect.DeepEqual(choice, row.due) {
+			t.Errorf("%d: %+v, not %+v", place, choice, row.due)
 		}
 	}
-	made := Choice{}
+	choice := Choice{}
 	for count := 0; count < MostListed+2; count++ {
-		made.take(before, Name{Ends: [][]Thing{{both}}, Loses: []Thing{file(0, 4)}}, 2)
+		choice.take(before, Name{Ends: [][]Thing{{both}}, Loses: []Thing{file(0, 4)}}, 2)
 	}
-	if made.Lost != MostListed+2 || len(made.Loses) != MostListed || made.IsAll {
-		t.Errorf("%d lost, %d listed", made.Lost, len(made.Loses))
+	if choice.Lost != MostListed+2 || len(choice.Loses) != MostListed || choice.IsAll {
+		t.Errorf("%d lost, %d listed", choice.Lost, len(choice.Loses))
 	}
 }
 
@@ -233,15 +233,15 @@ func TestWhatGoesByAChoice(t *testing.T) {
 				due = append(due, thing)
 			}
 		}
-		made := Choice{}
-		made.takeReplaced(name, one, other)
-		if made.Gone != int64(len(made.Goes)) || (len(due) > 0) != (made.Gone == 1) || made.Gone == 1 && !reflect.DeepEqual(made.Goes[0], Loss{part.Bytes("a"), due}) {
-			t.Fatalf("%d: %+v, not %+v", seed, made, due)
+		choice := Choice{}
+		choice.takeReplaced(name, one, other)
+		if choice.Gone != int64(len(choice.Goes)) || (len(due) > 0) != (choice.Gone == 1) || choice.Gone == 1 && !reflect.DeepEqual(choice.Goes[0], Loss{part.Bytes("a"), due}) {
+			t.Fatalf("%d: %+v, not %+v", seed, choice, due)
 		}
 		if gone += len(due); len(due) > 0 {
-			made.Goes = make([]Loss, MostListed)
-			if made.takeReplaced(name, one, other); made.Gone != 2 || len(made.Goes) != MostListed {
-				t.Fatalf("%d: %d gone, %d listed", seed, made.Gone, len(made.Goes))
+			choice.Goes = make([]Loss, MostListed)
+			if choice.takeReplaced(name, one, other); choice.Gone != 2 || len(choice.Goes) != MostListed {
+				t.Fatalf("%d: %d gone, %d listed", seed, choice.Gone, len(choice.Goes))
 			}
 		}
 	}
@@ -257,20 +257,20 @@ func TestChoicesNobodyKnows(t *testing.T) {
 	from := read.NewRows(folderOf("send-receive", "receive-only"))
 	from.Take(row)
 	world := from.World()
-	made := newChoices(forecast.New(forecast.Budget{States: 1, Walks: 0, Total: 1, Most: 1}), nil)
-	made.forecaster.OfGroup(world.Devices, world.Copied().Names)
-	made.add(&world, []Name{{Name: "a"}}, nil, chosen{Revert, 1})
-	made.add(&world, []Name{{Name: "b"}, {Name: "c"}}, nil, chosen{Revert, 1})
-	if all := made.all(); len(all) != 1 || all[0].Unknown != 3 || all[0].Names != 0 || all[0].Device != idOf(1) {
+	choices := newChoices(forecast.New(forecast.Budget{States: 1, Walks: 0, Total: 1, Most: 1}), nil)
+	choices.forecaster.OfGroup(world.Devices, world.Copied().Names)
+	choices.add(&world, []Name{{Name: "a"}}, nil, chosen{Revert, 1})
+	choices.add(&world, []Name{{Name: "b"}, {Name: "c"}}, nil, chosen{Revert, 1})
+	if all := choices.all(); len(all) != 1 || all[0].Unknown != 3 || all[0].Names != 0 || all[0].Device != idOf(1) {
 		t.Errorf("%+v", all)
 	}
-	made.found, made.order = map[chosen]*Choice{}, nil
+	choices.found, choices.order = map[chosen]*Choice{}, nil
 	for place, step := range []chosen{{Both, 31}, {Revert, 0}, {Override, 1}, {Both, 0}} {
-		made.order = append(made.order, step)
-		made.found[step] = &Choice{Act: step.act, Device: idOf(step.member), Names: int64(place % 2), Unknown: int64(place % 3)}
+		choices.order = append(choices.order, step)
+		choices.found[step] = &Choice{Act: step.act, Device: idOf(step.member), Names: int64(place % 2), Unknown: int64(place % 3)}
 	}
 	var order []chosen
-	for _, choice := range made.all() {
+	for _, choice := range choices.all() {
 		order = append(order, chosen{choice.Act, memberOf(choice.Device)})
 	}
 	if due := []chosen{{Revert, 0}, {Both, 0}, {Override, 1}}; !reflect.DeepEqual(order, due) {

@@ -83,7 +83,7 @@ func TestWhatScriptsRefuse(t *testing.T) {
 	copies := func(over bool) []*outlook.Plan {
 		return []*outlook.Plan{{Names: []part.Bytes{"a/b"}, Count: 1, Steps: []outlook.Step{{Act: outlook.Copy, Device: ids[0], From: ids[1], Over: over}}}}
 	}
-	for _, one := range []struct {
+	for _, row := range []struct {
 		over   bool
 		change string // of the script, by sed
 		before string // in the room, by sh
@@ -106,16 +106,16 @@ func TestWhatScriptsRefuse(t *testing.T) {
 			run(t, "mkdir", "-p", here.at(device, ".stfolder"), here.at(device, "a"))
 			run(t, "sh", "-c", `printf '%s' "$2" > "$1/a/b"`, "sh", here.folder(device), "text of "+device)
 		}
-		path := here.filled(t, Of(summaryOf(copies(one.over)), time.Now())[0], here.folder)
-		run(t, "sed", "-i", strings.ReplaceAll(one.change, "$folder", here.folder(ids[0])), path)
-		run(t, "sh", "-c", "cd \"$1\"; "+one.before, "sh", here.room)
+		path := here.filled(t, Of(summaryOf(copies(row.over)), time.Now())[0], here.folder)
+		run(t, "sed", "-i", strings.ReplaceAll(row.change, "$folder", here.folder(ids[0])), path)
+		run(t, "sh", "-c", "cd \"$1\"; "+row.before, "sh", here.room)
 		had := tree(t, here.folder(ids[0]), time.Now())
 		said, err := exec.Command("sh", path).CombinedOutput()
-		if err == nil || !strings.Contains(string(said), one.says) {
-			t.Errorf("%s%s: %v: %s, not %s", one.change, one.before, err, said, one.says)
+		if err == nil || !strings.Contains(string(said), row.says) {
+			t.Errorf("%s%s: %v: %s, not %s", row.change, row.before, err, said, row.says)
 		}
 		if now := tree(t, here.folder(ids[0]), time.Now()); now != had {
-			t.Errorf("%s%s: there is now %s", one.change, one.before, now)
+			t.Errorf("%s%s: there is now %s", row.change, row.before, now)
 		}
 	}
 }
@@ -149,21 +149,21 @@ func TestWhatScriptsSay(t *testing.T) {
 	told.Folders[0].Outlook.WithoutSteps, told.Folders[0].Outlook.NotKnown, told.First = 3, 4, []summary.First{{}}
 	told.Folders[0].Outlook.Plans[0].Count += 5
 	scripts := Of(told, time.Now())
-	for _, one := range scripts {
+	for _, script := range scripts {
 		for _, says := range []string{"for 3 names", "to 4 names", "be done before Syncthing starts: 1 line", "5 more names"} {
-			if !strings.Contains(one.Text, says) {
-				t.Errorf("%s doesn't say %q", one.Name, says)
+			if !strings.Contains(script.Text, says) {
+				t.Errorf("%s doesn't say %q", script.Name, says)
 			}
 		}
-		if at := strings.IndexFunc(one.Text, func(letter rune) bool { return letter < ' ' && letter != '\n' || letter == 0x7f || letter == '\ufffd' }); at >= 0 {
-			t.Errorf("%s shows %q", one.Name, one.Text[at:at+20])
+		if at := strings.IndexFunc(script.Text, func(letter rune) bool { return letter < ' ' && letter != '\n' || letter == 0x7f || letter == '\ufffd' }); at >= 0 {
+			t.Errorf("%s shows %q", script.Name, script.Text[at:at+20])
 		}
 		next := "are next"
-		if one.Name[0] == scripts[len(scripts)-1].Name[0] {
+		if script.Name[0] == scripts[len(scripts)-1].Name[0] {
 			next = "Audit again, before Syncthing starts"
 		}
-		if !strings.Contains(one.Text, next) {
-			t.Errorf("%s doesn't say that others %q", one.Name, next)
+		if !strings.Contains(script.Text, next) {
+			t.Errorf("%s doesn't say that others %q", script.Name, next)
 		}
 	}
 	if len(Of(summaryOf(nil), time.Now())) > 0 {

@@ -104,7 +104,7 @@ var present = time.Unix(1e9, 0)
 
 // drawPlans draws plans that can be followed from the top, and follows them.
 func drawPlans(random *rand.Rand, disks *disks) []*outlook.Plan {
-	var made []*outlook.Plan
+	var plans []*outlook.Plan
 	some := names[:len(names)-random.Intn(2)*(len(names)-3)] // all, or those that stand below one another
 	for try := 0; try < 30; try++ {
 		name := some[random.Intn(len(some))]
@@ -121,18 +121,18 @@ func drawPlans(random *rand.Rand, disks *disks) []*outlook.Plan {
 			}
 		}
 		if len(plan.Steps) > 0 {
-			made = append(made, plan)
+			plans = append(plans, plan)
 		}
 	}
-	return made
+	return plans
 }
 
 func summaryOf(plans []*outlook.Plan) *summary.Summary {
-	made := &summary.Summary{Folders: []*summary.Folder{{ID: "docs", Label: "it's\x1b[2J", Outlook: &outlook.Outlook{Plans: plans}}}}
+	told := &summary.Summary{Folders: []*summary.Folder{{ID: "docs", Label: "it's\x1b[2J", Outlook: &outlook.Outlook{Plans: plans}}}}
 	for _, id := range ids {
-		made.Devices = append(made.Devices, summary.Device{ID: id, Name: "it's " + id + "\n\x1b[2J"})
+		told.Devices = append(told.Devices, summary.Device{ID: id, Name: "it's " + id + "\n\x1b[2J"})
 	}
-	return made
+	return told
 }
 
 // filled gives a script in which a user has set the paths.
@@ -215,10 +215,10 @@ func TestScriptsDoWhatPlansSay(t *testing.T) {
 			}
 		})
 		before := time.Now().Add(-time.Hour)
-		for _, one := range scripts {
-			rounds[one.Name[0]]++
-			steps += strings.Count(one.Text, `"$folder_1" `)
-			path := here.filled(t, one, here.folder)
+		for _, script := range scripts {
+			rounds[script.Name[0]]++
+			steps += strings.Count(script.Text, `"$folder_1" `)
+			path := here.filled(t, script, here.folder)
 			for times := 0; times < 1+random.Intn(2); times++ {
 				run(t, "sh", path)
 			}

@@ -12,14 +12,14 @@ import (
 func TestQRCodes(t *testing.T) {
 	bin := t.TempDir()
 	t.Setenv("PATH", bin)
-	if made := codeOf("ABC"); made != nil {
-		t.Errorf("without qrencode: %q", made)
+	if lines := codeOf("ABC"); lines != nil {
+		t.Errorf("without qrencode: %q", lines)
 	}
 	if err := os.WriteFile(filepath.Join(bin, "qrencode"), []byte("#!/bin/sh\nprintf '%s\\n' \"$*\" '█▀'\n"), 0o700); err != nil {
 		t.Fatal(err)
 	}
-	if made := codeOf("ABC"); !reflect.DeepEqual(made, []string{"-t UTF8 -- ABC", "█▀"}) {
-		t.Errorf("%q", made)
+	if lines := codeOf("ABC"); !reflect.DeepEqual(lines, []string{"-t UTF8 -- ABC", "█▀"}) {
+		t.Errorf("%q", lines)
 	}
 	var log bytes.Buffer
 	if ShowCode(&log, "ABC"); log.Len() > 0 {

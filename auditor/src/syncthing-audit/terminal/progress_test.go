@@ -15,7 +15,7 @@ func seconds(number float64) time.Time {
 
 // How much is done is told of all that is recorded, and the time left by the rate of the last minute. A rate that isn't known tells no time.
 func TestTheTimeThatIsLeft(t *testing.T) {
-	for _, one := range []struct {
+	for _, row := range []struct {
 		why     string
 		moments [][2]float64 // seconds, and GB
 		whole   float64      // GB
@@ -36,14 +36,14 @@ func TestTheTimeThatIsLeft(t *testing.T) {
 		{"it isn't known how much is recorded", [][2]float64{{0, 0}, {10, 5}}, 0, "hashed 5000 MB"},
 		{"as good as never", [][2]float64{{0, 0}, {59, 0.000000001}}, 61, "hashed 0.0 of 61.0 GB"},
 	} {
-		made, done, line := &Work{ToHash: int64(one.whole * 1e9)}, int64(0), ""
+		made, done, line := &Work{ToHash: int64(row.whole * 1e9)}, int64(0), ""
 		made.Hashed = func() int64 { return done }
-		for _, moment := range one.moments {
+		for _, moment := range row.moments {
 			done = int64(moment[1] * 1e9)
 			line = made.Line(seconds(moment[0]))
 		}
-		if line != one.line {
-			t.Errorf("%s: %q, not %q", one.why, line, one.line)
+		if line != row.line {
+			t.Errorf("%s: %q, not %q", row.why, line, row.line)
 		}
 	}
 }
@@ -91,49 +91,49 @@ func TestWorkLines(t *testing.T) {
 			w.Answered.Store(2)
 		}, "read 100 % of the parts; joined 9000 names; syncaudit answered 2 of 3 pieces"},
 	}
-	for _, one := range cases {
-		made := &Work{}
-		one.fill(made)
-		if line := made.Line(seconds(2)); line != one.line {
-			t.Errorf("%s: %q, not %q", one.why, line, one.line)
+	for _, row := range cases {
+		work := &Work{}
+		row.fill(work)
+		if line := work.Line(seconds(2)); line != row.line {
+			t.Errorf("%s: %q, not %q", row.why, line, row.line)
 		}
 	}
 }
 
 // Of several places all bytes are told together, with how long the slowest one takes, and of which nothing is known.
 func TestProgressOfSeveralPlaces(t *testing.T) {
-	made := &Tally{}
+	tally := &Tally{}
 	step := func(at int, second, done, whole float64, line string) {
 		t.Helper()
-		if !made.Take(at, fmt.Sprintf(LineOfStep, int64(done*1e9), int64(whole*1e9))) {
+		if !tally.Take(at, fmt.Sprintf(LineOfStep, int64(done*1e9), int64(whole*1e9))) {
 			t.Error("a step isn't taken")
 		}
-		if is := made.Line(seconds(second)); is != line {
+		if is := tally.Line(seconds(second)); is != line {
 			t.Errorf("%q, not %q", is, line)
 		}
 	}
-	laptop := made.Add("laptop")
-	if line := made.Line(seconds(0)); line != "not known how far: laptop" {
+	laptop := tally.Add("laptop")
+	if line := tally.Line(seconds(0)); line != "not known how far: laptop" {
 		t.Error(line)
 	}
 	step(laptop, 0, 0, 20, "hashed 0.0 of 20.0 GB")
 	step(laptop, 10, 1, 20, "hashed 1.0 of 20.0 GB, 3 min left")
-	nas, old := made.Add("nas\x1b"), made.Add("old")
+	nas, old := tally.Add("nas\x1b"), tally.Add("old")
 	step(nas, 20, 0, 40, "hashed 1.0 of 60.0 GB, 6 min left on laptop; not known how far: old")
 	step(nas, 30, 0.1, 40, `hashed 1.1 of 60.0 GB, 66 min left on nas\x1b; not known how far: old`)
-	made.End(old)
-	made.End(nas) // its disk had less than was recorded
-	if line := made.Line(seconds(31)); line != "hashed 1.1 of 20.1 GB, 10 min left on laptop" {
+	tally.End(old)
+	tally.End(nas) // its disk had less than was recorded
+	if line := tally.Line(seconds(31)); line != "hashed 1.1 of 20.1 GB, 10 min left on laptop" {
 		t.Error(line)
 	}
 	step(laptop, 40, 20, 0, "hashed 20.1 GB")
-	made.End(laptop)
-	if line := made.Line(seconds(50)); line != "hashed 20.1 of 20.1 GB" {
+	tally.End(laptop)
+	if line := tally.Line(seconds(50)); line != "hashed 20.1 of 20.1 GB" {
 		t.Error(line)
 	}
 	for _, line := range []string{"", "hashed 1 of 2 bytes", LineOfStep, "syncthing-audit: hashed -1 of 2 bytes", "syncthing-audit: hashed 1 of -2 bytes", "syncthing-audit: hashed 1 of 2 bytes more",
 		"syncthing-audit: hashed 01 of 2 bytes", "syncthing-audit: hashed 99999999999999999 of 2 bytes", "syncthing-audit: hashed 1 of 99999999999999999999 bytes"} {
-		if made.Take(laptop, line) {
+		if tally.Take(laptop, line) {
 			t.Errorf("%q is taken", line)
 		}
 	}
@@ -240,8 +240,8 @@ func TestStepsForAnotherProgram(t *testing.T) {
 // A line that is as long as the terminal is wide would go on in the next one.
 func TestFitting(t *testing.T) {
 	for width, line := range map[int]string{3: "ab", 4: "abc", 5: "abcd", 6: "abcd"} {
-		if made := fitting("abcd", width); made != line {
-			t.Errorf("in %d signs: %q", width, made)
+		if is := fitting("abcd", width); is != line {
+			t.Errorf("in %d signs: %q", width, is)
 		}
 	}
 }

@@ -161,14 +161,14 @@ func TestTimesAndAmounts(t *testing.T) {
 	const day = 24 * time.Hour
 	for left, told := range map[time.Duration]string{0: "0 s left", 1499 * time.Millisecond: "1 s left", 90*time.Second - 1: "90 s left", 90 * time.Second: "2 min left", 150 * time.Second: "2 min left",
 		90*time.Minute - 1: "90 min left", 90 * time.Minute: "2 h left", 5 * time.Hour: "5 h left", 2*day - 1: "48 h left", 2 * day: "2 days left", 30 * day: "30 days left"} {
-		if made := leftOf(left); made != told {
-			t.Errorf("%v: %s, not %s", left, made, told)
+		if is := leftOf(left); is != told {
+			t.Errorf("%v: %s, not %s", left, is, told)
 		}
 	}
 	for of, told := range map[[2]int64]string{{5e6, 0}: "5 MB", {5e6, -1}: "5 MB", {5e6, 4e6}: "5 MB", {5e6, 5e6}: "5 of 5 MB", {0, 1e10 - 1}: "0 of 10000 MB", {0, 1e10}: "0.0 of 10.0 GB",
 		{1e10, 1e10}: "10.0 of 10.0 GB", {2e10, 1e10}: "20.0 GB", {-1, 0}: "-0 MB"} {
-		if made := amounts(of[0], of[1]); made != told {
-			t.Errorf("%v: %s, not %s", of, made, told)
+		if is := amounts(of[0], of[1]); is != told {
+			t.Errorf("%v: %s, not %s", of, is, told)
 		}
 	}
 }
@@ -234,18 +234,18 @@ func TestTheSlowestOfPlaces(t *testing.T) {
 		{[]int64{10*giga - 1}, "hashed 1000 of 10000 MB, 90 s left"},
 		{[]int64{giga + 1}, "hashed 1000 of 1000 MB, 0 s left"},
 	} {
-		made := &Tally{}
+		tally := &Tally{}
 		for place := range row.wholes {
-			made.Add(string(rune('a' + place)))
+			tally.Add(string(rune('a' + place)))
 		}
 		line := ""
 		for _, moment := range [][2]int64{{0, 0}, {10, giga}} {
 			for place, whole := range row.wholes {
-				if !made.Take(place, fmt.Sprintf(LineOfStep, moment[1], whole)) {
+				if !tally.Take(place, fmt.Sprintf(LineOfStep, moment[1], whole)) {
 					t.Error("a step isn't taken")
 				}
 			}
-			line = made.Line(time.Unix(moment[0], 0))
+			line = tally.Line(time.Unix(moment[0], 0))
 		}
 		if line != row.told {
 			t.Errorf("%v: %q, not %q", row.wholes, line, row.told)
@@ -269,14 +269,14 @@ func TestTheSlowestOfPlaces(t *testing.T) {
 
 // Another machine tells of as many bytes as a device may have, and of no more.
 func TestWhatAPlaceMayTell(t *testing.T) {
-	made := &Tally{}
-	at := made.Add("a")
-	for _, one := range []struct {
+	tally := &Tally{}
+	at := tally.Add("a")
+	for _, row := range []struct {
 		done, whole int64
 		is          bool
 	}{{0, 0, true}, {1<<55 - 1, 1<<55 - 1, true}, {1 << 55, 0, false}, {0, 1 << 55, false}, {-1, 0, false}, {0, -1, false}} {
-		if is := made.Take(at, fmt.Sprintf(LineOfStep, one.done, one.whole)); is != one.is {
-			t.Errorf("%+v: %v", one, is)
+		if is := tally.Take(at, fmt.Sprintf(LineOfStep, row.done, row.whole)); is != row.is {
+			t.Errorf("%+v: %v", row, is)
 		}
 	}
 }
