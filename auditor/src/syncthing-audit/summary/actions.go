@@ -24,10 +24,6 @@ type wrongNames struct {
 	folders []string
 }
 
-func newActions() *actions {
-	return &actions{safe: map[string]bool{}, wrong: map[wrongAt]*wrongNames{}, waits: map[string]*waiting{}}
-}
-
 // note notes what the entry of a folder's name tells to do.
 func (a *actions) note(file *File, folder string) {
 	a.entries++

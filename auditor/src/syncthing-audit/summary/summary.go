@@ -196,14 +196,20 @@ var notCompared = []string{"owners", "extended attributes", "old versions"}
 // Of gives the summary of an answer.
 func Of(answer *finding.Answer) *Summary {
 	summary := &Summary{Version: Version, Verdict: verdictOf(answer), Firm: answer.HowFirm(), Devices: []Device{}, Folders: []*Folder{}, LeftOut: []LeftOut{},
-		NotAsked: notAsked(answer), NotTold: notTold(answer), NotCompared: notCompared, Observers: answer.Observers, isByName: answer.IsByName, byNames: answer.ByNames}
+		NotAsked: []NotAsked{}, NotTold: []string{}, NotCompared: notCompared, Observers: answer.Observers, isByName: answer.IsByName, byNames: answer.ByNames}
 	asked := askedOf(answer)
 	for _, device := range answer.Devices {
 		names := asked[device.ID]
 		summary.Devices = append(summary.Devices, Device{device.ID, device.Name, device.Made, device.From, device.Runs, Text(names.Prefix), sliceOf(names), device.Index, device.Newer, device.ToRepair, device.IsUnsigned, names})
+		for _, unasked := range device.Unasked {
+			summary.NotAsked = append(summary.NotAsked, NotAsked{unasked.ID, unasked.Label, device.ID, unasked.InPart})
+		}
+		if device.IsSilent {
+			summary.NotTold = append(summary.NotTold, device.ID)
+		}
 	}
 	named := summary.Called()
-	summary.actions = newActions()
+	summary.actions = &actions{safe: map[string]bool{}, wrong: map[wrongAt]*wrongNames{}, waits: map[string]*waiting{}}
 	names := []*folding{}
 	for _, folder := range answer.Folders {
 		all := &folding{named: named, to: summary.actions, alike: map[string]*Group{}, name: shell.Folder(folder.ID, folder.Label)}

@@ -4,7 +4,6 @@ import (
 	"strings"
 
 	"syncthing-audit/choice"
-	"syncthing-audit/finding"
 	"syncthing-audit/print"
 	"syncthing-audit/shell"
 )
@@ -15,28 +14,6 @@ type NotAsked struct {
 	Label  string `json:"label"`
 	Device string `json:"device"`
 	InPart bool   `json:"in_part"` // whether the device's part has it
-}
-
-// notAsked gives the folders of these devices that weren't asked for.
-func notAsked(answer *finding.Answer) []NotAsked {
-	folders := []NotAsked{}
-	for _, device := range answer.Devices {
-		for _, unasked := range device.Unasked {
-			folders = append(folders, NotAsked{unasked.ID, unasked.Label, device.ID, unasked.InPart})
-		}
-	}
-	return folders
-}
-
-// notTold gives the devices whose parts don't say which folders they haven't.
-func notTold(answer *finding.Answer) []string {
-	devices := []string{}
-	for _, device := range answer.Devices {
-		if device.IsSilent {
-			devices = append(devices, device.ID)
-		}
-	}
-	return devices
 }
 
 // otherNames prints which names weren't audited, where some weren't asked for: all parts have the same.

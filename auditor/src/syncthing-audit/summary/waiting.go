@@ -12,11 +12,9 @@ import (
 
 // waiting counts the names that wait for a scan on a device that sends what a scan finds, in all folders.
 type waiting struct {
-	names   map[string]int64 // by how they wait
-	from    map[string]int64 // how many stand as recorded on other devices
-	nowhere int64
-	sent    int64 // how many wait in all, but for what is new
-	folders []string
+	finding.Waiting                  // but for the devices from which what is recorded can be copied:
+	from            map[string]int64 // by their ids
+	folders         []string
 }
 
 // noteWaiting notes what waits for a scan. A start of Syncthing makes one.
@@ -28,17 +26,16 @@ func (a *actions) noteWaiting(folder *finding.Folder) {
 		}
 		to := a.waits[member.Head.Device]
 		if to == nil {
-			to = &waiting{names: map[string]int64{}, from: map[string]int64{}}
+			to = &waiting{Waiting: finding.Waiting{Names: map[string]int64{}}, from: map[string]int64{}}
 			a.waits[member.Head.Device] = to
 		}
 		for kind, count := range found.Names {
-			to.names[kind] += count
+			to.Names[kind] += count
 		}
 		for other, count := range found.From {
 			to.from[folder.Members[other].Head.Device] += count
 		}
-		to.nowhere += found.Nowhere
-		to.sent += found.Sent()
+		to.Nowhere += found.Nowhere
 		to.folders = append(to.folders, folder.ID)
 	}
 }
@@ -78,8 +75,8 @@ func (w *waiting) sources(named print.Names) string {
 	for _, id := range named.Rising(ids) {
 		words = append(words, thousands(w.from[id])+" on "+named(id))
 	}
-	if w.nowhere > 0 {
-		words = append(words, thousands(w.nowhere)+" on no audited device (look among old versions and backups)")
+	if w.Nowhere > 0 {
+		words = append(words, thousands(w.Nowhere)+" on no audited device (look among old versions and backups)")
 	}
 	if len(words) == 0 {
 		return ""
@@ -93,8 +90,8 @@ func (s *Summary) firstWaiting(device string, named print.Names) []First {
 	if waits == nil {
 		return nil
 	}
-	return []First{{isUnscanned, []string{device}, waits.sent, "first, on " + named(device) + ": before Syncthing starts or scans there, also for an entry below, " +
-		"see which names no scan has seen yet ('in motion in " + strings.Join(waits.folders, "', 'in motion in ") + "' below): " + countsOfWaiting(waits.names) +
+	return []First{{isUnscanned, []string{device}, waits.Sent(), "first, on " + named(device) + ": before Syncthing starts or scans there, also for an entry below, " +
+		"see which names no scan has seen yet ('in motion in " + strings.Join(waits.folders, "', 'in motion in ") + "' below): " + countsOfWaiting(waits.Names) +
 		". A scan may delete on all devices what is missing there, and send to all what stands there. As Syncthing starts, it scans all folders. So copy back first " +
 		"what is to stay as it is recorded, while Syncthing is stopped there." + waits.keep() + waits.sources(named)}}
 }
@@ -102,7 +99,7 @@ func (s *Summary) firstWaiting(device string, named print.Names) []First {
 // keep says of what is to be kept where the record may be the damage: nobody is to copy the recorded bytes over others that were put back.
 func (w *waiting) keep() string {
 	for _, kind := range damage.Kinds {
-		if kind.MayBeOfRecord() && w.names[string(kind)] > 0 {
+		if kind.MayBeOfRecord() && w.Names[string(kind)] > 0 {
 			return " Of what is longer, or isn't the recorded zeros, first keep a copy outside the folder: what was recorded may be the damage."
 		}
 	}
