@@ -16,14 +16,6 @@ type Wanted struct {
 	First  []part.NameError `json:"first_errors,omitempty"`
 }
 
-// wantedOf gives what Syncthing says; nothing where it wasn't asked.
-func wantedOf(rest *part.Rest) *Wanted {
-	if rest == nil || rest.Wanted == nil {
-		return nil
-	}
-	return &Wanted{rest.Wanted.Names, rest.Wanted.Bytes, rest.Wanted.Errors, rest.Wanted.First}
-}
-
 // asked prints what Syncthing itself said of folders where it was asked by --rest, and doesn't stand elsewhere.
 func (p *printer) asked(s *Summary) {
 	for _, folder := range s.Folders {

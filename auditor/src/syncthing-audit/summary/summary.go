@@ -142,8 +142,10 @@ func memberOf(member join.Member) Member {
 		told.Writers, told.Window, told.Near = member.About.Writers, member.About.TimeWindow, member.Near
 		if member.About.Rest != nil {
 			told.Rest = member.About.Rest.State
+			if wanted := member.About.Rest.Wanted; wanted != nil {
+				told.Wanted = &Wanted{wanted.Names, wanted.Bytes, wanted.Errors, wanted.First}
+			}
 		}
-		told.Wanted = wantedOf(member.About.Rest)
 	}
 	if member.Temporary != nil && member.Temporary.Names > 0 {
 		told.Temporary = member.Temporary

@@ -204,19 +204,11 @@ func (f *Fault) dated() (string, *State) {
 // datedByDisk are the causes of which a file on the disk tells the time.
 var datedByDisk = []Cause{Changed, NotScanned, OtherTime, Back, LocalAddition}
 
-// differing says which blocks differ.
-func differing(blocks *Blocks) string {
-	if blocks.Count == 1 {
-		return "block " + ranges(blocks) + " differs"
-	}
-	return "blocks " + ranges(blocks) + " differ"
-}
-
 // mostRanges is how many ranges of blocks a person reads of; how many blocks more differ is said behind them.
 const mostRanges = 8
 
-// ranges gives blocks as numbers.
-func ranges(blocks *Blocks) string {
+// differing says by their numbers which blocks differ.
+func differing(blocks *Blocks) string {
 	words := []string{}
 	told := int64(0)
 	for _, span := range print.AtMost(mostRanges, blocks.Ranges) {
@@ -231,7 +223,10 @@ func ranges(blocks *Blocks) string {
 	if told < blocks.Count {
 		text += " and " + thousands(blocks.Count-told) + " more"
 	}
-	return text
+	if blocks.Count == 1 {
+		return "block " + text + " differs"
+	}
+	return "blocks " + text + " differ"
 }
 
 // modes prints permissions that differ.
