@@ -83,6 +83,11 @@ func TestWorkLines(t *testing.T) {
 			w.Read.Store(100)
 			w.Joined.Store(4096)
 		}, "read 25 % of the parts; joined 4096 names"},
+		{"the first ones", func(w *Work) {
+			w.ToRead = 1
+			w.Joined.Store(1)
+			w.Asked.Store(1)
+		}, "read 0 % of the parts; joined 1 names; syncaudit answered 0 of 1 pieces"},
 		{"documents", func(w *Work) {
 			w.ToRead = 400
 			w.Read.Store(400)

@@ -177,24 +177,24 @@ func TestTimesAndAmounts(t *testing.T) {
 func TestAPaceIsThatOfTheLastMinute(t *testing.T) {
 	known := 0
 	for seed := int64(1); seed <= 300; seed++ {
-		random, made, second, done := rand.New(rand.NewSource(seed)), &pace{}, 0, int64(0)
+		random, pace, second, done := rand.New(rand.NewSource(seed)), &pace{}, 0, int64(0)
 		all := []moment{}
 		for tick := random.Intn(30); tick >= 0; tick-- {
 			all = append(all, moment{time.Unix(int64(second), 0), done})
-			made.add(time.Unix(int64(second), 0), done)
-			second += random.Intn(31)
+			pace.add(time.Unix(int64(second), 0), done)
+			second += random.Intn(31) * (1 + random.Intn(3)*random.Intn(2)) // now and then more than a minute
 			done += int64(random.Intn(3)) * int64(random.Intn(1000))
 		}
 		last := all[len(all)-1]
 		first := all[0]
-		for _, one := range all { // the last one that is at least a minute old
-			if last.at.Sub(one.at) >= windowOfPace && !one.at.Before(first.at) {
-				first = one
+		for _, earlier := range all { // the last one that is at least a minute old
+			if last.at.Sub(earlier.at) >= windowOfPace && !earlier.at.Before(first.at) {
+				first = earlier
 			}
 		}
 		rest := int64(random.Intn(5)) * 100
 		spent, moved := last.at.Sub(first.at), last.done-first.done
-		left, is := made.left(rest)
+		left, is := pace.left(rest)
 		if due := rest > 0 && moved > 0 && spent >= shortestPace; is != due {
 			t.Fatalf("seed %d: known %v: %d bytes in %v", seed, is, moved, spent)
 		}
@@ -220,6 +220,28 @@ func TestAPaceIsThatOfTheLastMinute(t *testing.T) {
 	}
 }
 
+// How much there is in all is told where each place knows it: of one that did more than it said, or said nothing, it isn't known, till it is over.
+func TestTheWholeOfPlaces(t *testing.T) {
+	for number := 0; number < 6*6; number++ {
+		tally, done, whole, isWhole := &Tally{}, int64(0), int64(0), true
+		for _, digit := range []int{number % 6, number / 6} {
+			at, of, isOver := tally.Add("a"), [2]int64{int64(digit % 2), int64(digit % 3)}, digit > 3
+			if tally.Take(at, fmt.Sprintf(LineOfStep, of[0], of[1])); isOver {
+				tally.End(at)
+				of[1] = of[0]
+			}
+			done, whole, isWhole = done+of[0], whole+of[1], isWhole && of[1] >= of[0] && (of[1] > 0 || isOver)
+		}
+		due := "hashed " + amounts(done, whole)
+		if !isWhole {
+			due = "hashed " + amounts(done, 0)
+		}
+		if line := tally.Line(time.Unix(0, 0)); line != due {
+			t.Errorf("%d: %q, not %q", number, line, due)
+		}
+	}
+}
+
 // Of two places that take equally long the first one is told, of one place none; what isn't known of a place isn't known of all.
 func TestTheSlowestOfPlaces(t *testing.T) {
 	const giga = 1000000000
@@ -231,6 +253,7 @@ func TestTheSlowestOfPlaces(t *testing.T) {
 		{[]int64{20 * giga, 20 * giga}, "hashed 2.0 of 40.0 GB, 3 min left on a"},
 		{[]int64{20 * giga, 30 * giga, 30 * giga}, "hashed 3.0 of 80.0 GB, 5 min left on b"},
 		{[]int64{20 * giga, 0}, "hashed 2000 MB, 3 min left on a"},
+		{[]int64{giga / 2, 20 * giga}, "hashed 2000 MB, 3 min left on b"},
 		{[]int64{10*giga - 1}, "hashed 1000 of 10000 MB, 90 s left"},
 		{[]int64{giga + 1}, "hashed 1000 of 1000 MB, 0 s left"},
 	} {
