@@ -43,7 +43,7 @@ func (c Command) on(s *state) {
 // rested takes steps, always the first that changes something, until nothing changes any more.
 func (s *state) rested() *state {
 	state := s.copied()
-	state.draw = func(int) int { return 0 }
+	state.draw = drawFirst
 	for range [mostSteps]struct{}{} {
 		if !state.takesOne(state.actions()) && !state.takesOne(state.rescans()) {
 			break
@@ -52,6 +52,9 @@ func (s *state) rested() *state {
 	state.draw = nil
 	return state
 }
+
+// drawFirst draws the first of what may be drawn.
+func drawFirst(int) int { return 0 }
 
 func (s *state) takesOne(actions []action) bool {
 	before := s.copied()

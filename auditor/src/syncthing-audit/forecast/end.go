@@ -68,7 +68,7 @@ func (s *state) numberedEnd(count int) numbered {
 		end.disks[i] = withoutTwins(end.disks[i])
 	}
 	last := s.copied()
-	last.draw = func(int) int { return 0 }
+	last.draw = drawFirst
 	for i := range s.devices {
 		errors := last.copied().pullOn(i)
 		for n := range s.names {

@@ -19,15 +19,15 @@ type linear struct {
 // fits says whether the pattern fits a name. Of one whose braces aren't closed, which Syncthing's package takes, nobody knows it.
 func (l *linear) fits(name string) bool {
 	l.once.Do(func() {
-		if text, _, err := expression(l.pattern, 0); err == nil {
+		if text, _, err := expression(l.pattern, false); err == nil {
 			l.means, _ = regexp.Compile(`(?s)\A(?:` + text + `)\z`)
 		}
 	})
 	return l.means != nil && l.means.MatchString(name)
 }
 
-// expression translates a pattern up to the end of the braces it stands in, and gives what comes behind that.
-func expression(pattern string, depth int) (text, rest string, err error) {
+// expression translates a pattern, or the rest of one up to the end of the braces it stands in, and gives what comes behind that.
+func expression(pattern string, isInBraces bool) (text, rest string, err error) {
 	for pattern != "" {
 		letter, length := utf8.DecodeRuneInString(pattern)
 		next := pattern[length:]
@@ -50,21 +50,21 @@ func expression(pattern string, depth int) (text, rest string, err error) {
 			}
 			text, next = text+class, behind
 		case letter == '{':
-			inner, behind, err := expression(next, depth+1)
+			inner, behind, err := expression(next, true)
 			if err != nil {
 				return "", "", err
 			}
 			text, next = text+"(?:"+inner+")", behind
-		case letter == '}' && depth > 0:
+		case letter == '}' && isInBraces:
 			return text, next, nil
-		case letter == ',' && depth > 0:
+		case letter == ',' && isInBraces:
 			text += "|"
 		default:
 			text += regexp.QuoteMeta(pattern[:length])
 		}
 		pattern = next
 	}
-	if depth > 0 {
+	if isInBraces {
 		return "", "", errors.New("a brace isn't closed")
 	}
 	return text, "", nil

@@ -171,11 +171,7 @@ func (p *pattern) fits(name string) (is bool) {
 	if p.steps(name) > mostSteps {
 		return p.linear.fits(name)
 	}
-	defer func() {
-		if recover() != nil {
-			is = false
-		}
-	}()
+	defer func() { recover() }()
 	return p.match.Match(name)
 }
 

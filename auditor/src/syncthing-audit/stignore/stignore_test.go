@@ -227,6 +227,19 @@ func TestWhatIsNoPatternIsTold(t *testing.T) {
 	}
 }
 
+// A line counts once, wherever it stands, and so does an '#include'. Comments and empty lines are none.
+func TestALineCountsOnce(t *testing.T) {
+	room := t.TempDir()
+	for name, text := range map[string]string{File: "a\n// b\n\n  a  \n#include more\nc\n#include more\n", "more": "c\nd\na\n#include more\n"} {
+		if err := os.WriteFile(filepath.Join(room, name), []byte(text), 0o600); err != nil {
+			t.Fatal(err)
+		}
+	}
+	if lines, err := Read(room); err != nil || strings.Join(lines, " ") != "a c d" {
+		t.Errorf("%q, %v", lines, err)
+	}
+}
+
 // A folder may be named from where the program was begun; what it includes is in it all the same.
 func TestAFolderThatIsNamedFromHere(t *testing.T) {
 	room := t.TempDir()

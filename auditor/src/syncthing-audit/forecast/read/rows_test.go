@@ -264,7 +264,9 @@ func TestFilterOfMany(t *testing.T) {
 	}
 	for number := 0; number < 3*mostExact; number++ {
 		added := content(number)
-		many.add(&added)
+		if many.add(&added); (many.bits != nil) != (number >= mostExact) {
+			t.Fatalf("%d contents have bits: %v", number+1, many.bits != nil)
+		}
 	}
 	wrong := 0
 	for number := 0; number < 6*mostExact; number++ {
@@ -357,6 +359,27 @@ func TestAHub(t *testing.T) {
 		rows.Take(row)
 		if world := rows.World(); len(world.Names) != 0 {
 			t.Errorf("hub %d: %+v isn't at rest", hub, world.Names)
+		}
+	}
+}
+
+// A name that all who have it ignore, and no index has, is none of the folder's. One that some index has is left out.
+func TestWhatIsOutside(t *testing.T) {
+	for why, row := range map[string]struct {
+		change func(row *join.Row)
+		is     bool
+	}{
+		"ignored by all":      {func(*join.Row) {}, true},
+		"one lacks it":        {func(row *join.Row) { row.At[0] = nil }, true},
+		"one records it":      {func(row *join.Row) { row.At[1].Own = told(nil) }, false},
+		"one has heard of it": {func(row *join.Row) { row.At[1].Views = []part.Seen{{Record: told(nil)}} }, false},
+		"unreadable for one":  {func(row *join.Row) { row.At[1].Out = []part.LeftOut{{Kind: part.Unreadable}} }, false},
+	} {
+		ignored := func() *part.Name { return &part.Name{Name: "a", Out: []part.LeftOut{{Kind: part.Ignored}}} }
+		taken, rows := &join.Row{Name: "a", At: []*part.Name{ignored(), ignored()}}, NewRows(folderOf(2))
+		row.change(taken)
+		if rows.Take(taken); isOutside(taken) != row.is || (rows.Count[LeftOut] == 0) != row.is || len(rows.World().Names) != 0 {
+			t.Errorf("%s: %v", why, rows.Count)
 		}
 	}
 }

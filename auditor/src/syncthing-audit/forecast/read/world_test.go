@@ -111,3 +111,21 @@ func TestBytesThatAreCutInTwoWays(t *testing.T) {
 		}
 	}
 }
+
+// Bytes are the same also where one part says so of two, and another part of one of these and a third, or of the same two in another order.
+func TestBytesThatAreCutInManyWays(t *testing.T) {
+	content := func(hash byte) part.Content { return part.Content{Size: 5, BlockSize: 1 << 18, Hash: part.Hash{hash}} }
+	for place, cuts := range [][2][]part.Content{{{content(1), content(2)}, {content(3), content(2)}}, {{content(1), content(2)}, {content(2), content(1)}}, {{content(1), content(2), content(3)}, {content(3)}}} {
+		parts := partsOf()
+		for at := range parts {
+			parts[at].lines[4].Name.Disk.Contents = cuts[at]
+		}
+		world, err := World(streams(parts), "docs")
+		if err != nil {
+			t.Fatal(err)
+		}
+		if disk := world.Names[0].Disk; disk[0].Content != disk[1].Content {
+			t.Errorf("%d: %+v and %+v", place, disk[0].Content, disk[1].Content)
+		}
+	}
+}
