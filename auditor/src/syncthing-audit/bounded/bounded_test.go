@@ -6,10 +6,13 @@ import (
 	"os"
 	"os/exec"
 	"path/filepath"
+	"runtime/debug"
 	"strings"
 	"syscall"
 	"testing"
 	"time"
+
+	"syncthing-audit/fixture"
 )
 
 // wide are limits that no command here passes by itself.
@@ -17,6 +20,13 @@ var wide = Limits{Output: 1 << 20, Told: 1 << 20, Silence: 20 * time.Second, Who
 
 // What is within the limits is taken as it is, with the status of the end.
 func TestWithinTheLimits(t *testing.T) {
+	defer debug.SetGCPercent(debug.SetGCPercent(-1)) // the collector closes pipes of which nobody knows any more
+	before := fixture.CountOpened(t, fixture.Any)
+	defer func() {
+		if opened := fixture.CountOpened(t, fixture.Any); opened > before {
+			t.Errorf("%d files are open, and %d were", opened, before)
+		}
+	}()
 	var output strings.Builder
 	command := exec.Command("sh", "-c", "cat; echo told >&2; sleep 0.2; printf more; exit 3")
 	command.Stdin = strings.NewReader("read ")

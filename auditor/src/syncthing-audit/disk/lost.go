@@ -12,7 +12,6 @@ import (
 // the name has, so that whatever is due there, the file isn't that.
 func (j *Job) Lose(line *part.Name, err error) {
 	line.Disk.Lost = why(err)
-	line.Disk.Contents = nil
 	for _, size := range j.file.BlockSizes {
 		line.Disk.Contents = append(line.Disk.Contents, part.Content{Size: j.file.Node.Size, BlockSize: size,
 			Hash: sha256.Sum256([]byte("the disk doesn't give " + string(line.Name)))})

@@ -194,12 +194,12 @@ func TestRootBecomesTheOwner(t *testing.T) {
 
 // Groups of a user are its own one, and those that the system knows of it.
 func TestGroups(t *testing.T) {
-	if made := groupsOf(&syscall.Stat_t{Uid: 54321, Gid: 7}); len(made) != 1 || made[0] != 7 {
-		t.Errorf("%v", made)
+	if groups := groupsOf(&syscall.Stat_t{Uid: 54321, Gid: 7}); len(groups) != 1 || groups[0] != 7 {
+		t.Errorf("%v", groups)
 	}
-	made := groupsOf(&syscall.Stat_t{Uid: 0, Gid: 7})
-	if len(made) < 2 || made[0] != 7 || made[1] != 0 {
-		t.Errorf("%v", made)
+	groups := groupsOf(&syscall.Stat_t{Uid: 0, Gid: 7})
+	if len(groups) < 2 || groups[0] != 7 || groups[1] != 0 {
+		t.Errorf("%v", groups)
 	}
 }
 

@@ -65,19 +65,19 @@ func become(owner *syscall.Stat_t) error {
 
 // groupsOf gives the groups of a user, as far as the system knows these.
 func groupsOf(owner *syscall.Stat_t) []int {
-	made := []int{int(owner.Gid)}
+	groups := []int{int(owner.Gid)}
 	known, err := user.LookupId(strconv.Itoa(int(owner.Uid)))
 	if err != nil {
-		return made
+		return groups
 	}
-	groups, err := known.GroupIds()
+	ids, err := known.GroupIds()
 	if err != nil {
-		return made
+		return groups
 	}
-	for _, one := range groups {
-		if number, err := strconv.Atoi(one); err == nil {
-			made = append(made, number)
+	for _, id := range ids {
+		if number, err := strconv.Atoi(id); err == nil {
+			groups = append(groups, number)
 		}
 	}
-	return made
+	return groups
 }
