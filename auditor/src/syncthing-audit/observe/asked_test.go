@@ -113,6 +113,16 @@ func TestADeviceIsAsked(t *testing.T) {
 	if lines["new"] == nil || len(lines["new"].Moved) == 0 || len(lines["good"].Moved) > 0 || lines["walked"].Differ == nil {
 		t.Errorf("%+v, %+v", lines["new"], lines["walked"])
 	}
+	if heard := device.Folders[0].heard; heard.ID != "docs" || len(heard.Devices) != 2 {
+		t.Errorf("%+v was heard", heard)
+	}
+	if err := device.Compare(ctx, again, []*Walked{{Folder: "none", found: walked[1].found}}); err != nil {
+		t.Errorf("a folder that nobody has: %v", err)
+	}
+	hidden := met.dial(t, nil, "pics")
+	if err := device.Compare(ctx, hidden, walked); err != nil {
+		t.Errorf("a folder that isn't shared any more: %v", err)
+	}
 	again.Close()
 	if err := device.Compare(ctx, again, walked); err == nil || !strings.HasPrefix(err.Error(), `folder "docs": `) {
 		t.Errorf("over a connection that has ended: %v", err)

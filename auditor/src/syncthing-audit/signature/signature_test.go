@@ -5,12 +5,14 @@ import (
 	"os"
 	"os/exec"
 	"path/filepath"
+	"runtime/debug"
 	"strings"
 	"syscall"
 	"testing"
 	"time"
 
 	"github.com/syncthing/syncthing/lib/protocol"
+	"syncthing-audit/fixture"
 )
 
 // idOf gives the id of a device.
@@ -130,6 +132,10 @@ func TestWhoSpeaksForADevice(t *testing.T) {
 	if err := checked(t, both, idOf(1), signedBy(t, key, Namespace, "a part")); err != nil {
 		t.Error(err)
 	}
+	err := checked(t, both, idOf(2), signedBy(t, key, Namespace, "a part"))
+	if due := "refused: it isn't known to be by device " + idOf(2) + ", whose part it says it is: ssh-keygen ended with"; err == nil || !strings.HasPrefix(err.Error(), due) {
+		t.Errorf("%v, not %s", err, due)
+	}
 }
 
 // Other bytes than those that were signed are refused, and so is what is no signature.
@@ -166,6 +172,15 @@ func TestForgedParts(t *testing.T) {
 // A list that others may write says nothing, and a key that others may read signs nothing.
 func TestModes(t *testing.T) {
 	key, line := aKey(t, idOf(1))
+	for _, mode := range []os.FileMode{0o600, 0o644, 0o755} {
+		path := written(t, "allowed_signers", line, 0o600)
+		os.Chmod(path, mode)
+		if list, err := OpenSigners(path); err != nil {
+			t.Errorf("%o: %v", mode, err)
+		} else {
+			list.Close()
+		}
+	}
 	for _, mode := range []os.FileMode{0o620, 0o602, 0o666} {
 		path := written(t, "allowed_signers", line, 0o600)
 		os.Chmod(path, mode)
@@ -244,7 +259,9 @@ func TestWhatIsNotCopied(t *testing.T) {
 		t.Fatal(err)
 	}
 	defer file.Close()
-	if _, err := Copied(file, 5); err == nil || !strings.Contains(err.Error(), "more bytes than any part") {
+	before := fixture.CountOpened(t, fixture.Any)
+	defer debug.SetGCPercent(debug.SetGCPercent(-1)) // the collector closes files of which nobody knows any more
+	if _, err := Copied(file, 5); err == nil || fixture.CountOpened(t, fixture.Any) != before || !strings.Contains(err.Error(), "more bytes than any part") {
 		t.Error(err)
 	}
 	from, to, err := os.Pipe()

@@ -54,10 +54,15 @@ func TestAKeyThatCannotBeMade(t *testing.T) {
 	if err := os.Symlink("nothing", link); err != nil {
 		t.Fatal(err)
 	}
+	calls := filepath.Join(t.TempDir(), "calls")
+	useProgram(t, "echo > "+calls+"; exit 1")
 	for _, place := range []string{file, link} {
 		if _, _, err := Open(filepath.Join(place, "below", "key"), idOf(1)); err == nil || strings.Contains(err.Error(), "ssh-keygen") {
 			t.Errorf("a key is made below a file or a link to nothing: %v", err)
 		}
+	}
+	if _, err := os.Lstat(calls); !os.IsNotExist(err) {
+		t.Error("a key is made before there is a place for it")
 	}
 }
 

@@ -216,13 +216,16 @@ func TestBoundsOfARecord(t *testing.T) {
 		}
 		return text
 	}
+	none, errAny := []byte{0xff}, errors.New("any")
 	for why, row := range map[string]struct {
 		text []byte
 		err  error
 	}{"the longest name": {name(9), nil}, "a longer one": {name(10), NameTooLong}, "as many counters": {counters(4096), nil}, "one more": {counters(4097), BadMessage},
+		"a version that is none": {message.AppendText(nil, message.FileVersion, none), errAny}, "a block that is none": {message.AppendText(nil, message.FileBlock, none), errAny},
+		"a counter that is none": {message.AppendText(nil, message.FileVersion, message.AppendText(nil, message.VersionCounter, none)), errAny}, "a record that is none": {none, errAny},
 		"a block": {blocks(1), nil}, "many blocks of nothing": {blocks(1000), BadMessage}} {
 		read, err := entryIn(row.text, 9)
-		if !errors.Is(err, row.err) {
+		if row.err == errAny && err == nil || row.err != errAny && !errors.Is(err, row.err) {
 			t.Errorf("%s: %v", why, err)
 		}
 		if why == "as many counters" && (len(read.Version.Counters) != 4096 || read.Version.Counters[8] != (protocol.Counter{ID: 9, Value: 7})) {
