@@ -67,9 +67,9 @@ func putAsked(history *History, first, count int) error {
 
 // Each write of a history fails in turn: who had something kept is told, and the history opens as it was after some write.
 func TestEachWriteOfAHistoryThatFails(t *testing.T) {
-	const count = 5
+	const count = 3
 	was := mostWaiting
-	mostWaiting = 300
+	mostWaiting = 100
 	t.Cleanup(func() { mostWaiting = was })
 	for what, does := range map[string]func(*History) error{
 		"a part":                    func(h *History) error { return h.Take(longDevice(count, 'a').partOf(1, choice.Names{}), night(2)) },
