@@ -142,6 +142,10 @@ func TestWhatNoDeviceSays(t *testing.T) {
 			t.Errorf("%q is taken: %v", text, err)
 		}
 	}
+	many := fmt.Sprintf(`{"device":%q,"folders":[{"id":"docs","writers":[%s"x"]}]}`, protocol.DeviceID{7: 1}.String(), strings.Repeat(`"x",`, 1000))
+	if _, err := readAbout([]byte(many), "place"); !errors.Is(err, part.ErrNone) || !strings.HasPrefix(err.Error(), part.ErrNone.Error()+": folder ") {
+		t.Errorf("more than any device has: %v", err)
+	}
 }
 
 // A device is asked for those of the wanted folders that it has. One without any is refused, and so is a folder that none has.

@@ -111,11 +111,13 @@ func TestKnownDevicesThatCannotBeKept(t *testing.T) {
 	if err := os.WriteFile(file, nil, 0o600); err != nil {
 		t.Fatal(err)
 	}
-	var log strings.Builder
-	run := &running{places: []*place{{given: "nas:", host: "nas", device: idAt(1)}}, known: &knownDevices{path: filepath.Join(file, "known"), ids: map[string]string{}}, log: &log}
-	run.keepKnown()
-	if !strings.Contains(log.String(), "which can't be kept, so another one there next time won't be seen: ") {
-		t.Error(log.String())
+	for _, path := range []string{filepath.Join(file, "known"), filepath.Dir(file)} {
+		var log strings.Builder
+		run := &running{places: []*place{{given: "nas:", host: "nas", device: idAt(1)}}, known: &knownDevices{path: path, ids: map[string]string{}}, log: &log}
+		run.keepKnown()
+		if !strings.Contains(log.String(), "which can't be kept, so another one there next time won't be seen: ") {
+			t.Error(log.String())
+		}
 	}
 }
 

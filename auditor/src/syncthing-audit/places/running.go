@@ -91,7 +91,7 @@ type running struct {
 
 // file gives where a look at a place is kept.
 func (r *running) file(at int, look string) string {
-	return filepath.Join(r.room, fmt.Sprintf("%s-%d.part", look, at+1))
+	return filepath.Join(r.room, fmt.Sprintf("%s-%d.part", look, at))
 }
 
 // look asks all devices what they share, makes the first look at all of them, and the second one once all of these are over.

@@ -14,6 +14,7 @@ import (
 	"syncthing-audit/device"
 	"syncthing-audit/exit"
 	"syncthing-audit/finding"
+	"syncthing-audit/join"
 	"syncthing-audit/looks"
 	"syncthing-audit/part"
 )
@@ -101,7 +102,7 @@ func TestHowLongItWasStill(t *testing.T) {
 // A place that is left out is told with its device: as it said, or as it is kept, or by the key of a home here.
 func TestPlacesThatAreLeftOut(t *testing.T) {
 	said, kept, home := &place{given: "laptop:", host: "laptop", device: idAt(1)}, &place{given: "nas:b", host: "nas", home: "b"}, &place{given: "/none", home: "/none"}
-	run := &running{places: []*place{said, kept, home, {given: "on:", host: "on"}}, known: &knownDevices{ids: map[string]string{"nas:b": idAt(2), "laptop:": idAt(3), "/none": idAt(4), ":/none": idAt(5)}}, log: io.Discard}
+	run := &running{places: []*place{said, kept, home, {given: "on:", host: "on"}}, known: &knownDevices{ids: map[string]string{"nas:b": idAt(2), "laptop:": idAt(3), "/none": idAt(4), ":/none": idAt(5), "": idAt(6)}}, log: io.Discard}
 	for at := 0; at < 3; at++ {
 		run.leaveOut(at, "first look", fmt.Errorf("why %d", at))
 	}
@@ -133,6 +134,9 @@ func TestStepsOfALook(t *testing.T) {
 		}
 		if err := run.end(1); err != nil {
 			t.Fatal(err)
+		}
+		if about, err := os.Stat(run.file(1, "begin")); err != nil || about.Mode() != 0o600 {
+			t.Errorf("%v, %v", about, err)
 		}
 	}
 	if due := strings.Repeat("syncthing-audit: nas:/srv/home: slow\n", 6); log.String() != due {
@@ -175,7 +179,7 @@ func TestWhatARunTells(t *testing.T) {
 	m.asked.Lines, m.asked.JSON = false, true
 	answer, _, _, err = m.run()
 	var said struct{ Devices []struct{ ID, From string } }
-	if json.Unmarshal([]byte(answer), &said) != nil || err != nil || fmt.Sprint(said.Devices) != fmt.Sprintf("[{%s laptop:} {%s nas:/srv/home}]", idAt(1), idAt(2)) {
+	if json.Unmarshal([]byte(answer), &said) != nil || strings.Contains(answer, "not_signed") || err != nil || fmt.Sprint(said.Devices) != fmt.Sprintf("[{%s laptop:} {%s nas:/srv/home}]", idAt(1), idAt(2)) {
 		t.Errorf("%v: %s", err, answer)
 	}
 	m.asked.JSON = false
@@ -211,5 +215,67 @@ func TestARunWithoutAHome(t *testing.T) {
 	t.Setenv("XDG_STATE_HOME", filepath.Join(m.room, "state"))
 	if answer, _, status, err := m.run(); err == nil || status != 0 || answer != "" || m.read("nas-asked") != "" {
 		t.Errorf("status %d, %v: %s", status, err, answer)
+	}
+}
+
+// Nobody waits for a place that is left out.
+func TestWhoIsLeftOutIsNotAwaited(t *testing.T) {
+	log := &tellings{twice: make(chan bool)}
+	run := &running{places: []*place{{given: "off:"}, {given: "slow:"}}, out: map[int]string{0: "off"}, log: log, patience: 20 * time.Millisecond}
+	if err := run.all("first look", func(at int) error {
+		<-log.twice
+		return nil
+	}); err != nil {
+		t.Fatal(err)
+	}
+	for _, line := range log.lines {
+		if !strings.HasPrefix(line, "syncthing-audit: first look: waiting for slow: for ") {
+			t.Errorf("%q", line)
+		}
+	}
+}
+
+// A place of which each folder's directory is away is left out, and no other one.
+func TestPlacesWhoseFoldersAreAway(t *testing.T) {
+	docs := []part.Folder{{ID: "docs"}}
+	for why, row := range map[string]struct {
+		folders []part.Folder
+		others  []part.Other
+		isOut   bool
+	}{
+		"away": {nil, []part.Other{{ID: "docs", Away: "gone"}}, true}, "one of two": {docs, []part.Other{{ID: "pics", Away: "gone"}}, false}, "none": {nil, nil, false},
+		"not away": {nil, []part.Other{{ID: "docs"}}, false}, "the second one": {nil, []part.Other{{ID: "docs"}, {ID: "pics", Away: "gone"}}, true},
+	} {
+		var log strings.Builder
+		run := &running{places: []*place{{given: "nas:", host: "nas"}}, log: &log}
+		run.leaveOutAway(0, &join.Device{Head: &part.Head{Folders: row.folders, Others: row.others}})
+		if run.isOut(0) != row.isOut || strings.Count(log.String(), "asking what is shared: nas: ") != len(run.out) {
+			t.Errorf("%s: %v, %q", why, run.out, log.String())
+		}
+	}
+}
+
+// The recipe has both looks at each place, and what joins them.
+func TestTheWholeRecipe(t *testing.T) {
+	var output strings.Builder
+	asked := commandline.Options{DryRun: true, Still: 15, HasStill: true, Program: "audit"}
+	if err := tellCommands(&output, []*place{{self: "here", home: "one"}, {self: "here", home: "a b"}}, asked); err != nil {
+		t.Fatal(err)
+	}
+	const due = `# 'run' asks first what each device shares (part --about). With --strict it refuses by that before any file is hashed. Here 'check' does, at the end.
+# The first looks, at once or one after another. Each tells its token on standard error.
+nice -n 19 here part --begin --home one --paths -o - < /dev/null > one.begin 2> one.log
+nice -n 19 here part --begin --home 'a b' --paths -o - < /dev/null > 'a b.begin' 2> 'a b.log'
+# Once all are over: the tokens of all, one on a line.
+grep -hE '^[0-9A-Z-]{63}:[0-9a-f]{32}$' one.log 'a b.log' > tokens
+sleep 15
+# The second looks. A device doesn't know whose looks are asked for, so each goes on without the tokens of others (--leave-out
+# absent). 'check' leaves out a device that is missing, or that another one has no token of.
+here part --end --tokens - --leave-out absent --still 15 --home one --paths -o - < tokens > one.end
+here part --end --tokens - --leave-out absent --still 15 --home 'a b' --paths -o - < tokens > 'a b.end'
+here check --syncaudit audit one.begin 'a b.begin' one.end 'a b.end'
+`
+	if output.String() != due {
+		t.Errorf("%s", output.String())
 	}
 }

@@ -39,8 +39,7 @@ func expression(pattern string, isInBraces bool) (text, rest string, err error) 
 		case letter == '?':
 			text += `[^/]`
 		case letter == '\\' && next != "":
-			_, length = utf8.DecodeRuneInString(next)
-			text, next = text+regexp.QuoteMeta(next[:length]), next[length:]
+			text, next = text+regexp.QuoteMeta(next[:1]), next[1:] // what is left of a longer letter comes as it is
 		case letter == '\\':
 			return "", "", errors.New("it ends with a backslash")
 		case letter == '[':
