@@ -1,6 +1,7 @@
 package observe
 
 import (
+	"bytes"
 	"context"
 	"errors"
 	"fmt"
@@ -97,6 +98,30 @@ func TestASecondLookThatFails(t *testing.T) {
 	again.Close()
 	if err := device.End(context.Background(), again); !errors.Is(err, wire.Closed) || !strings.HasPrefix(err.Error(), `folder "docs": `) || len(device.Folders) != 2 {
 		t.Errorf("%v, %d folders", err, len(device.Folders))
+	}
+}
+
+// What can't be had of an index or a directory any more is told: where a part is written, and where a second look begins.
+func TestWhatIsGoneByThen(t *testing.T) {
+	device := folders(t, "docs")
+	device.Folders[0].since = device.Folders[0].index
+	if err := device.Write(&bytes.Buffer{}, Asked{}, protocol.DeviceID{5}, "look", []*Device{device}); err != nil {
+		t.Fatal(err)
+	}
+	index, err := device.Since(t.TempDir(), "docs")
+	if err != nil {
+		t.Fatal(err)
+	}
+	index.Close()
+	if err := os.RemoveAll(device.room); err != nil {
+		t.Fatal(err)
+	}
+	if index, err := device.Since(t.TempDir(), "docs"); err == nil || index != nil {
+		t.Errorf("%v", err)
+	}
+	device.Folders[0].index.Close()
+	if err := device.Write(&bytes.Buffer{}, Asked{}, protocol.DeviceID{5}, "look", []*Device{device}); err == nil {
+		t.Error("a part of an index that is closed is written")
 	}
 }
 

@@ -97,7 +97,6 @@ func (k *Kept) Close() {
 			index.Close()
 		}
 	}
-	k.last, k.next = nil, nil
 	os.RemoveAll(k.path(nameOfNext))
 	k.lock.Close()
 }
@@ -110,7 +109,6 @@ func (k *Kept) Finish() error {
 			return err
 		}
 	}
-	k.last, k.next = nil, nil
 	if err := os.Rename(k.path(nameOfLast), k.path(nameOfOlder)); err != nil {
 		return err
 	}
@@ -144,8 +142,8 @@ func (k *Kept) compare(entry device.Entry) error {
 	if entry.Record == nil || entry.Record.Sequence > k.last.Highest {
 		return nil
 	}
-	before, is, err := k.last.Get(entry.Name)
-	if err == nil && (!is || before.Record == nil || !reflect.DeepEqual(before.Record, entry.Record)) {
+	before, _, err := k.last.Get(entry.Name)
+	if err == nil && !reflect.DeepEqual(before.Record, entry.Record) {
 		err = errGivenAnew
 	}
 	return err

@@ -86,7 +86,7 @@ func versionOf(counters []string, devices map[string]uint64) part.Version {
 // withLocal gives a record with the version that its device's own index has, where that is known.
 func (f *Folder) withLocal(entry device.Entry) *part.Record {
 	version, is := f.locals[entry.Name]
-	if !is || entry.Record == nil {
+	if !is { // of a name that has no record there is none
 		return entry.Record
 	}
 	record := *entry.Record
