@@ -18,6 +18,11 @@ import (
 	"syncthing-audit/wire"
 )
 
+// full takes nothing.
+type full struct{}
+
+func (full) Write([]byte) (int, error) { return 0, errors.New("no room") }
+
 // A device is asked for all of its names and what stands there, and then for what came since: nothing. What it can't be asked for is told without bytes.
 func TestADeviceIsAskedOverTheWire(t *testing.T) {
 	directory := filepath.Join(t.TempDir(), "observer")
@@ -33,6 +38,9 @@ func TestADeviceIsAskedOverTheWire(t *testing.T) {
 	observer, err := protocol.DeviceIDFromString(told)
 	if err != nil {
 		t.Fatal(err)
+	}
+	if err := run([]string{directory}, full{}); err == nil {
+		t.Error("an id is told where nothing can be")
 	}
 	if again, err := call(); err != nil || again != told {
 		t.Errorf("%s, not %s: %v", again, told, err)
@@ -110,6 +118,10 @@ func TestADeviceIsAskedOverTheWire(t *testing.T) {
 	})
 	if told, err := call("docs", device.ID.String(), device.Address); err == nil || told != "" {
 		t.Errorf("a second index that isn't whole: %s", told)
+	}
+	device.Change(func(state *stranger.State) { state.Ahead, state.Ends = 0, nil })
+	if _, err := call("docs", device.ID.String(), device.Address); err != nil {
+		t.Error(err)
 	}
 	for tries := 0; fixture.CountOpened(t, fixture.Any) > before; tries++ {
 		if tries == 2000 {
