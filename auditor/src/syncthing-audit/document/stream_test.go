@@ -187,6 +187,30 @@ func TestStreamsEqualADirectReading(t *testing.T) {
 	}
 }
 
+// What two members have on their disks stands once where a document says the same of it, however the files were cut; and twice where it doesn't.
+func TestNodesThatAreAlike(t *testing.T) {
+	content := func(hash byte, blockSize int64) []part.Content {
+		return []part.Content{{Size: 5, BlockSize: blockSize, Hash: [32]byte{hash}}}
+	}
+	nodes := []part.Node{{ModifiedS: 5}, {ModifiedS: 5, Contents: content(1, 1<<17)}, {ModifiedS: 5, Contents: content(1, 1<<18)}, {ModifiedS: 5, Contents: content(2, 1<<17)},
+		{ModifiedS: 6, Contents: content(1, 1<<17)}, {Type: 1, ModifiedS: 5}, {Type: 4, ModifiedS: 5, Target: "x"}, {Type: 4, ModifiedS: 5, Target: "y"}}
+	for first := range nodes {
+		for second := range nodes {
+			one, other := nodes[first], nodes[second]
+			row := rowOf("a", 1, 5)
+			row.At = append(row.At, nil) // of the third one
+			row.At[0].Disk, row.At[1].Disk = &one, &other
+			made, out := streamed(threeDevices(), []*join.Row{row})
+			if len(made) != 1 || out != nil {
+				t.Fatalf("%d and %d: %+v, without %v", first, second, made, out)
+			}
+			if is, due := expanded(t, made[0].Written), directDocument(threeDevices(), []*join.Row{row}, false); !reflect.DeepEqual(is, due) {
+				t.Errorf("%d and %d: %s is\n%v, not\n%v", first, second, made[0].Written, is, due)
+			}
+		}
+	}
+}
+
 // longRow gives a name whose line has about so many bytes, in targets of two views.
 func longRow(name string, sequence int64, bytes int) *join.Row {
 	row := rowOf(name, sequence, 5)
