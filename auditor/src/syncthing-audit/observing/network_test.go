@@ -112,8 +112,10 @@ func TestADeviceThatMoved(t *testing.T) {
 	defer func(had int) { portOfAnnouncements = had }(portOfAnnouncements)
 	portOfAnnouncements = freePort(t)
 	until := make(chan struct{})
-	go announce(t, portOfAnnouncements, device.ID, device.Address, until)
+	go announce(t, portOfAnnouncements, device.ID, "127.0.0.1:1", until, device.Address) // at the first one nobody is
 	given := here.asked.Parts[0]
+	here.asked.Parts = []string{device.ID.String() + "@tcp://127.0.0.1:1"}
+	here.expect("said to be where nobody is", exit.Refused, "not connected: "+string(wire.Unreached), "connection refused")
 	here.asked.Parts = []string{device.ID.String()}
 	here.expect("announced", exit.Partial, inStep)
 	heard, err := net.ListenPacket("udp4", fmt.Sprint(":", portOfAnnouncements))

@@ -150,6 +150,7 @@ func TestDevicesAreAsked(t *testing.T) {
 func TestDevicesThatCannotBeLookedAt(t *testing.T) {
 	hurry(t)
 	here := newWorld(t, 3, map[string]string{"a": "text"})
+	sockets := countSockets(t)
 	here.asked.Strict = true
 	only := func(count int) func(int) bool { return func(connection int) bool { return connection <= count } }
 	close := func(which func(connection int) bool) {
@@ -165,10 +166,27 @@ func TestDevicesThatCannotBeLookedAt(t *testing.T) {
 	here.expect("not shared", exit.Partial, here.asked.Parts[2]+": not connected: "+string(wire.NotShared))
 	here.devices[2].Change(func(state *stranger.State) { state.Hidden, state.Sealed["docs"] = map[string]bool{}, true })
 	here.expect("encrypted there", exit.Partial, here.asked.Parts[2]+": first look: folder \"docs\": "+string(wire.EncryptedFolder))
+	awaitSockets(t, sockets)
 	here.asked.Parts = here.asked.Parts[2:]
 	here.expect("none else", exit.Refused, "no device could be looked at")
 	close(func(int) bool { return true })
 	here.expect("none at all", exit.Refused, "no device could be looked at")
+}
+
+// countSockets says how many sockets this process has.
+func countSockets(t *testing.T) int {
+	return fixture.CountOpened(t, func(path string) bool { return strings.HasPrefix(path, "socket:") })
+}
+
+// awaitSockets waits until no more than so many are open: each end of a connection closes its own.
+func awaitSockets(t *testing.T, most int) {
+	t.Helper()
+	for tries := 0; countSockets(t) > most; tries++ {
+		if tries == 2000 {
+			t.Fatalf("%d sockets are open, and %d were before", countSockets(t), most)
+		}
+		time.Sleep(10 * time.Millisecond)
+	}
 }
 
 // hurry has a test wait for little time where a run waits for devices.

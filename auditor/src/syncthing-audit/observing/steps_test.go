@@ -33,6 +33,13 @@ func TestFilesOfARunThatFail(t *testing.T) {
 			w.asked.Into = filepath.Join(filepath.Dir(w.asked.Homes[0]), "into")
 			return os.MkdirAll(filepath.Join(w.asked.Into, w.devices[0].ID.String()[:7]+".part"), 0o700)
 		}, words: []string{"is a directory: name a file"}},
+		"a full device for a part": {before: func(w *world) error {
+			w.asked.Into = filepath.Join(filepath.Dir(w.asked.Homes[0]), "into")
+			if err := os.Mkdir(w.asked.Into, 0o700); err != nil {
+				return err
+			}
+			return os.Symlink("/dev/full", filepath.Join(w.asked.Into, w.devices[0].ID.String()[:7]+".part"))
+		}, words: []string{"no space left on device"}},
 		"no place for addresses": {between: func(w *world) { _ = os.Mkdir(w.asked.Homes[0]+"/addresses.json", 0o700) }, words: []string{"addresses.json"}, isTold: true},
 		"no place for indexes":   {between: func(w *world) { _ = os.RemoveAll(w.asked.Homes[0] + "/indexes") }, words: []string{"no such file"}, isTold: true},
 		"no place for files":     {before: func(w *world) error { t.Setenv("TMPDIR", "/nowhere"); return nil }, words: []string{"/nowhere"}},

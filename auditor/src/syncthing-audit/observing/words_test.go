@@ -141,3 +141,20 @@ func TestTheCommandOfAWalk(t *testing.T) {
 		}
 	}
 }
+
+// What is kept of a folder at a device stands where earlier runs had it, and apart from what is kept of others.
+func TestWhereIndexesAreKept(t *testing.T) {
+	places := map[string]bool{}
+	for _, folder := range []string{"docs", "pics"} {
+		for _, id := range []protocol.DeviceID{{1}, {2}} {
+			place := directoryOfKept("/home", folder, id)
+			if !strings.HasPrefix(place, "/home/indexes/") || len(filepath.Base(place)) != 32 {
+				t.Errorf("%s", place)
+			}
+			places[place] = true
+		}
+	}
+	if len(places) != 4 {
+		t.Errorf("%v", places)
+	}
+}
