@@ -22,16 +22,16 @@ func (i *Index) checkCount(of protocol.DeviceID, names choice.Names, given int64
 func (i *Index) countOf(of protocol.DeviceID, names choice.Names) (count int64, err error) {
 	folder, err := i.numberOf(db.KeyTypeFolderIdx, i.Config.ID)
 	if err != nil || folder == "" {
-		return 0, err
+		return count, err
 	}
 	device, err := i.numberOf(db.KeyTypeDeviceIdx, string(of[:]))
 	if err != nil || device == "" {
-		return 0, err
+		return count, err
 	}
 	prefix := string([]byte{db.KeyTypeDevice}) + folder + device
 	entries, err := i.home.backend.NewPrefixIterator([]byte(prefix))
 	if err != nil {
-		return 0, err
+		return count, err
 	}
 	defer entries.Release()
 	for entries.Next() {

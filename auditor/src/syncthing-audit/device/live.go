@@ -93,7 +93,7 @@ func checkSequences(opened *leveldb.DB) error {
 // greatestSequence gives what an index says is the greatest sequence of a folder's own entries; 0 without any.
 func greatestSequence(opened *leveldb.DB, folder []byte) (int64, error) {
 	text, err := opened.Get(append([]byte{db.KeyTypeFolderMeta}, folder...), nil)
-	if errors.Is(err, leveldb.ErrNotFound) {
+	if err == leveldb.ErrNotFound {
 		return 0, nil
 	}
 	if err != nil {

@@ -20,10 +20,7 @@ func (h *Home) noteNewer() error {
 	if err != nil {
 		return err
 	}
-	read, err := os.Stat(h.database())
-	if err != nil {
-		return err
-	}
+	read, _ := os.Stat(h.database()) // where it is gone by now it is none of the others
 	last := own.Add(mostCoarse)
 	for _, dir := range h.placesOfIndexes() {
 		for _, name := range []string{databaseName, indexOfTwo} {
