@@ -56,6 +56,10 @@ func TestWhatIsAskedForAfterAWalk(t *testing.T) {
 	if len(all.found) != mostDiffering {
 		t.Errorf("%d files", len(all.found))
 	}
+	folder.index.Close()
+	if err := walked.Walk(folder, found("rot", func(*part.Name) {})); err == nil {
+		t.Error("a file is looked up in an index that is closed")
+	}
 	large, names := &Walked{Folder: "docs"}, []string{"half", "other half", "small"}
 	sizes := map[string]int64{"half": mostBytesOfDiffering / 2, "other half": mostBytesOfDiffering / 2, "small": 1}
 	folder = seenIn(t, "docs", map[string][]byte{"half": cutFile("half", 1, sizes["half"], 16<<20), "other half": cutFile("other half", 2, sizes["other half"], 16<<20), "small": cutFile("small", 3, 1, protocol.MinBlockSize)})

@@ -91,8 +91,8 @@ func (f *Folder) read(ctx context.Context, shared *wire.Shared, asked Asked, rea
 		return nil
 	}
 	return shared.Bytes(ctx, f.index, asked.wants(f.ID()), func(entry device.Entry, found wire.Found) error {
-		f.bytes += found.Size - found.Unread
-		read(found.Size - found.Unread)
+		f.bytes += found.Read()
+		read(found.Read())
 		return f.disks.put(entry.Name, diskOf(f.of, entry.Name, found))
 	})
 }

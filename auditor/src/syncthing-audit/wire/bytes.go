@@ -40,6 +40,9 @@ type Found struct {
 	Sealed    bool // it is encrypted there: behind the recorded end nothing is seen, and other bytes aren't those of any file
 }
 
+// Read gives how many of a file's bytes were read.
+func (f *Found) Read() int64 { return f.Size - f.Unread }
+
 // Bytes asks a device for the bytes of all recorded files that are wanted, and calls take with what is found of each, in the order of names. Where a
 // record has no file, or isn't one that a document has, it asks whether there is one. Names that no document has aren't asked for.
 func (s *Shared) Bytes(ctx context.Context, index *Index, isWanted func(device.Entry) (bool, error), take func(entry device.Entry, found Found) error) error {

@@ -32,6 +32,15 @@ func TestAnIndexUpToItsLimits(t *testing.T) {
 	}
 }
 
+// What isn't read of a file isn't counted as read.
+func TestHowMuchIsRead(t *testing.T) {
+	for _, found := range []Found{{}, {Size: 5}, {Size: 5, Unread: 2}, {Size: 5, Unread: 5}} {
+		if read := found.Read(); read+found.Unread != found.Size {
+			t.Errorf("%+v: %d bytes", found, read)
+		}
+	}
+}
+
 // Nothing of a look goes on once it has ended, whether who takes what is found ended it or the device did; nor of a connection.
 func TestNothingGoesOnBehindALook(t *testing.T) {
 	before := runtime.NumGoroutine()
