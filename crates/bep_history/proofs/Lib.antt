@@ -1,0 +1,4 @@
+mod Filtered
+mod EachSeat
+mod Moves
+mod PartsFit

@@ -1,0 +1,20 @@
+-- What the parts of one history are together; the functions of src/ have these as contracts (this project's profile).
+use Rattle.std.specs.Prelude.{ℕ, List, Contains}
+use Rattle.bep_fit.specs.declared.object.Object.{Object}
+use Rattle.bep_fit.specs.declared.stamped.Stamped.{Stamped}
+use Rattle.bep_fit.specs.Fit.{AreOfOneRound, Fits}
+use Rattle.bep_fit.specs.Logs.{HasLog, ObjectLog}
+use Rattle.bep_fit.specs.Merge as lists
+use Rattle.bep_history.specs.declared.view.View.{View}
+use Rattle.bep_history.specs.View.{IsTold, row}
+
+-- in each log the tickets rise
+abbrev pub AllRise : List ObjectLog → Type 0
+AllRise logs = (log : ObjectLog) → Contains logs log → lists.Rises (λ (one : Stamped). one.ticket) log.events
+
+-- Logs of one round that have the rows of what was told, one for each object at least, fit.
+abbrev pub PartsFit : Type 0
+PartsFit = (objects : List Object) (old : View) (logs : List ObjectLog) →
+    IsTold objects old → ((log : ObjectLog) → Contains logs log → Contains old.rows (row log.object log.events)) →
+    ((object : Object) → Contains objects object → HasLog logs object) → AllRise logs → AreOfOneRound logs →
+    (count : ℕ) × Fits logs count

@@ -1,0 +1,4 @@
+pub mod Parts
+pub mod View
+pub mod Laws
+pub mod inner

@@ -1,0 +1,2 @@
+-- What only private contracts say: no public contract rests on it.
+pub mod Rule

@@ -1,0 +1,17 @@
+//! One history of a running cluster's events: a counter of tickets, and seats that know its parts.
+//!
+//! The history exists in contracts alone. A seat owns some objects, and knows of each which events of the history touch it.
+//! It can draw a ticket, add an event under it to all objects that the event touches, and be split and joined: whose seat
+//! knows all objects knows that their parts are of one history, and so that their logs fit.
+#![tactic(auto)]
+
+mod history;
+mod laws;
+mod plays;
+mod seats;
+mod view;
+
+pub use history::{History, Place};
+pub use laws::parts_fit;
+pub use plays::{Law, Named};
+pub use view::{Row, View};
