@@ -55,6 +55,7 @@ func TestADamagedIndexThatIsKept(t *testing.T) {
 				if kept.Damage() != nil {
 					damaged++
 				}
+				_, err = kept.WentBackFrom()
 				kept.Close()
 			}
 			ended <- err

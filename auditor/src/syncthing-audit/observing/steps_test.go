@@ -124,6 +124,9 @@ func TestStepsThatAreTold(t *testing.T) {
 	if err := meeting.look(); err != nil {
 		t.Fatal(err)
 	}
+	if bytes := meeting.toRead(); bytes != 4 {
+		t.Errorf("%d bytes are to be read", bytes)
+	}
 	if told := progress.String(); told != "syncthing-audit: scanning folder docs\nsyncthing-audit: connecting to 1 device\nsyncthing-audit: first look\n" {
 		t.Errorf("%q", told)
 	}
