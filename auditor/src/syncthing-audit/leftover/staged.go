@@ -90,11 +90,14 @@ func Sync(path string) error {
 	return nil
 }
 
+// renaming gives a file another name; in tests a file system doesn't know it.
+var renaming = unix.Renameat2
+
 // moveNew moves a file to a path at which nothing is.
 func moveNew(from, to string) error {
-	err := unix.Renameat2(unix.AT_FDCWD, from, unix.AT_FDCWD, to, unix.RENAME_NOREPLACE)
-	if errors.Is(err, syscall.EINVAL) || errors.Is(err, syscall.ENOSYS) { // a file system may not know this
-		if err := os.Link(from, to); err == nil || errors.Is(err, os.ErrExist) {
+	err := renaming(unix.AT_FDCWD, from, unix.AT_FDCWD, to, unix.RENAME_NOREPLACE)
+	if err == syscall.EINVAL || err == syscall.ENOSYS { // a file system may not know this
+		if err := os.Link(from, to); err == nil || os.IsExist(err) {
 			return err
 		}
 		return os.Rename(from, to)

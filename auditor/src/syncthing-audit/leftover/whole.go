@@ -12,7 +12,7 @@ import (
 
 // Unnamed makes a file in that place for this run alone. It has no name, so it is gone with the program, however that ends.
 func Unnamed() (*os.File, error) {
-	if file := withoutName(Place()); file != nil {
+	if file := nameless(Place()); file != nil {
 		return file, nil
 	}
 	mutex.Lock()
@@ -23,6 +23,9 @@ func Unnamed() (*os.File, error) {
 	}
 	return file, err
 }
+
+// nameless is withoutName; in tests a file system has no such files.
+var nameless = withoutName
 
 // withoutName makes a file without a name; nothing where a file system has none such, or where it couldn't get one later.
 func withoutName(directory string) *os.File {
@@ -50,7 +53,7 @@ type Whole struct {
 // NewWhole makes such a file in a directory, and takes away what killed runs left there.
 func NewWhole(directory string) (*Whole, error) {
 	sweep(directory, prefixOfFile)
-	if file := withoutName(directory); file != nil {
+	if file := nameless(directory); file != nil {
 		return &Whole{File: file}, nil
 	}
 	mutex.Lock()
