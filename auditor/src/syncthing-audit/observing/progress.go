@@ -1,7 +1,7 @@
 package observing
 
 import (
-	"sync"
+	"sync/atomic"
 
 	"syncthing-audit/terminal"
 )
@@ -14,18 +14,13 @@ func (o *observing) startProgress() func() {
 	return terminal.Start(o.log, (&terminal.Work{Verb: "read", Hashed: o.read.Load, ToHash: o.toRead()}).Line)
 }
 
-// toRead gives how many bytes are asked for; 0 where an index doesn't tell that.
+// toRead gives how many bytes are asked for. A device whose index can't be read gives none of them.
 func (o *observing) toRead() int64 {
-	sum, isKnown, mutex := int64(0), true, sync.Mutex{}
+	var sum atomic.Int64
 	o.each("first look", func(at int) error {
-		bytes, err := o.devices[at].Wanted(o.wants(at))
-		mutex.Lock()
-		defer mutex.Unlock()
-		sum, isKnown = sum+bytes, isKnown && err == nil
+		bytes, _ := o.devices[at].Wanted(o.wants(at))
+		sum.Add(bytes)
 		return nil
 	})
-	if !isKnown {
-		return 0
-	}
-	return sum
+	return sum.Load()
 }
