@@ -7,6 +7,7 @@ import (
 	"time"
 
 	"syncthing-audit/finding"
+	"syncthing-audit/join"
 	"syncthing-audit/part"
 )
 
@@ -132,5 +133,22 @@ func TestAnIndexThatIsToBeRepaired(t *testing.T) {
 	written, err := json.Marshal(Of(answer).Devices)
 	if err != nil || strings.Count(string(written), `"index_to_repair":true`) != 1 || strings.Contains(string(written), `"index":`) {
 		t.Errorf("%s, %v", written, err)
+	}
+}
+
+// An observer is told by its name and the beginning of its id, however short that is; without a name by the id alone.
+func TestObserversAreNamed(t *testing.T) {
+	for _, row := range []struct {
+		observer join.Observer
+		told     string
+	}{
+		{join.Observer{Folder: "docs", Device: phone, Name: "ph\x1bone"}, "ph?one (PHONEAA)"}, {join.Observer{Folder: "docs", Device: phone}, phone},
+		{join.Observer{Folder: "docs", Device: "X", Name: "eye"}, "eye (X)"}, {join.Observer{Folder: "docs", Name: "eye"}, "eye ()"},
+	} {
+		answer := answerOf(2, func(*finding.Folder) {})
+		answer.Observers = []join.Observer{row.observer}
+		if text := printed(answer); !strings.Contains(text, "not asked: "+row.told+", an observer: it shares docs, keeps no files of it, and sends no records") {
+			t.Errorf("%s: %s", row.told, text)
+		}
 	}
 }

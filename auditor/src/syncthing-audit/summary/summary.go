@@ -230,8 +230,8 @@ func Of(answer *finding.Answer) *Summary {
 	return summary
 }
 
-// lengthOfShort is how much of an id tells devices of one name apart.
-const lengthOfShort = 7
+// shortOf gives as much of an id as tells devices of one name apart.
+func shortOf(id string) string { return string(print.AtMost(7, []byte(id))) }
 
 // Called gives each device's name for a person: the configured one, with the id's beginning where two have the same.
 func (s *Summary) Called() print.Names {
@@ -240,15 +240,11 @@ func (s *Summary) Called() print.Names {
 		count[device.Name]++
 	}
 	for _, device := range s.Devices {
-		short := device.ID
-		if len(short) > lengthOfShort {
-			short = short[:lengthOfShort]
-		}
 		named[device.ID] = shell.Printable(device.Name)
 		if device.Name == "" {
-			named[device.ID] = short
+			named[device.ID] = shortOf(device.ID)
 		} else if count[device.Name] > 1 {
-			named[device.ID] += " (" + short + ")"
+			named[device.ID] += " (" + shortOf(device.ID) + ")"
 		}
 	}
 	return func(id string) string {

@@ -100,7 +100,7 @@ func nameOfObserver(observer join.Observer) string {
 	if observer.Name == "" {
 		return observer.Device
 	}
-	return shell.Printable(observer.Name) + " (" + observer.Device[:lengthOfShort] + ")"
+	return shell.Printable(observer.Name) + " (" + shortOf(observer.Device) + ")"
 }
 
 // wentBack prints which devices' indexes went back since an earlier look over the wire.
