@@ -7,7 +7,7 @@ import (
 
 // Devices that keep a name otherwise than the others are told with the reason.
 func TestWhyDevicesKeepNames(t *testing.T) {
-	for _, one := range []struct {
+	for _, row := range []struct {
 		why    Why
 		change func(devices []Device, name Name)
 	}{
@@ -22,10 +22,10 @@ func TestWhyDevicesKeepNames(t *testing.T) {
 		}},
 	} {
 		devices, name := three(), inStep("a.txt", "old", 3, 5)
-		one.change(devices, name)
+		row.change(devices, name)
 		for _, end := range New(Usual).OfGroup(devices, []Name{name}).Ends {
-			if !reflect.DeepEqual(end.Apart, []Stuck{{1, "a.txt", one.why}}) {
-				t.Errorf("%s: %+v", one.why, end.Apart)
+			if !reflect.DeepEqual(end.Apart, []Stuck{{1, "a.txt", row.why}}) {
+				t.Errorf("%s: %+v", row.why, end.Apart)
 			}
 		}
 	}
@@ -37,15 +37,15 @@ func TestWhyDevicesKeepNames(t *testing.T) {
 // Once a budget is spent nothing more is foretold, but of names that are like others.
 func TestASpentBudget(t *testing.T) {
 	forecaster := New(Budget{States: 100, Walks: 2, Total: 1000, Most: 1})
-	for _, one := range []struct {
+	for _, row := range []struct {
 		name   string
 		text   string
 		time   int64
 		isOver bool
 	}{{"a", "new", 70, false}, {"b", "new", 70, false}, {"c", "old", 70, true}} {
-		answer := forecaster.OfGroup(three(), []Name{inStep(one.name, "old", 3, 5).changed(0, one.text, one.time)})
-		if answer.IsOver != one.isOver || (len(answer.Ends) == 0) != one.isOver {
-			t.Errorf("%s: %+v", one.name, answer)
+		answer := forecaster.OfGroup(three(), []Name{inStep(row.name, "old", 3, 5).changed(0, row.text, row.time)})
+		if answer.IsOver != row.isOver || (len(answer.Ends) == 0) != row.isOver {
+			t.Errorf("%s: %+v", row.name, answer)
 		}
 	}
 }

@@ -122,15 +122,15 @@ func TestVersionsBelowOthers(t *testing.T) {
 // Of many names, or on many devices, fewer states and walks are tried, in step with what each costs; never fewer than five walks.
 func TestTheBudgetOfManyNames(t *testing.T) {
 	budget := Budget{States: 1800, Walks: 100, Total: 7, Most: 8}
-	for _, one := range []struct {
+	for _, row := range []struct {
 		names, devices int
 		due            Budget
 	}{
 		{1, 1, budget}, {16, 6, budget}, {32, 6, Budget{900, 50, 7, 8}}, {17, 2, Budget{1694, 94, 7, 8}}, {1, 12, Budget{450, 25, 7, 8}}, {32, 12, Budget{225, 12, 7, 8}},
 		{1600, 6, Budget{18, 5, 7, 8}}, {320, 6, Budget{90, 5, 7, 8}}, {256, 6, Budget{112, 6, 7, 8}}, {1, 7, Budget{1322, 73, 7, 8}},
 	} {
-		if made := budget.of(one.names, one.devices); made != one.due {
-			t.Errorf("%d names on %d: %+v, not %+v", one.names, one.devices, made, one.due)
+		if found := budget.of(row.names, row.devices); found != row.due {
+			t.Errorf("%d names on %d: %+v, not %+v", row.names, row.devices, found, row.due)
 		}
 	}
 	if few := (Budget{States: 10, Walks: 2}); few.of(16, 6) != few || few.of(17, 6).Walks != 5 {
@@ -188,8 +188,8 @@ func TestAllOrdersOfFew(t *testing.T) {
 				t.Errorf("%v", order)
 			}
 			sum := 0
-			for place, one := range order {
-				if sum += one; place >= 4 && one != places[place] {
+			for place, moved := range order {
+				if sum += moved; place >= 4 && moved != places[place] {
 					t.Errorf("%v: the last ones moved", order)
 				}
 			}

@@ -14,20 +14,20 @@ func three() []Device {
 
 // inStep gives a file that all have.
 func inStep(name, text string, count int, time int64) Name {
-	made := Name{Name: name}
+	file := Name{Name: name}
 	content := Content{int64(len(text)), text}
 	for i := 0; i < count; i++ {
 		entry := &Record{Type: File, Version: []Counter{{10, uint64(time)}}, Time: time, Content: content, Mode: 0o644}
-		made.Own = append(made.Own, entry)
-		made.Views = append(made.Views, make([]*Record, count))
+		file.Own = append(file.Own, entry)
+		file.Views = append(file.Views, make([]*Record, count))
 		for j := 0; j < count; j++ {
 			if j != i {
-				made.Views[i][j] = entry
+				file.Views[i][j] = entry
 			}
 		}
-		made.Disk = append(made.Disk, &Node{File, time, content, "", 0o644})
+		file.Disk = append(file.Disk, &Node{File, time, content, "", 0o644})
 	}
-	return made
+	return file
 }
 
 // changed changes a file on a disk.
@@ -124,11 +124,11 @@ func TestTheWholeBudget(t *testing.T) {
 	forecaster := New(Budget{States: 4000, Walks: 10, Total: 300})
 	later := inStep("b", "old", 3, 5).changed(0, "of 0", 60).changed(1, "of 1", 70)
 	earlier := inStep("a", "old", 3, 5).changed(0, "of 0", 70).changed(1, "of 1", 60)
-	one := inStep("c", "old", 3, 5).changed(0, "of 0", 70)
+	single := inStep("c", "old", 3, 5).changed(0, "of 0", 70)
 	for place, due := range []struct {
 		name  Name
 		isAll bool
-	}{{earlier, true}, {later, false}, {earlier, true}, {one, true}} {
+	}{{earlier, true}, {later, false}, {earlier, true}, {single, true}} {
 		answer := forecaster.OfGroup(three(), []Name{due.name})
 		if answer.IsAll != due.isAll || (answer.Orders == 0) != due.isAll || len(answer.Ends) != 1 || answer.States < 10 {
 			t.Errorf("%d: %+v", place, answer)

@@ -87,7 +87,7 @@ func TestWhatAPullNotes(t *testing.T) {
 	if !reflect.DeepEqual(p.errors, map[int]Why{1: NotEmpty}) {
 		t.Errorf("%v", p.errors)
 	}
-	for place, one := range []struct {
+	for place, row := range []struct {
 		queue []int
 		held  []int // names whose bytes something to be deleted has
 		due   map[int]bool
@@ -97,11 +97,11 @@ func TestWhatAPullNotes(t *testing.T) {
 	} {
 		p := s.newPull(1)
 		p.old, _ = p.old.withList(1)
-		for _, n := range one.held {
+		for _, n := range row.held {
 			p.buckets[p.wanted(n).content] = []int{9}
 		}
-		if made := p.dependOnOrder(one.queue); !reflect.DeepEqual(made, one.due) {
-			t.Errorf("%d: %v, not %v", place, made, one.due)
+		if found := p.dependOnOrder(row.queue); !reflect.DeepEqual(found, row.due) {
+			t.Errorf("%d: %v, not %v", place, found, row.due)
 		}
 	}
 }
@@ -137,7 +137,7 @@ func TestHowManyCopiesAreKept(t *testing.T) {
 func TestARevertOfANewDirectory(t *testing.T) {
 	devices := three()
 	devices[1].Kind = ReceiveOnly
-	made := func(name string, kind Type) Name {
+	added := func(name string, kind Type) Name {
 		named := Name{Name: name, Own: make([]*Record, 3), Disk: make([]*Node, 3), Views: [][]*Record{make([]*Record, 3), make([]*Record, 3), make([]*Record, 3)}}
 		named.Disk[1] = &Node{Type: kind, Time: 5, Mode: 0o755}
 		if kind == File {
@@ -146,7 +146,7 @@ func TestARevertOfANewDirectory(t *testing.T) {
 		return named
 	}
 	for _, commands := range [][]Command{nil, {{Device: 1}}} {
-		answer := New(Usual).OfGroup(devices, []Name{made("d", Directory), made("d/a", File)}, commands...)
+		answer := New(Usual).OfGroup(devices, []Name{added("d", Directory), added("d/a", File)}, commands...)
 		if len(answer.Ends) != 1 {
 			t.Fatalf("%+v", answer)
 		}
@@ -189,7 +189,7 @@ func TestADirectoryOfOneDevice(t *testing.T) {
 
 // A device that only sends doesn't take what it needs: a change or a deletion. Only a deletion that it ignores it doesn't need.
 func TestWhatASenderDoesNotTake(t *testing.T) {
-	for place, one := range []struct {
+	for place, row := range []struct {
 		ignoresDeletions, isDeleted bool
 		due                         []Stuck
 	}{
@@ -197,14 +197,14 @@ func TestWhatASenderDoesNotTake(t *testing.T) {
 		{false, true, []Stuck{{Device: 2, Name: "a", Why: OnlySends}}}, {true, true, nil},
 	} {
 		devices := three()
-		devices[2].Kind, devices[2].IgnoreDelete = SendOnly, one.ignoresDeletions
+		devices[2].Kind, devices[2].IgnoreDelete = SendOnly, row.ignoresDeletions
 		name := inStep("a", "old", 3, 5).changed(0, "new", 70)
-		if one.isDeleted {
+		if row.isDeleted {
 			name.Disk[0] = nil
 		}
 		answer := New(Usual).OfGroup(devices, []Name{name})
-		if len(answer.Ends) != 1 || !reflect.DeepEqual(answer.Ends[0].Stuck, one.due) {
-			t.Errorf("%d: %+v, not %+v", place, answer.Ends, one.due)
+		if len(answer.Ends) != 1 || !reflect.DeepEqual(answer.Ends[0].Stuck, row.due) {
+			t.Errorf("%d: %+v, not %+v", place, answer.Ends, row.due)
 		}
 	}
 }

@@ -12,22 +12,22 @@ import (
 
 // vectorOf draws a version vector.
 func vectorOf(random *rand.Rand) []Counter {
-	var made []Counter
+	var vector []Counter
 	for device := uint64(1); device < 5; device++ {
 		if random.Intn(2) == 0 {
-			made = append(made, Counter{device, uint64(1 + random.Intn(3))})
+			vector = append(vector, Counter{device, uint64(1 + random.Intn(3))})
 		}
 	}
-	return made
+	return vector
 }
 
 // protocolVector gives a vector as Syncthing has it.
 func protocolVector(of []Counter) protocol.Vector {
-	made := protocol.Vector{}
+	vector := protocol.Vector{}
 	for _, counter := range of {
-		made.Counters = append(made.Counters, protocol.Counter{ID: protocol.ShortID(counter.Device), Value: counter.Value})
+		vector.Counters = append(vector.Counters, protocol.Counter{ID: protocol.ShortID(counter.Device), Value: counter.Value})
 	}
-	return made
+	return vector
 }
 
 var orders = map[protocol.Ordering]int{protocol.Equal: equal, protocol.Greater: greater, protocol.Lesser: lesser,
@@ -68,29 +68,29 @@ func TestRaisedVectors(t *testing.T) {
 func drawn(m *machine, random *rand.Rand) (record, protocol.FileInfo) {
 	types := map[Type]protocol.FileInfoType{File: protocol.FileInfoTypeFile, Directory: protocol.FileInfoTypeDirectory, Symlink: protocol.FileInfoTypeSymlink}
 	vector := vectorOf(random)
-	made := record{kind: Type(1 + random.Intn(3)), deleted: random.Intn(3) == 0, flag: Flag(random.Intn(4)), version: m.vectorNumber(vector),
+	entry := record{kind: Type(1 + random.Intn(3)), deleted: random.Intn(3) == 0, flag: Flag(random.Intn(4)), version: m.vectorNumber(vector),
 		time: int64(random.Intn(3)), mode: int32(random.Intn(3)) - 1}
-	of := protocol.FileInfo{Name: "a", Type: types[made.kind], Deleted: made.deleted, Version: protocolVector(vector), ModifiedS: made.time,
-		NoPermissions: made.mode == NoMode, RawInvalid: made.flag == Invalid}
-	if made.mode != NoMode {
-		of.Permissions = uint32(made.mode)
+	of := protocol.FileInfo{Name: "a", Type: types[entry.kind], Deleted: entry.deleted, Version: protocolVector(vector), ModifiedS: entry.time,
+		NoPermissions: entry.mode == NoMode, RawInvalid: entry.flag == Invalid}
+	if entry.mode != NoMode {
+		of.Permissions = uint32(entry.mode)
 	}
-	switch made.flag {
+	switch entry.flag {
 	case LocalChange:
 		of.LocalFlags = protocol.FlagLocalReceiveOnly
 	case MustBeHashed:
 		of.LocalFlags = protocol.FlagLocalMustRescan
 	}
-	if made.kind == Symlink {
-		made.target = int32(random.Intn(2))
-		adapt.SetText(&of.SymlinkTarget, string(rune('a'+made.target)))
+	if entry.kind == Symlink {
+		entry.target = int32(random.Intn(2))
+		adapt.SetText(&of.SymlinkTarget, string(rune('a'+entry.target)))
 	}
-	if made.kind == File && !made.deleted {
-		made.content = int32(1 + random.Intn(3))
-		of.Size = m.sizes[made.content]
-		of.Blocks = []protocol.BlockInfo{{Hash: []byte{byte(made.content)}}}
+	if entry.kind == File && !entry.deleted {
+		entry.content = int32(1 + random.Intn(3))
+		of.Size = m.sizes[entry.content]
+		of.Blocks = []protocol.BlockInfo{{Hash: []byte{byte(entry.content)}}}
 	}
-	return made, of
+	return entry, of
 }
 
 // isEquivalentTo calls Syncthing's IsEquivalentOptional, which takes one value of options in 1.29, and several in 1.19.

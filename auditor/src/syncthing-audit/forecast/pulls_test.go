@@ -122,3 +122,36 @@ func TestExactlyTheBudget(t *testing.T) {
 		}
 	}
 }
+
+// newOn gives a file that stands on one device's disk alone, and that no index has.
+func newOn(device int, name, text string) Name {
+	file := inStep(name, text, 3, 70)
+	for i := range file.Own {
+		file.Own[i], file.Views[i] = nil, make([]*Record, 3)
+		if i != device {
+			file.Disk[i] = nil
+		}
+	}
+	return file
+}
+
+// An end tells what each device needs, though there is more than one order in which the device may try to take it.
+func TestAnEndTellsWhatIsNeeded(t *testing.T) {
+	file := inStep("f", "moved", 3, 5)
+	file.Disk[0] = nil
+	_, s := running(file, newOn(0, "x", "moved"), newOn(0, "y", "moved"))
+	s.scan(0, everything)
+	s.send(0, 1)
+	if ways := s.outcomes(func(s *state) { s.pullOn(1) }); len(ways) != 2 {
+		t.Errorf("there are %d orders", len(ways))
+	}
+	end, needed := s.numberedEnd(3), map[int]int{}
+	for place, stuck := range end.stuck {
+		if stuck.Device == 1 {
+			needed[end.names[place]]++
+		}
+	}
+	if !reflect.DeepEqual(needed, map[int]int{0: 1, 1: 1, 2: 1}) {
+		t.Errorf("%v are needed: %+v", needed, end.stuck)
+	}
+}

@@ -111,7 +111,7 @@ func TestKnownDevicesThatCannotBeKept(t *testing.T) {
 	if err := os.WriteFile(file, nil, 0o600); err != nil {
 		t.Fatal(err)
 	}
-	for _, path := range []string{filepath.Join(file, "known"), filepath.Dir(file)} {
+	for _, path := range []string{filepath.Join(file, "known"), filepath.Dir(file), "/dev/full"} {
 		var log strings.Builder
 		run := &running{places: []*place{{given: "nas:", host: "nas", device: idAt(1)}}, known: &knownDevices{path: path, ids: map[string]string{}}, log: &log}
 		run.keepKnown()

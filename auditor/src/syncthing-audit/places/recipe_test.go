@@ -28,6 +28,9 @@ func TestLastCommandOfTheRecipe(t *testing.T) {
 	if told != "here check --folder docs --folder 'a b' --names x --slice 3/7 --leave-out special --leave-out absent --json --syncaudit audit" {
 		t.Error(told)
 	}
+	if told := shell.Words((&place{self: "here"}).check(commandline.Options{Strict: true, Lines: true, Program: "audit"})); told != "here check --strict --lines --syncaudit audit" {
+		t.Error(told)
+	}
 }
 
 // The recipe's grep takes a token, and no line of progress.

@@ -147,6 +147,7 @@ func (m *machines) run() (answer, told string, status int, err error) {
 // Two machines are asked, looked at twice and audited: the second look is given the tokens of all first ones, and each machine is kept as the device that it is.
 func TestARunOfTwoMachines(t *testing.T) {
 	m := newMachines(t)
+	m.write("nas-about.says", "syncthing-audit: it is late\n")
 	m.write("nas-begin.says", "syncthing-audit: the disk is slow\nsyncthing-audit: the first look was over 3 s ago\n")
 	open := 0
 	for night := 1; night < 3; night++ {
@@ -159,7 +160,7 @@ func TestARunOfTwoMachines(t *testing.T) {
 		if err != nil || status != exit.Done || !strings.HasPrefix(answer, "docs (Documents): in step") || !strings.Contains(answer, "1 name ") {
 			t.Fatalf("night %d: status %d, %v: %s", night, status, err, answer)
 		}
-		due := "syncthing-audit: nas:/srv/home: the disk is slow\n"
+		due := "syncthing-audit: nas:/srv/home: it is late\nsyncthing-audit: nas:/srv/home: the disk is slow\n"
 		if night == 1 {
 			due += fmt.Sprintf("syncthing-audit: laptop: it is device %s, and is refused if it is another one next time (~/%s)\nsyncthing-audit: nas:/srv/home: it is device %s, and is refused if it is another one next time (~/%s)\n",
 				idAt(1), nameOfKnown, idAt(2), nameOfKnown)
@@ -293,11 +294,14 @@ func TestARunOfAnOlderProgram(t *testing.T) {
 // The answer is given in the form that was asked for; time goes by between the looks as it was asked.
 func TestFormsOfARun(t *testing.T) {
 	m := newMachines(t)
-	m.asked.Lines, m.asked.Still = true, 0.3
+	m.asked.Lines, m.asked.Still, m.asked.HasStill = true, 0.3, true
 	began := time.Now()
 	answer, told, status, err := m.run()
 	if err != nil || status != exit.Done || !strings.Contains(told, namesOfMachines[1]) || strings.HasPrefix(answer, "docs (Documents): in step") || time.Since(began) < 300*time.Millisecond {
 		t.Errorf("status %d, %v, %s, %s", status, err, told, answer)
+	}
+	if asked := m.read("nas-asked"); !strings.Contains(asked, "part --end --tokens - --leave-out absent --still 0.3 ") {
+		t.Errorf("%q", asked)
 	}
 	m.asked.Lines, m.asked.JSON, m.asked.Still = false, true, 0
 	answer, _, status, err = m.run()

@@ -279,3 +279,22 @@ here check --syncaudit audit one.begin 'a b.begin' one.end 'a b.end'
 		t.Errorf("%s", output.String())
 	}
 }
+
+// What a command writes takes nothing's place, and a command that isn't there is told by its name.
+func TestCommandsThatAreNotRun(t *testing.T) {
+	path := filepath.Join(t.TempDir(), "part")
+	there := standInForSSH(t, "echo part")
+	for place, due := range []string{"", "file exists"} {
+		_, err := there.run(there.about(commandline.Options{}), strings.NewReader(""), path, boundsOfAbout)
+		if (err != nil) != (due != "") || err != nil && !strings.HasSuffix(err.Error(), due) {
+			t.Errorf("%d: %v", place, err)
+		}
+	}
+	if text, err := os.ReadFile(path); err != nil || string(text) != "part\n" {
+		t.Errorf("%q, %v", text, err)
+	}
+	none := &place{given: "home", self: filepath.Join(filepath.Dir(path), "none")}
+	if _, err := none.run(none.about(commandline.Options{}), strings.NewReader(""), path+"-", boundsOfAbout); err == nil || !strings.HasPrefix(err.Error(), "home: "+none.self+" can't be run: ") {
+		t.Errorf("%v", err)
+	}
+}

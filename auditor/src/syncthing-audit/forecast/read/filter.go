@@ -23,19 +23,19 @@ type filter struct {
 }
 
 func (f *filter) add(content *part.Content) {
-	var one key
-	copy(one[:], content.Hash[:])
+	var begins key
+	copy(begins[:], content.Hash[:])
 	if f.exact == nil {
 		f.exact = map[key]bool{}
 	}
 	if f.bits == nil && len(f.exact) < mostExact {
-		f.exact[one] = true
+		f.exact[begins] = true
 		return
 	}
 	if f.bits == nil {
 		f.bits = make([]uint64, bitsOfFilter/64)
 	}
-	one.each(func(word, bit uint64) bool {
+	begins.each(func(word, bit uint64) bool {
 		f.bits[word] |= bit
 		return true
 	})
@@ -46,9 +46,9 @@ func (f *filter) has(content forecast.Content) bool {
 	if err != nil {
 		return false
 	}
-	var one key
-	copy(one[:], hash)
-	return f.exact[one] || f.bits != nil && one.each(func(word, bit uint64) bool { return f.bits[word]&bit != 0 })
+	var begins key
+	copy(begins[:], hash)
+	return f.exact[begins] || f.bits != nil && begins.each(func(word, bit uint64) bool { return f.bits[word]&bit != 0 })
 }
 
 // each calls for the places of a content, and says whether all calls were true.

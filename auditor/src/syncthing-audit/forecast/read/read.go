@@ -13,16 +13,16 @@ import (
 // World makes a world of parts of one folder, for the tests on real devices (forecast/cmd). Devices stand in the order of the parts.
 func World(parts []part.Stream, folder string) (forecast.World, error) {
 	r := newReader(folder, len(parts))
-	for place, one := range parts {
-		r.places[one.Head().Device] = place
+	for place, from := range parts {
+		r.places[from.Head().Device] = place
 	}
-	for place, one := range parts {
-		device, err := r.device(one.Head())
+	for place, from := range parts {
+		device, err := r.device(from.Head())
 		if err != nil {
 			return forecast.World{}, err
 		}
 		r.world.Devices = append(r.world.Devices, device)
-		if err := r.take(place, one); err != nil {
+		if err := r.take(place, from); err != nil {
 			return forecast.World{}, err
 		}
 	}
@@ -57,12 +57,12 @@ func (r *reader) device(head *part.Head) (forecast.Device, error) {
 	if !is {
 		return forecast.Device{}, fmt.Errorf("the model knows no folder of kind %q", folder.Kind)
 	}
-	made := forecast.Device{ID: head.Device, Kind: kind, Release: forecast.ReleaseOf(head.Runs), Number: head.Number(), IgnorePermissions: folder.IgnoresPermissions,
+	device := forecast.Device{ID: head.Device, Kind: kind, Release: forecast.ReleaseOf(head.Runs), Number: head.Number(), IgnorePermissions: folder.IgnoresPermissions,
 		MaxConflicts: usualMaxConflicts, TimeWindow: folder.TimeWindow * 1e9}
 	if folder.Options != nil {
-		made.MaxConflicts, made.IgnoreDelete = folder.Options.MaxConflicts, folder.Options.IgnoresDeletions
+		device.MaxConflicts, device.IgnoreDelete = folder.Options.MaxConflicts, folder.Options.IgnoresDeletions
 	}
-	return made, nil
+	return device, nil
 }
 
 // take takes the names of one part.
@@ -87,15 +87,15 @@ func (r *reader) take(place int, from part.Stream) error {
 }
 
 func (r *reader) name(text string) *forecast.Name {
-	made := r.names[text]
-	if made == nil {
-		made = &forecast.Name{Name: text, Own: make([]*forecast.Record, r.count), Views: make([][]*forecast.Record, r.count), Disk: make([]*forecast.Node, r.count)}
-		for place := range made.Views {
-			made.Views[place] = make([]*forecast.Record, r.count)
+	name := r.names[text]
+	if name == nil {
+		name = &forecast.Name{Name: text, Own: make([]*forecast.Record, r.count), Views: make([][]*forecast.Record, r.count), Disk: make([]*forecast.Node, r.count)}
+		for place := range name.Views {
+			name.Views[place] = make([]*forecast.Record, r.count)
 		}
-		r.names[text] = made
+		r.names[text] = name
 	}
-	return made
+	return name
 }
 
 func (r *reader) takeName(place int, line *part.Name, views []part.View) {
@@ -117,26 +117,26 @@ func (r *reader) takeName(place int, line *part.Name, views []part.View) {
 }
 
 func record(of *part.Record) *forecast.Record {
-	made := &forecast.Record{Type: typeOf(of.Type), Deleted: of.Deleted, Version: version(of.Version), Time: of.ModifiedS*1e9 + int64(of.ModifiedNs),
+	record := &forecast.Record{Type: typeOf(of.Type), Deleted: of.Deleted, Version: version(of.Version), Time: of.ModifiedS*1e9 + int64(of.ModifiedNs),
 		Target: of.Target, Mode: forecast.NoMode}
 	if of.Invalid {
-		made.Flag = forecast.Invalid
+		record.Flag = forecast.Invalid
 	}
 	if of.Permissions != nil {
-		made.Mode = int(*of.Permissions & 0o777)
+		record.Mode = int(*of.Permissions & 0o777)
 	}
 	if of.Content != nil {
-		made.Content = content(of.Content)
+		record.Content = content(of.Content)
 	}
-	return made
+	return record
 }
 
 func version(pairs part.Version) []forecast.Counter {
-	var made []forecast.Counter
+	var counters []forecast.Counter
 	for _, pair := range pairs {
-		made = append(made, forecast.Counter{Device: pair[0], Value: pair[1]})
+		counters = append(counters, forecast.Counter{Device: pair[0], Value: pair[1]})
 	}
-	return made
+	return counters
 }
 
 func content(of *part.Content) forecast.Content {
@@ -154,16 +154,16 @@ func typeOf(number int) forecast.Type {
 }
 
 func (r *reader) node(of *part.Node) *forecast.Node {
-	made := &forecast.Node{Type: typeOf(of.Type), Time: of.ModifiedS*1e9 + int64(of.ModifiedNs), Target: of.Target, Mode: int(of.Permissions & 0o777)}
+	node := &forecast.Node{Type: typeOf(of.Type), Time: of.ModifiedS*1e9 + int64(of.ModifiedNs), Target: of.Target, Mode: int(of.Permissions & 0o777)}
 	for place := range of.Contents {
 		cut := content(&of.Contents[place])
 		if place == 0 {
-			made.Content = cut
+			node.Content = cut
 		} else {
-			r.join(made.Content, cut)
+			r.join(node.Content, cut)
 		}
 	}
-	return made
+	return node
 }
 
 // join notes that two contents are of the same bytes.
@@ -187,9 +187,9 @@ func (r *reader) root(of forecast.Content) forecast.Content {
 func (r *reader) finish() {
 	for _, name := range r.names {
 		for place := range name.Own {
-			for _, one := range append([]*forecast.Record{name.Own[place]}, name.Views[place]...) {
-				if one != nil {
-					one.Content = r.root(one.Content)
+			for _, record := range append([]*forecast.Record{name.Own[place]}, name.Views[place]...) {
+				if record != nil {
+					record.Content = r.root(record.Content)
 				}
 			}
 			if name.Disk[place] != nil {

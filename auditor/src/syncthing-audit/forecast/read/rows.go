@@ -33,25 +33,25 @@ type Rows struct {
 
 // NewRows begins with a folder.
 func NewRows(folder *join.Folder) *Rows {
-	made := &Rows{reader: newReader(folder.ID, len(folder.Members)), members: folder.Members, All: unknownOf(folder.Members), Unknown: map[string]Why{},
+	rows := &Rows{reader: newReader(folder.ID, len(folder.Members)), members: folder.Members, All: unknownOf(folder.Members), Unknown: map[string]Why{},
 		Count: map[Why]int64{}, Calm: map[string]bool{}, Damage: map[string][]damage.Kind{}, room: MostCells, risky: map[string]bool{}, copies: map[string]int{}, out: map[string]bool{}}
-	for member, one := range folder.Members {
-		made.places[one.Head.Device] = member
-		device, err := made.device(one.Head)
+	for place, member := range folder.Members {
+		rows.places[member.Head.Device] = place
+		device, err := rows.device(member.Head)
 		if err != nil {
-			made.All = append(made.All, Unknown{Untold, []int{member}})
+			rows.All = append(rows.All, Unknown{Untold, []int{place}})
 		}
-		device.Apart = apartFrom(folder.Members, member)
-		made.world.Devices = append(made.world.Devices, device)
-		views := make([]int, len(one.About.Views))
-		for place, view := range one.About.Views {
-			if views[place] = memberOf(folder.Members, view.Device); views[place] >= 0 && device.Apart.Has(views[place]) {
-				views[place] = -1
+		device.Apart = apartFrom(folder.Members, place)
+		rows.world.Devices = append(rows.world.Devices, device)
+		views := make([]int, len(member.About.Views))
+		for at, view := range member.About.Views {
+			if views[at] = memberOf(folder.Members, view.Device); views[at] >= 0 && device.Apart.Has(views[at]) {
+				views[at] = -1
 			}
 		}
-		made.viewed = append(made.viewed, views)
+		rows.viewed = append(rows.viewed, views)
 	}
-	return made
+	return rows
 }
 
 // Take takes a row.

@@ -45,7 +45,7 @@ type Unknown struct {
 
 // unknownOf gives all reasons of a folder.
 func unknownOf(members []join.Member) []Unknown {
-	var made []Unknown
+	var all []Unknown
 	for _, check := range []struct {
 		why Why
 		is  func(member int) bool
@@ -72,16 +72,16 @@ func unknownOf(members []join.Member) []Unknown {
 			}
 		}
 		if len(found) > 0 {
-			made = append(made, Unknown{check.why, found})
+			all = append(all, Unknown{check.why, found})
 		}
 	}
-	return made
+	return all
 }
 
 func isAll(names choice.Names) bool { return names.IsAll() }
 
 func memberOf(members []join.Member, device string) int {
-	return slices.IndexFunc(members, func(one join.Member) bool { return one.Head.Device == device })
+	return slices.IndexFunc(members, func(member join.Member) bool { return member.Head.Device == device })
 }
 
 func sharesWithAbsent(members []join.Member, member int) bool {
@@ -90,22 +90,22 @@ func sharesWithAbsent(members []join.Member, member int) bool {
 
 // apartFrom gives the devices with which one doesn't share the folder.
 func apartFrom(members []join.Member, member int) forecast.Places {
-	made := forecast.Places(0)
-	for other, one := range members {
-		if other != member && slices.IndexFunc(members[member].About.Sharing, func(with part.Sharing) bool { return with.Device == one.Head.Device }) < 0 {
-			made |= 1 << other
+	apart := forecast.Places(0)
+	for other, device := range members {
+		if other != member && slices.IndexFunc(members[member].About.Sharing, func(with part.Sharing) bool { return with.Device == device.Head.Device }) < 0 {
+			apart |= 1 << other
 		}
 	}
-	return made
+	return apart
 }
 
 // isUnlinked says whether no way leads from a device to all others.
 func isUnlinked(members []join.Member, member int) bool {
 	reached := forecast.Places(1) << member
 	for range members {
-		for one := range members {
-			if reached.Has(one) {
-				reached |= ^apartFrom(members, one) & (1<<len(members) - 1)
+		for between := range members {
+			if reached.Has(between) {
+				reached |= ^apartFrom(members, between) & (1<<len(members) - 1)
 			}
 		}
 	}
