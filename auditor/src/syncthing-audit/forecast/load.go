@@ -135,7 +135,7 @@ func (l *loader) time(time int64) int64 {
 	return l.times[time]
 }
 
-// rankCounters gives each device its rank among those that versions count, and each counter its rank among those of its device.
+// rankCounters gives each device its rank among those that versions count, and each counter its rank among all: only those of one device are compared.
 func (l *loader) rankCounters(names []Name) {
 	var all []Counter
 	eachRecord(names, func(r *Record) { all = append(all, r.Version...) })
@@ -149,7 +149,6 @@ func (l *loader) rankCounters(names []Name) {
 	rank := uint64(0)
 	for place, counter := range all {
 		if place == 0 || all[place-1].Device != counter.Device {
-			rank = 0
 			l.numbers[counter.Device] = uint64(len(l.numbers) + 1)
 		}
 		if counter.Value > 0 && (place == 0 || all[place-1] != counter) {

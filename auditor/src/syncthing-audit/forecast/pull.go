@@ -101,7 +101,7 @@ func (p *pull) takeOthers(needed []int) (files []int) {
 			p.buckets[own.content] = append(p.buckets[own.content], n)
 		case entry.deleted:
 			p.note(n, p.deleteFile(n))
-		case entry.kind == File && own.kind == File && own.content != 0 && own.content == entry.content:
+		case own.content != 0 && own.content == entry.content:
 			p.note(n, p.setTimeAndMode(n))
 		case entry.kind == File:
 			files = append(files, n)

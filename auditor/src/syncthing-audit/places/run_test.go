@@ -220,6 +220,12 @@ func TestARunThatIsRefused(t *testing.T) {
 				m.about(place, func(head *part.Head) { head.Folders = nil })
 			}
 		}, audit.ErrNothing.Error(), ""},
+		"all are away": {func(m *machines) {
+			m.asked.Strict = false
+			for place := range namesOfMachines {
+				m.about(place, func(head *part.Head) { head.Others, head.Folders = []part.Other{{ID: "docs", Away: "gone"}}, nil })
+			}
+		}, audit.ErrNothing.Error(), "It is left out"},
 		"one device at both":      {func(m *machines) { m.about(1, func(head *part.Head) { head.Device = idAt(1) }) }, "laptop: and nas:/srv/home are both of device laptop", ""},
 		"a first look that fails": {func(m *machines) { m.fail(0, "begin", 1, "it is lost") }, "laptop: its command ended with exit status 1: syncthing-audit: it is lost", ""},
 		"a history that is none": {func(m *machines) {

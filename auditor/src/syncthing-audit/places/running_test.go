@@ -10,6 +10,8 @@ import (
 	"testing"
 	"time"
 
+	"github.com/syncthing/syncthing/lib/protocol"
+	"github.com/syncthing/syncthing/lib/tlsutil"
 	"syncthing-audit/commandline"
 	"syncthing-audit/device"
 	"syncthing-audit/exit"
@@ -296,5 +298,19 @@ func TestCommandsThatAreNotRun(t *testing.T) {
 	none := &place{given: "home", self: filepath.Join(filepath.Dir(path), "none")}
 	if _, err := none.run(none.about(commandline.Options{}), strings.NewReader(""), path+"-", boundsOfAbout); err == nil || !strings.HasPrefix(err.Error(), "home: "+none.self+" can't be run: ") {
 		t.Errorf("%v", err)
+	}
+}
+
+// A home here that is left out is told with the device of its key.
+func TestAHomeThatIsLeftOut(t *testing.T) {
+	home := t.TempDir()
+	certificate, err := tlsutil.NewCertificate(filepath.Join(home, "cert.pem"), filepath.Join(home, "key.pem"), "syncthing", 1)
+	if err != nil {
+		t.Fatal(err)
+	}
+	run := &running{places: []*place{{given: home, home: home}}, known: &knownDevices{ids: map[string]string{}}, log: io.Discard}
+	run.leaveOut(0, "first look", io.ErrUnexpectedEOF)
+	if left := run.left(); len(left) != 1 || left[0].Device != protocol.NewDeviceID(certificate.Certificate[0]).String() {
+		t.Errorf("%+v", left)
 	}
 }

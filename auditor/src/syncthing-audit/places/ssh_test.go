@@ -27,7 +27,7 @@ func TestOptionsOfSSH(t *testing.T) {
 		}
 	}
 	room := t.TempDir()
-	text := "#!/bin/sh\n[ \"$*\" = '-G laptop' ] && echo connecttimeout 7\n"
+	text := "#!/bin/sh\n[ \"$*\" = '-G laptop' ] && echo connecttimeout 7 && exit 0\necho connecttimeout 7\nexit 1\n"
 	if err := os.WriteFile(filepath.Join(room, "ssh"), []byte(text), 0o700); err != nil {
 		t.Fatal(err)
 	}
