@@ -72,7 +72,7 @@ var errKey = errors.New("a key isn't one of this format")
 func readName(key []byte) (folder, name string, device uint64, rest string, err error) {
 	parts := strings.SplitN(string(key[1:]), "\x00", 3)
 	if len(parts) < 3 || len(parts[2]) < 8 {
-		return "", "", 0, "", errKey
+		return folder, name, device, rest, errKey
 	}
 	return parts[0], parts[1], binary.BigEndian.Uint64([]byte(parts[2][:8])), parts[2][8:], nil
 }

@@ -25,6 +25,7 @@ func TestOddValuesOfAHistory(t *testing.T) {
 		"a reading passed":  {keyOfReading("docs", device, "0"), func(h *History) error { return h.Take(aFile("a").partOf(0, choice.Names{}), night(1)) }},
 		"a fault":           {keyOfFault(Fault{"docs", "a", device, "x"}), func(h *History) error { _, err := h.Since(audit); return err }},
 		"a fault of no key": {[]byte{ofFault, 'x'}, func(h *History) error { _, err := h.Keep(night(2), nil, func(Fault) bool { return true }); return err }},
+		"a watch":           {[]byte{ofFault, 'x'}, func(h *History) error { _, err := h.Watch(); return err }},
 		"a change of none":  {[]byte{ofChange, 'x'}, func(h *History) error { return h.EachChanged(every, func(Spread, bool) error { return nil }) }},
 	} {
 		history := opened(t)
@@ -96,6 +97,69 @@ func TestAnOddFaultOfRecordedBytes(t *testing.T) {
 func (h *History) addedOnly(audit Audited) (*Since, error) {
 	since := &Since{}
 	return since, h.addChanged(since, &audit)
+}
+
+// What goes through a history lets go of it, whether it comes to its end or not.
+func TestNothingGoesOnInAHistory(t *testing.T) {
+	history := opened(t)
+	files := device{"a": {bytes: 'a', recorded: 'a'}, "b": {bytes: 'b'}}
+	device := part.Number(ids[0])
+	audit := Audited{At: night(2), Folders: map[string][]uint64{"docs": {device}}, Sharing: map[string][]uint64{"docs": {part.Number(ids[1])}}, Names: func(string, string) bool { return true }}
+	for what, does := range map[string]func() error{
+		"a part":        func() error { return history.Take(files.partOf(0, choice.Names{}), night(1)) },
+		"a part in all": func() error { return teeOf(history, files, 99) },
+		"half a part":   func() error { return teeOf(history, files, 2) },
+		"an audit":      func() error { _, err := history.Since(audit); return err },
+		"readings":      func() error { _, err := history.last("docs", "a"); return err },
+		"asked for":     func() error { return putAsked(history, 0, 2) },
+	} {
+		if err := does(); err != nil {
+			t.Errorf("%s: %v", what, err)
+		}
+		if alive, err := history.db.GetProperty("leveldb.aliveiters"); alive != "0" || err != nil {
+			t.Errorf("%s: %s go on, %v", what, alive, err)
+		}
+	}
+}
+
+// teeOf goes through so many lines of a part, and ends.
+func teeOf(history *History, files device, count int) error {
+	watch, err := history.Watch()
+	if err != nil {
+		return err
+	}
+	tee := history.Tee(files.partOf(0, choice.Names{}), watch)
+	for ; count > 0 && err == nil; count-- {
+		_, err = tee.Next()
+	}
+	return tee.End()
+}
+
+// A part that came to its end is kept: its end is asked for again, and nothing is written then. A history that can't be closed says so.
+func TestWhatIsEndedTwice(t *testing.T) {
+	for closes, how := range []func(*History) error{func(h *History) error { return h.db.Close() }, func(h *History) error { return h.files.Close() }} {
+		history, err := Open(t.TempDir())
+		if err != nil {
+			t.Fatal(err)
+		}
+		watch, err := history.Watch()
+		if err != nil {
+			t.Fatal(err)
+		}
+		tee := history.Tee(aFile("a").partOf(0, choice.Names{}), watch)
+		for err == nil {
+			_, err = tee.Next()
+		}
+		if err := how(history); err != nil {
+			t.Fatal(err)
+		}
+		if err := tee.End(); err != nil {
+			t.Errorf("%d: %v", closes, err)
+		}
+		if err := history.Close(); err == nil {
+			t.Errorf("%d: it is closed again", closes)
+		}
+	}
 }
 
 // Each file of a history becomes its user's alone as it is opened, whoever might read it before.
