@@ -5,6 +5,7 @@ import (
 	"os"
 	"path/filepath"
 	"runtime"
+	"runtime/debug"
 	"strings"
 	"testing"
 	"time"
@@ -12,6 +13,7 @@ import (
 	"syncthing-audit/bep"
 	"syncthing-audit/commandline"
 	"syncthing-audit/exit"
+	"syncthing-audit/fixture"
 )
 
 // What goes beside a command's words, and what it can't be without, is told by that command: whichever one of it is amiss.
@@ -118,3 +120,58 @@ func TestNoCommand(t *testing.T) {
 		}
 	}
 }
+
+// A command that fails gives no status: that of its error counts.
+func TestAnErrorHasNoStatusBesideIt(t *testing.T) {
+	for name, run := range commands {
+		for _, words := range [][]string{{"--nothing"}, {"--help"}, {"a", "--folder"}, {"a", "b", "c"}, nil} {
+			if status, err := run(words, io.Discard, io.Discard); err != nil && status != 0 {
+				t.Errorf("%s %q: %d, %v", name, words, status, err)
+			}
+		}
+	}
+}
+
+// A document isn't printed for a person, who is told what to do in its place; behind a pipe it is, and into a directory nothing is printed.
+func TestAnExportOnATerminal(t *testing.T) {
+	screen, _ := fixture.Terminal(t)
+	path := aPart(t)
+	for _, row := range []struct {
+		output io.Writer
+		words  []string
+		status int
+		told   string
+	}{
+		{screen, []string{path}, exit.Usage, "a document is nothing to read on a terminal: "}, {screen, nil, exit.Usage, "no home and no part is given"},
+		{io.Discard, []string{path}, exit.Done, ""}, {screen, []string{path, "--into", t.TempDir()}, exit.Done, ""},
+	} {
+		var log strings.Builder
+		if status := Run(append([]string{"export"}, row.words...), row.output, &log); status != row.status || !strings.Contains(log.String(), row.told) {
+			t.Errorf("%q: %d, %s", row.words, status, log.String())
+		}
+	}
+}
+
+// Once a part is shown its file is closed, and nothing reads on, also where nobody takes the lines.
+func TestNothingIsOpenOnceAPartWasShown(t *testing.T) {
+	defer debug.SetGCPercent(debug.SetGCPercent(-1)) // the collector closes files of which nobody knows any more
+	path := aPart(t)
+	isThat := func(opened string) bool { return opened == path }
+	before := runtime.NumGoroutine()
+	for _, output := range []io.Writer{io.Discard, fullOutput{}} {
+		Run([]string{"part", "--show", path}, output, io.Discard)
+		if count := fixture.CountOpened(t, isThat); count > 0 {
+			t.Errorf("it is open %d times", count)
+		}
+	}
+	for until := time.Now().Add(10 * time.Second); runtime.NumGoroutine() > before; time.Sleep(time.Millisecond) {
+		if time.Now().After(until) {
+			t.Fatalf("%d go on, and %d did", runtime.NumGoroutine(), before)
+		}
+	}
+}
+
+// fullOutput takes nothing.
+type fullOutput struct{}
+
+func (fullOutput) Write([]byte) (int, error) { return 0, io.ErrShortWrite }

@@ -99,8 +99,10 @@ func TestADeviceIsAskedOverTheWire(t *testing.T) {
 		last := func(int) bool { count++; return count == number }
 		for why, change := range map[string]func(*stranger.State){"closed at once": func(state *stranger.State) { state.Closes = last }, "ended within its index": func(state *stranger.State) { state.Ahead, state.Ends = 1, func(int) bool { return true } },
 			"ended within its bytes": func(state *stranger.State) { state.Ends = func(int) bool { return true } }} {
-			count = 0
-			device.Change(func(state *stranger.State) { state.Closes, state.Ends, state.Ahead = nil, nil, 0; change(state) })
+			device.Change(func(state *stranger.State) {
+				count, state.Closes, state.Ends, state.Ahead = 0, nil, nil, 0
+				change(state)
+			})
 			if told, err := call("docs", device.ID.String(), device.Address); err == nil || told != "" {
 				t.Errorf("connection %d is %s: %s", number, why, told)
 			}
