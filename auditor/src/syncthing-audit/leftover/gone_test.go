@@ -24,7 +24,7 @@ func TestWhatComesBackIsTakenAway(t *testing.T) {
 			}
 			isOver <- time.Since(began)
 		}()
-		removeUntilGone(map[string]bool{path: true})
+		removeUntilGone(map[string]struct{}{path: {}})
 		if <-isOver > quietTime*3/4 {
 			continue
 		}

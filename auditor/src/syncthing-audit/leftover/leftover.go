@@ -16,7 +16,7 @@ import (
 
 var (
 	mutex       sync.Mutex
-	paths       = map[string]bool{}
+	paths       = map[string]struct{}{}
 	directories []string // directories at paths that were asked for, each behind the one above it
 	processes   = map[*os.Process]struct{}{}
 )
@@ -151,7 +151,7 @@ const (
 
 // removeUntilGone takes all away. Other threads go on meanwhile: an index that is being opened makes its directory anew, say. So all is taken away again
 // until nothing comes back. What a thread then does to take away what it made waits for the lock.
-func removeUntilGone(paths map[string]bool) {
+func removeUntilGone(paths map[string]struct{}) {
 	for round := 0; round < mostRounds; round++ {
 		isGone := true
 		for path := range paths {

@@ -38,7 +38,7 @@ func makeLocked(place, prefix string) (string, error) {
 		if err != nil {
 			return "", err
 		}
-		paths[path] = true
+		paths[path] = struct{}{}
 		if lock, isMine := lockOf(path); isMine {
 			locks[path] = lock
 			return path, nil

@@ -85,6 +85,9 @@ func TestWholeFilesWithAndWithoutAName(t *testing.T) {
 					t.Errorf("%s: %v", row.text, err)
 				}
 			}
+			if row.text == "third" && len(paths) != 0 {
+				t.Errorf("what has its name is known as this run's: %v", paths)
+			}
 			file.Drop()
 			if text, _ := os.ReadFile(path); string(text) != row.standing || len(namesOfRun(t, room)) != 0 || len(paths) != 0 {
 				t.Errorf("%s: %q, %v, %v", row.text, text, namesIn(t, room), paths)
@@ -158,6 +161,15 @@ func TestFilesThatAreMoved(t *testing.T) {
 				t.Errorf("%v, %v: %q, %v", failing, isThere, text, err)
 			}
 		}
+		if failing == syscall.EINVAL {
+			os.Remove(to)
+			if err := os.Mkdir(filepath.Join(room, "directory"), 0o700); err != nil {
+				t.Fatal(err)
+			}
+			if err := moveNew(filepath.Join(room, "directory"), to); err != nil || !isThere(to) || isThere(filepath.Join(room, "directory")) { // it has no links
+				t.Errorf("a directory isn't moved: %v", err)
+			}
+		}
 		if err := moveNew(filepath.Join(room, "none"), filepath.Join(room, "more")); err == nil {
 			t.Errorf("%v: what isn't there is moved", failing)
 		}
@@ -176,6 +188,45 @@ func TestWhatIsSynced(t *testing.T) {
 	}
 	if err := Sync(filepath.Join(room, "none")); !errors.Is(err, os.ErrNotExist) {
 		t.Error(err)
+	}
+}
+
+// A staged file is for its user alone, and each has a name of its own. Where nothing can be staged, the directories that were made for that are gone.
+func TestWhatCannotBeStaged(t *testing.T) {
+	room := t.TempDir()
+	staged := mustStage(t, room, "a")
+	if about, err := os.Stat(filepath.Join(staged.path, "a")); err != nil || about.Mode() != 0o600 {
+		t.Errorf("%v, %v", about, err)
+	}
+	if _, err := staged.New("a"); !os.IsExist(err) || len(staged.names) != 1 {
+		t.Errorf("%v, %v", staged.names, err)
+	}
+	staged.Drop()
+	long := room
+	for len(long) < 3850 {
+		long = filepath.Join(long, strings.Repeat("x", 200))
+	}
+	long += "/" + strings.Repeat("y", 4090-len(long))
+	if _, err := NewStaged(long); err == nil || len(directories)+len(paths) != 0 {
+		t.Errorf("%v, %v, %v", directories, paths, err)
+	}
+	if names := namesIn(t, room); len(names) != 0 {
+		t.Errorf("%d names are left", len(names))
+	}
+}
+
+// What killed runs left is taken away, and nothing of it stays open.
+func TestSweepingLeavesNothingOpen(t *testing.T) {
+	room := t.TempDir()
+	for _, name := range []string{"a", "b"} {
+		if err := os.Mkdir(filepath.Join(room, prefixOfFile+name), 0o700); err != nil {
+			t.Fatal(err)
+		}
+	}
+	before := fixture.CountOpened(t, fixture.Any)
+	sweep(room, prefixOfFile)
+	if after := fixture.CountOpened(t, fixture.Any); after > before || len(namesIn(t, room)) != 0 {
+		t.Errorf("%d files were open, and %d are; %v", before, after, namesIn(t, room))
 	}
 }
 

@@ -65,7 +65,7 @@ func NewWhole(directory string) (*Whole, error) {
 		}
 		locked := syscall.Flock(int(file.Fd()), syscall.LOCK_EX|syscall.LOCK_NB)
 		if isAt(file, file.Name()) && !errors.Is(locked, syscall.EWOULDBLOCK) {
-			paths[file.Name()] = true
+			paths[file.Name()] = struct{}{}
 			return &Whole{file, file.Name()}, nil
 		}
 		os.Remove(file.Name()) // a run that started took it for one without a maker, or it can't be seen that none did
@@ -139,7 +139,7 @@ func (w *Whole) name(directory string) error {
 		path := filepath.Join(directory, fmt.Sprintf("%s%d-%d", prefixOfFile, os.Getpid(), try))
 		err := w.link(path)
 		if err == nil {
-			w.path, paths[path] = path, true
+			w.path, paths[path] = path, struct{}{}
 		}
 		if !errors.Is(err, os.ErrExist) {
 			return err
