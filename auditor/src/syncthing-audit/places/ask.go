@@ -70,9 +70,6 @@ func (r *running) ask() error {
 	if len(plan.Folders) == 0 {
 		return audit.Nothing(answer)
 	}
-	if err := r.checkPresent(); err != nil {
-		return err
-	}
 	return r.checkChosen()
 }
 
