@@ -162,9 +162,11 @@ func TestADeviceThatIsThereIsNotElsewhere(t *testing.T) {
 			state.Closes = func(int) bool { count++; state.Hidden["docs"] = count == 1; return false }
 		})
 		here.expect(why, exit.Refused, "not connected: "+string(wire.NotShared))
-		if count != 1 {
-			t.Errorf("%s: %d connections", why, count)
-		}
+		device.Change(func(*stranger.State) {
+			if count != 1 {
+				t.Errorf("%s: %d connections", why, count)
+			}
+		})
 		here.expect("it shares then", exit.Partial, inStep)
 	}
 }

@@ -151,6 +151,7 @@ func TestBoundsOfAConfiguration(t *testing.T) {
 		"the longest id":         {config(folder(long)), nil, long, nil},
 		"a longer id":            {config(folder(long + "f")), nil, "", BadMessage},
 		"an id with a zero byte": {config(folder("a\x00")), nil, "", BadMessage},
+		"a zero byte as an id":   {config(folder("\x00")), nil, "", BadMessage},
 		"two devices":            {config(folder("a", device(0, ""), device(1, ""))), nil, "a", nil},
 		"three devices":          {config(folder("a", device(0, ""), device(1, ""), device(2, ""))), nil, "", TooManyDevices},
 		"a sequence below 0":     {config(folder("a", device(1<<63, ""))), nil, "", BadMessage},
