@@ -95,8 +95,8 @@ func TestADeviceIsAskedOverTheWire(t *testing.T) {
 	}
 	before := fixture.CountOpened(t, fixture.Any)
 	for number := 1; number <= 2; number++ {
-		count := 0
-		last := func(int) bool { count++; return count == number }
+		count, due := 0, number // the device's own, who is asked under its lock
+		last := func(int) bool { count++; return count == due }
 		for why, change := range map[string]func(*stranger.State){"closed at once": func(state *stranger.State) { state.Closes = last }, "ended within its index": func(state *stranger.State) { state.Ahead, state.Ends = 1, func(int) bool { return true } },
 			"ended within its bytes": func(state *stranger.State) { state.Ends = func(int) bool { return true } }} {
 			device.Change(func(state *stranger.State) {
