@@ -208,6 +208,7 @@ func TestRootsOfCopies(t *testing.T) {
 	for name, due := range map[string]string{
 		"a.txt": "", "a.sync-conflict-20240102-030405-ABCDEFG.txt": "a.txt", "d/a.sync-conflict-20240102-030405-ABCDEFG": "d/a", "a.sync-conflict-2024": "",
 		"d.sync-conflict-20240102-030405-ABCDEFG/a": "", "a.sync-conflict-20240102-030405-.txt": "a.txt", "a.sync-conflict-20240102-030405": "",
+		"a.sync-conflict-.0123456789abcdef": "a.0123456789abcdef", "a.sync-conflict-.0123456789abcd": "", "a.sync-conflict-.0123456789abcde": "a.0123456789abcde",
 		"a.sync-conflict-20240102-030405-ABCDEFG.sync-conflict-20250102-030405-HIJKLMN.txt": "a.sync-conflict-20240102-030405-ABCDEFG.txt",
 	} {
 		if root := RootOfCopy(name); root != due {
