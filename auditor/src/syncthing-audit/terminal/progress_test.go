@@ -4,6 +4,7 @@ import (
 	"fmt"
 	"os"
 	"strings"
+	"sync/atomic"
 	"testing"
 	"time"
 )
@@ -224,17 +225,18 @@ func TestTheLineOfATerminal(t *testing.T) {
 // Another program is told each number once, and the last one at the end.
 func TestStepsForAnotherProgram(t *testing.T) {
 	var told strings.Builder
-	ticks, stopped, ended, done := make(chan time.Time), make(chan struct{}), make(chan struct{}), int64(0)
+	var done atomic.Int64
+	ticks, stopped, ended := make(chan time.Time), make(chan struct{}), make(chan struct{})
 	go func() {
-		tellSteps(&told, func() int64 { return done }, 9, ticks, stopped)
+		tellSteps(&told, done.Load, 9, ticks, stopped)
 		close(ended)
 	}()
 	for _, next := range []int64{0, 5, 5, 5} {
 		ticks <- seconds(0)
-		done = next // it is read at the next tick, once this one is taken
+		done.Store(next) // it is read at the next tick, once this one is taken
 	}
 	ticks <- seconds(0)
-	done = 9
+	done.Store(9)
 	close(stopped)
 	<-ended
 	if told.String() != "syncthing-audit: hashed 0 of 9 bytes\nsyncthing-audit: hashed 5 of 9 bytes\nsyncthing-audit: hashed 9 of 9 bytes\n" {
