@@ -8,6 +8,7 @@ import (
 	"testing"
 
 	"github.com/syncthing/syncthing/lib/protocol"
+	"syncthing-audit/choice"
 	"syncthing-audit/fixture"
 )
 
@@ -80,7 +81,11 @@ func TestNamesOfEachKind(t *testing.T) {
 	}
 	set.Update(protocol.LocalDeviceID, entries)
 	opened.Close()
-	if count := firstIndex(t, dir).names(); count != 8 { // with the files that are there before
+	index := firstIndex(t, dir)
+	if count := index.names(); count != 8 { // with the files that are there before
 		t.Errorf("%d names", count)
+	}
+	if bytes, err := index.Bytes(choice.Names{}); bytes != 2*8*protocol.MinBlockSize || err != nil {
+		t.Errorf("%d bytes, %v", bytes, err)
 	}
 }

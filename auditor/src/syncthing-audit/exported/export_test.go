@@ -155,15 +155,10 @@ func TestAnExportToAnOutput(t *testing.T) {
 	if status, _, err := exportOf(t, 2, choice.Names{}, "", &output); !errors.Is(err, errSeveral) || status != 0 || output.Len() > 0 {
 		t.Errorf("%v: %s", err, output.String())
 	}
-	if _, _, err := exportOf(t, 1, choice.Names{}, "", broken{}); exit.Of(err, io.Discard, io.Discard) != exit.Fault {
+	if _, _, err := exportOf(t, 1, choice.Names{}, "", &fixture.Cramped{}); exit.Of(err, io.Discard, io.Discard) != exit.Fault {
 		t.Error(err)
 	}
 }
-
-// broken is a writer without room.
-type broken struct{}
-
-func (broken) Write([]byte) (int, error) { return 0, errors.New("no space left on device") }
 
 // Documents aren't written where an export or something else is, nor into a folder of Syncthing, by --into or by a shell. What stands there stays.
 func TestWhereNoExportGoes(t *testing.T) {
@@ -299,11 +294,11 @@ func TestRoomForTheRest(t *testing.T) {
 		t.Fatal(err)
 	}
 	for room := 0; room < whole.Len(); room += whole.Len()/100 + 1 {
-		if err := rest.write(&cramped{room}); err == nil {
+		if err := rest.write(&fixture.Cramped{Room: room}); err == nil {
 			t.Errorf("%d bytes are written into room for %d", whole.Len(), room)
 		}
 	}
-	if err := rest.write(&cramped{whole.Len()}); err != nil {
+	if err := rest.write(&fixture.Cramped{Room: whole.Len()}); err != nil {
 		t.Error(err)
 	}
 }
@@ -354,15 +349,4 @@ func TestAnAnswerThatLacksSomething(t *testing.T) {
 	if err := (&outlet{output: &output, kept: []byte("x")}).end(&finding.Answer{Folders: []*finding.Folder{folder}}, io.Discard); err == nil || output.Len() > 0 {
 		t.Errorf("%v, %s", err, output.String())
 	}
-}
-
-// cramped is a writer with room for so many bytes.
-type cramped struct{ room int }
-
-func (c *cramped) Write(text []byte) (int, error) {
-	if len(text) > c.room {
-		return 0, errors.New("no space left on device")
-	}
-	c.room -= len(text)
-	return len(text), nil
 }

@@ -162,6 +162,37 @@ func TestWhatIsEndedTwice(t *testing.T) {
 	}
 }
 
+// What a part read that was made later than now was read now; bytes that stay as they are were changed on no device.
+func TestAPartOfALaterTime(t *testing.T) {
+	history := opened(t)
+	watch, err := history.Watch()
+	if err != nil {
+		t.Fatal(err)
+	}
+	for _, made := range []int{20000, 10, 11} {
+		stream := aFile("a").partOf(0, choice.Names{})
+		stream.head.Made = night(made)
+		tee := history.Tee(stream, watch)
+		for err = nil; err == nil; {
+			_, err = tee.Next()
+		}
+		if err := tee.End(); err != nil {
+			t.Fatal(err)
+		}
+		due := night(10000) // a later reading stays
+		if readings, err := history.last("docs", "a"); err != nil || len(readings) != 1 || !readings[0].At.Equal(due) {
+			t.Errorf("made at night %d: %+v, %v", made, readings, err)
+		}
+		if is, err := history.db.Has(keyOfTaken("docs", "a", part.Number(ids[0])), nil); is || err != nil {
+			t.Errorf("made at night %d: its bytes changed: %v", made, err)
+		}
+	}
+	history.mustTake(t, 10001, aFile("a"))
+	if is, err := history.db.Has(keyOfTaken("docs", "a", part.Number(ids[0])), nil); is || err != nil {
+		t.Errorf("its bytes changed: %v", err)
+	}
+}
+
 // Each file of a history becomes its user's alone as it is opened, whoever might read it before.
 func TestFilesOfAHistoryThatOthersMayRead(t *testing.T) {
 	room := t.TempDir()

@@ -211,23 +211,10 @@ func TestLinesOfAPart(t *testing.T) {
 		t.Errorf("a line that can't be taken: %v", err)
 	}
 	for _, room := range []int{0, 1, 100} {
-		if err := writeLines(&cramped{room}, io.Discard, opened.read, asTheyAre); !errors.Is(err, errRoom) {
+		if err := writeLines(&fixture.Cramped{Room: room}, io.Discard, opened.read, asTheyAre); !errors.Is(err, fixture.ErrRoom) {
 			t.Errorf("a disk with room for %d bytes: %v", room, err)
 		}
 	}
-}
-
-var errRoom = errors.New("no space left on device")
-
-// cramped is a writer with room for so many bytes.
-type cramped struct{ room int }
-
-func (c *cramped) Write(text []byte) (int, error) {
-	if len(text) > c.room {
-		return 0, errRoom
-	}
-	c.room -= len(text)
-	return len(text), nil
 }
 
 // What a device shares is what its configuration says: no index is read, and a folder that is away is another one.
