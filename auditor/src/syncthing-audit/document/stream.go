@@ -49,7 +49,7 @@ func (s *Stream) Add(row *join.Row) (*Document, *part.LeftOut) {
 		return nil, doubled
 	}
 	var full *Document
-	if s.alone != nil || len(s.rows) == mostRows || len(s.rows) > 0 && len(s.lines)+len(line) > bytesOfStream {
+	if s.alone != nil || len(s.rows) == mostRows || len(s.lines)+len(line) > bytesOfStream {
 		full = s.Take()
 		s.takeSequences(row)
 	}

@@ -276,6 +276,10 @@ func TestLinesOfJustAsManyBytes(t *testing.T) {
 		if made, out := streamed(twoDevices(), rows); out != nil || (len(made) == 1) != (more <= 0) {
 			t.Errorf("%d bytes more than a stream: %d streams, without %v", more, len(made), out)
 		}
+		two := []*join.Row{rowOfLine("a", 1, mostBytesOfLine), rowOfLine("b", 2, bytesOfStream-mostBytesOfLine+more)}
+		if made, out := streamed(twoDevices(), two); out != nil || (len(made) == 1) != (more <= 0) {
+			t.Errorf("%d bytes more than a stream in two lines: %d streams, without %v", more, len(made), out)
+		}
 	}
 }
 
