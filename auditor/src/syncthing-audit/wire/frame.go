@@ -37,12 +37,12 @@ const longestHeader = 1024
 
 // readFrame reads a message: the length of its header, the header, the message's length, the message. It calls begun behind the first bytes.
 func readFrame(from io.Reader, most int, begun func()) (what kind, text []byte, err error) {
-	var length [4]byte
-	if _, err := io.ReadFull(from, length[:2]); err != nil {
+	var length [2]byte
+	if _, err := io.ReadFull(from, length[:]); err != nil {
 		return what, nil, err
 	}
 	begun()
-	of := int(binary.BigEndian.Uint16(length[:2]))
+	of := int(binary.BigEndian.Uint16(length[:]))
 	if of > longestHeader {
 		return what, nil, fmt.Errorf("%w: a header of %d bytes", TooLong, of)
 	}
