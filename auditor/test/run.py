@@ -10,8 +10,8 @@ It installs nothing. Where something is missing it says what, and skips all; a c
 then. With SECONDS, cases that aren't begun by then are skipped; so are all where building takes longer. What was begun
 goes on to its end, for which it has more time than a slow machine needs: what hangs fails. The number of commits says with
 which class it begins then, so that each class has its turn. Go's tests run beside the classes: by themselves they would take
-all of the gate's time. Devices on a busy machine may be slow once, so a class that fails is run again; what it said the first
-time is told, whatever comes then.
+all of the gate's time. A busy machine may be slow once, so a class that fails, or a package of Go, is run again; what it said
+the first time is told, whatever comes then.
 """
 
 import ast
@@ -109,16 +109,35 @@ def build(room, environment, deadline):
 
 
 def run_go(environment):
-    """Builds and runs Go's tests, and gives how many passed and failed."""
+    """Builds and runs Go's tests, and gives how many passed and failed. Packages that fail are run once more."""
     from exporting import PROGRAM
-    status, said = run_until(time.monotonic() + 2 * SECONDS_OF_GO,
-                             ["go", "test", "-p", "1", "-count=1", "-v", f"-timeout={SECONDS_OF_GO}s", f"{PROGRAM}/..."], env=environment)
-    passed = len(re.findall(r"^--- PASS", said, re.MULTILINE))
-    failed = len(re.findall(r"^--- FAIL", said, re.MULTILINE))
-    if status != 0 or not passed:
+    status, said = go_test(environment, f"{PROGRAM}/...")
+    passed, failed = count_of_go(said)
+    if status != 0:
         print("---- Go's tests", said, sep="\n")
+        packages = re.findall(r"^FAIL\t(\S+)", said, re.MULTILINE)
+        if not packages:
+            return passed, max(failed, 1)
+        print("---- Go's tests that failed are run again, with all others of", ", ".join(packages))
+        status, again = go_test(environment, *packages)
+        failed_once = failed
+        _, failed = count_of_go(again)
+        passed += max(failed_once - failed, 0)
+        print(again if status != 0 else "they passed this time")
+    if status != 0 or not passed:
         failed = max(failed, 1)
     return passed, failed
+
+
+def go_test(environment, *packages):
+    """Runs Go's tests of these packages, and gives the status, nothing if they took too long, and what was said."""
+    return run_until(time.monotonic() + 2 * SECONDS_OF_GO,
+                     ["go", "test", "-p", "1", "-count=1", "-v", f"-timeout={SECONDS_OF_GO}s", *packages], env=environment)
+
+
+def count_of_go(said):
+    """How many of Go's tests passed and failed, by what go test said."""
+    return (len(re.findall(r"^--- PASS", said, re.MULTILINE)), len(re.findall(r"^--- FAIL", said, re.MULTILINE)))
 
 
 def run_class(module, name, environment, deadline):
