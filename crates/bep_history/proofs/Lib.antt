@@ -2,3 +2,4 @@ mod Filtered
 mod EachSeat
 mod Moves
 mod PartsFit
+mod AddedIsClaimed

@@ -6,7 +6,7 @@ use Rattle.bep_fit.specs.Fit.{AreOfOneRound, Fits}
 use Rattle.bep_fit.specs.Logs.{HasLog, ObjectLog}
 use Rattle.bep_fit.specs.Merge as lists
 use Rattle.bep_history.specs.declared.view.View.{View}
-use Rattle.bep_history.specs.View.{IsTold, row}
+use Rattle.bep_history.specs.View.{IsTold, MayAdd, claims_of, row, with_event}
 
 -- in each log the tickets rise
 abbrev pub AllRise : List ObjectLog → Type 0
@@ -18,3 +18,8 @@ PartsFit = (objects : List Object) (old : View) (logs : List ObjectLog) →
     IsTold objects old → ((log : ObjectLog) → Contains logs log → Contains old.rows (row log.object log.events)) →
     ((object : Object) → Contains objects object → HasLog logs object) → AllRise logs → AreOfOneRound logs →
     (count : ℕ) × Fits logs count
+
+-- what a seat has added stands among the claims that it gives
+abbrev pub AddedIsClaimed : Type 0
+AddedIsClaimed = (objects : List Object) (old : View) (event : Stamped) →
+    MayAdd objects old event → Contains (claims_of (with_event event old)).claims event

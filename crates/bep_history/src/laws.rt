@@ -1,5 +1,5 @@
-//! The parts of one history fit. The function does nothing; its contract is the law.
-ghost use Rattle.bep_history.specs.Laws.{PartsFit};
+//! What the parts of one history are together, and what a receipt claims. Each function does nothing; its contract is the law.
+ghost use Rattle.bep_history.specs.Laws.{AddedIsClaimed, PartsFit};
 
 use bep_fit::{faultless_logs_agree, faultless_logs_merge};
 
@@ -11,3 +11,8 @@ pub fn parts_fit()
     faultless_logs_agree();
     faultless_logs_merge();
 }
+
+/// An event that a seat has added stands among the claims of a receipt that it then gives.
+pub fn added_is_claimed()
+    ensures { AddedIsClaimed }
+{}

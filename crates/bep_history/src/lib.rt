@@ -12,6 +12,6 @@ mod seats;
 mod view;
 
 pub use history::{History, Place};
-pub use laws::parts_fit;
+pub use laws::{added_is_claimed, parts_fit};
 pub use plays::{Law, Named};
 pub use view::{Row, View};
