@@ -3,6 +3,7 @@ pub mod Certified
 pub mod Beside
 pub mod Exchange
 pub mod Firm
+pub mod Heard
 pub mod Partial
 pub mod Status
 pub mod Laws

@@ -9,7 +9,7 @@
 //!     }
 //!
 //! `firm_text` asks for firm in place of settled, and `certify_text` writes the document with its certificate.
-//! `check_and_tell`, `firm_and_tell`, `certify_and_tell` and `certify_partly_and_tell` also tell a hint on standard error,
+//! `check_and_tell`, `firm_and_tell`, `certify_and_tell` and `certify_partly_and_tell` also tell a person a hint,
 //! and answer the exit status; `check_under_winners_and_tell` and `firm_under_winners_and_tell` certify a cut and audit it
 //! under that certificate at once. `exchange` answers whatever question is asked of a document: these here, all that fails
 //! (`bep_explain`), or where a scenario leads (`bep_play`).
@@ -23,6 +23,7 @@ mod firm;
 mod laws;
 mod outcome;
 mod partial;
+mod person;
 mod refusing;
 mod status;
 mod told;
@@ -36,6 +37,7 @@ pub use firm::{FirmnessOfCut, firmness_of};
 pub use laws::{answers_are_unique, certify_then_check};
 pub use outcome::{Certified, Firmness, Outcome, Partial};
 pub use partial::PartOfCut;
+pub use person::{Person, Said, StandardError};
 pub use refusing::{fault_line, hint_for, refusal};
 pub use status::{USAGE, certified_status_of, firm_status_of, partial_status_of, status_of};
 pub use told::{

@@ -1,14 +1,16 @@
 //! All that keeps a document's cut from converging: written, a hint told on standard error, and the exit status answered.
 ghost use Rattle.std.specs.Prelude.{◌≡◌, IfOk, map};
 ghost use Rattle.bep_answer.specs.Beside.{TellsOfCut};
+ghost use Rattle.bep_answer.specs.Heard.{IsHeard};
 ghost use Rattle.bep_converge_answer.specs.Convergence as answered;
+ghost use Rattle.bep_converge_answer.specs.Status.{converge_status_of};
 ghost use Rattle.bep_converge_check.specs.Hindrance.{hinder_shown};
 ghost use Rattle.bep_converge_check.specs.Hindrances.{converge_verdict_of};
 ghost use Rattle.bep_converge_explain.specs.Explained.{IsConvergeExplainedOfBytes, IsConvergeExplanation, IsConvergeExplanationTold, IsConvergeWritten};
 
 use crate::as_json::converge_explanation_json;
 use crate::text::converge_explanation;
-use bep_answer::{Answer, Question, exchange, hint_for};
+use bep_answer::{Answer, Person, Question, exchange, hint_for};
 use bep_converge_answer::{Convergence, end_converge};
 use bep_converge_check::{Hindrance, hindrances};
 use bep_cut_document::{DocError, read_cut};
@@ -91,14 +93,16 @@ fn convergence_for(found: &[Hindrance<'_>]) -> Convergence
 /// document is refused. As JSON it is one document on a line: what fails, in the same order, and whether that is nothing; or the
 /// fault. Tells a hint on where a refused document is at fault, or why there is no answer, on standard error, and answers the exit
 /// status. The certificate may be missing, and isn't looked at.
-pub fn explain_converge_and_tell<P: AllocGlobal + Eprint, R: Read, W: Write>(
+pub fn explain_converge_and_tell<P: AllocGlobal, H: Person, R: Read, W: Write>(
     rt: &P,
+    person: &mut H,
     form: Form,
     reader: &mut R,
     writer: &mut W,
 ) -> u8
-    ensures { IsConvergeExplanationTold form (R.remaining reader.old) (R.remaining reader.new) (W.contents writer.old) (W.contents writer.new) result }
+    ensures told { IsConvergeExplanationTold form (R.remaining reader.old) (R.remaining reader.new) (W.contents writer.old) (W.contents writer.new) result }
+    ensures heard { IsHeard converge_status_of TellsOfCut (R.remaining reader.old) (R.remaining reader.new) (H.heard person.old) (H.heard person.new) result }
 {
     let answer = exchange(rt.alloc(), HindrancesOfCut { form }, reader, writer);
-    end_converge(rt, answer)
+    end_converge(person, answer)
 }

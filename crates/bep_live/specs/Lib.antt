@@ -1,4 +1,4 @@
 pub mod Lines
 pub mod Lived
+pub mod Beside
 pub mod Told
-pub mod inner

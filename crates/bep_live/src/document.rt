@@ -2,7 +2,7 @@
 ghost use Rattle.std.specs.Prelude.{IfErr, IfOk};
 ghost use Rattle.bep_answer.specs.Exchange.{IsEndedEarly, IsWhole};
 ghost use Rattle.bep_scenario.specs.Scenario.{said_lazily};
-ghost use Rattle.bep_live.specs.inner.Beside.{IsLiveEndWith, IsLivedBeside};
+ghost use Rattle.bep_live.specs.Beside.{IsLiveEndWith, IsLivedBeside};
 ghost use Rattle.bep_answer.specs.Certified.{IsCertificate};
 ghost use Rattle.bep_live.specs.Lived.{IsLiveEndOfBytes, IsLivedTo, cut_in};
 

@@ -2,7 +2,7 @@
 ghost use Rattle.std.specs.Prelude.{◌≡◌, IfErr, IfOk};
 ghost use Rattle.bep_answer.specs.Exchange.{IsEndedEarly, IsWhole};
 ghost use Rattle.bep_scenario.specs.Scenario.{said_lazily};
-ghost use Rattle.bep_live.specs.inner.Beside.{IsLiveWith, IsLivedWith};
+ghost use Rattle.bep_live.specs.Beside.{IsLiveWith, IsLivedWith};
 ghost use Rattle.bep_live.specs.Lived.{IsLiveOfBytes, IsLived, cut_in};
 ghost use Rattle.bep_live.specs.Lived as life;
 ghost use Rattle.bep_play.specs.Played.{IsEnd};

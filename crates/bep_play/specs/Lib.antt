@@ -1,4 +1,5 @@
 pub mod Played
+pub mod Beside
 pub mod Told
 pub mod Laws
 pub mod inner

@@ -1,2 +1,1 @@
 -- What only private contracts say: no public contract rests on it.
-pub mod Beside

@@ -2,7 +2,7 @@
 ghost use Rattle.std.specs.Prelude.{IfOk, IsUtf8};
 ghost use Rattle.bep_answer.specs.Beside.{AreLines};
 ghost use Rattle.bep_scenario.specs.Scenario.{said_lazily};
-ghost use Rattle.bep_play.specs.inner.Beside.{TellsOfEnd, TellsSteps};
+ghost use Rattle.bep_play.specs.Beside.{TellsOfEnd, TellsSteps};
 ghost use Rattle.bep_play.specs.Played.{IsEndOfBytes, IsPlayedTo};
 
 use crate::ending::document_of_end;

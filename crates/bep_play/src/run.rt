@@ -1,7 +1,7 @@
 //! A scenario's run.
 ghost use Rattle.std.specs.Prelude.{IfOk};
 ghost use Rattle.bep_scenario.specs.Scenario.{said_lazily};
-ghost use Rattle.bep_play.specs.inner.Beside.{TellsOfRun};
+ghost use Rattle.bep_play.specs.Beside.{TellsOfRun};
 ghost use Rattle.bep_play.specs.Played.{IsPlayed, IsRunOfBytes};
 
 use crate::ending::report_on_end;

@@ -23,7 +23,7 @@ use Rattle.bep_rows.specs.Standing.{IsStanding}
 use Rattle.bep_rows.specs.Stream.{IsReadTo}
 use Rattle.bep_rows.specs.ListRead.{HasKeys, IsListRead}
 use Rattle.bep_rows.proofs.Reading.{all_read, in_first, up_to_below}
-use Rattle.bep_rows.proofs.Whole.{ByParts}
+use Rattle.bep_rows.proofs.ThreeParts.{ByParts}
 
 -- one more, of another name than all
 differ_more : (rows : List NameRow) (row : NameRow) → NamesDiffer rows → ((one : NameRow) → Contains rows one → key_of_row one ≢ key_of_row row) → NamesDiffer (rows ++ row ∷ [])

@@ -18,7 +18,8 @@ use Rattle.bep_rows.specs.Names.{IsAbove, IsUpTo, Key, NamesAreAmong, among, is_
 use Rattle.bep_rows.specs.Standing.{IsJudged, IsStanding, joined}
 use Rattle.bep_rows.specs.Stream.{IsReadTo}
 use Rattle.bep_rows.proofs.Kept.{firm_where_unknown, only_twice, settled_where_unknown}
-use Rattle.bep_rows.proofs.Whole.{ByParts, whole_stands}
+use Rattle.bep_rows.proofs.ThreeParts.{ByParts}
+use Rattle.bep_rows.proofs.Whole.{whole_stands}
 
 -- the test of a name finds this name alone
 is_the_name : (key : Key) (folder : Folder) (name : FileName) → is_name key folder name ≡ true → key ≡ (folder, name)

@@ -35,6 +35,7 @@ use Rattle.bep_rows.specs.Standing.{IsJudged, IsStanding, IsUnderWinners, failin
 use Rattle.bep_rows.proofs.Kept.{firm_where_unknown, rise_both, rows_all_kept, rows_none_kept, rows_of_both, settled_where_unknown}
 use Rattle.bep_rows.proofs.Stands.{stands}
 use Rattle.bep_rows.proofs.Order.{earlier_is_up_to, itself_is_up_to, later_is_up_to, loose_rank, rank}
+use Rattle.bep_rows.proofs.ThreeParts.{ByParts, firm_by_three, settled_by_three, up_to_firm, up_to_settled}
 
 -- all names of one part are below all of the other
 abbrev pub IsBelow : Keeps → Keeps → Type 0
@@ -69,60 +70,6 @@ module _ (t : Tables) (keeps : Keeps) (folder : Folder) (name : FileName) where
 -- the rows of a part are of its names
 rows_kept : (t : Tables) (keeps : Keeps) (rows : List Row) → IsListOfWinners (only keeps t) rows → (row : Row) → Contains rows row → keeps row.folder row.entry.name ≡ true
 rows_kept t keeps rows winners row member = known_kept keeps t row.folder row.entry.name ((winners.names row.folder row.entry.name).1 (row, member, refl))
-
--- ---- the verdict on three parts
-
--- the verdict on a cut is the first of those on three parts of which it is that on the first or the second
-abbrev ByThree : (V : Type 0) → (Tables → List Row → V → Type 0) → (V → V → Type 0) → Type 0
-ByThree V Is UpTo = (t : Tables) (one two three : Keeps) (x y z verdict : V) (rows : List Row) → Rise rows →
-    ((folder : Folder) (name : FileName) → IsInSome (one ∷ two ∷ three ∷ []) folder name) →
-    Is (only one t) (rows_of one rows) x → Is (only two t) (rows_of two rows) y → Is (only three t) (rows_of three rows) z →
-    (verdict ≡ x) ⊎ (verdict ≡ y) → UpTo verdict x → UpTo verdict y → UpTo verdict z → Is t rows verdict
-
-of_three : {X : Type 0} (P : X → Type 0) (a b c : X) → P a → P b → P c → (x : X) → Contains (a ∷ b ∷ c ∷ []) x → P x
-of_three P a b c of_a of_b of_c x member =
-    ⊎_elim (λ same. subst P same of_a)
-    (λ more. ⊎_elim (λ same. subst P same of_b) (λ end. subst P (Contains-one c x end) of_c) (Contains-cons_cases b (c ∷ []) x more))
-    (Contains-cons_cases a (b ∷ c ∷ []) x member)
-
-settled_by_three : VerdictByParts → ByThree verdicts.Verdict verdicts.IsVerdict ComesUpTo
-settled_by_three by_parts t one two three x y z verdict rows rise each of_one of_two of_last among to_one to_two to_last =
-    let first : Judged = record { keeps = one; verdict = x } in
-    let second : Judged = record { keeps = two; verdict = y } in
-    let third : Judged = record { keeps = three; verdict = z } in
-    by_parts t (first ∷ second ∷ third ∷ []) rows verdict rise each
-    (of_three (λ (part : Judged). verdicts.IsVerdict (only part.keeps t) (rows_of part.keeps rows) part.verdict) first second third of_one of_two of_last)
-    (record {
-      among = ⊎_elim (λ same. (first, Contains-first first (second ∷ third ∷ []), sym same)) (λ same. (second, Contains-more first (second ∷ third ∷ []) second (Contains-first second (third ∷ [])), sym same)) among;
-      first = of_three (λ (part : Judged). ComesUpTo verdict part.verdict) first second third to_one to_two to_last;
-    })
-
-firm_by_three : FirmVerdictByParts → ByThree firm_verdicts.FirmVerdict firm_verdicts.IsFirmVerdict FirmComesUpTo
-firm_by_three by_parts t one two three x y z verdict rows rise each of_one of_two of_last among to_one to_two to_last =
-    let first : FirmJudged = record { keeps = one; verdict = x } in
-    let second : FirmJudged = record { keeps = two; verdict = y } in
-    let third : FirmJudged = record { keeps = three; verdict = z } in
-    by_parts t (first ∷ second ∷ third ∷ []) rows verdict rise each
-    (of_three (λ (part : FirmJudged). firm_verdicts.IsFirmVerdict (only part.keeps t) (rows_of part.keeps rows) part.verdict) first second third of_one of_two of_last)
-    (record {
-      among = ⊎_elim (λ same. (first, Contains-first first (second ∷ third ∷ []), sym same)) (λ same. (second, Contains-more first (second ∷ third ∷ []) second (Contains-first second (third ∷ [])), sym same)) among;
-      first = of_three (λ (part : FirmJudged). FirmComesUpTo verdict part.verdict) first second third to_one to_two to_last;
-    })
-
--- the verdict of what is settled comes last, and that of what is firm
-up_to_settled : (verdict : verdicts.Verdict) → ComesUpTo verdict verdicts.Settled
-up_to_settled verdicts.Settled = tt
-up_to_settled (verdicts.Not reason folder name device) = tt
-
-up_to_firm : (verdict : firm_verdicts.FirmVerdict) → FirmComesUpTo verdict firm_verdicts.Firm
-up_to_firm firm_verdicts.Firm = tt
-up_to_firm (firm_verdicts.Unsettled reason folder name device) = tt
-up_to_firm (firm_verdicts.Loose reason folder name device) = tt
-
--- the laws of both
-pub record ByParts : Type 0 where
-  pub settled : VerdictByParts
-  pub firm : FirmVerdictByParts
 
 -- what isn't in one test isn't in the one before or in the one after
 neither_one : (one other : Bool) → (if one then true else other) ≡ false → one ≡ false

@@ -27,7 +27,7 @@ use Rattle.bep_rows.specs.declared.aim.Aim.{Aim}
 use Rattle.bep_rows.specs.declared.standing.Standing.{Standing}
 use Rattle.bep_rows.specs.declared.stream.Stream.{Stream}
 use Rattle.bep_rows.proofs.ListRead.{none_is_read, one_more_is_read, whole_list_is_read}
-use Rattle.bep_rows.proofs.Whole.{ByParts}
+use Rattle.bep_rows.proofs.ThreeParts.{ByParts}
 use Rattle.bep_tables.specs.Cut.{tables_of}
 use Rattle.bep_tables.specs.declared.cut.CutParts.{CutParts}
 use Rattle.bep_tables.specs.declared.link.LinkState.{LinkState}

@@ -1,6 +1,9 @@
 -- What came of a stream of rows, and what an exit status of 0 says of it (this project's profile).
-use Rattle.std.specs.Prelude.{◌≡◌, ℕ, List, ◌∷◌, Option, None, Result, MatchResult}
+use Rattle.std.specs.Prelude.{◌≡◌, ℕ, List, [], ◌∷◌, Option, None, Result, MatchResult}
 use Rattle.std.specs.Io.KnownBytes.{Consumes, IsAtEnd}
+use Rattle.bep_answer.specs.Heard.{Hears}
+use Rattle.bep_answer.specs.declared.person.Said.{Said}
+use Rattle.bep_answer.specs.declared.person.Said.TheVariants.{Why}
 use Rattle.bep_document.specs.Reading.{Read}
 use Rattle.bep_json.specs.declared.version.DocVersion.{DocVersion}
 use Rattle.bep_machine.specs.FreeLaws.{FirmStaysPut}
@@ -27,6 +30,12 @@ pub record IsRowsTold (aim : Aim) (unread left held now : Option (List ℕ)) (st
   pub answer : Result RowsOutcome ReportError
   pub told : status ≡ rows_status_of aim answer
   pub done : MatchResult answer (IsAnswered aim unread left held now) (λ _. IsGrownText held now)
+
+-- beside it nothing is told: a person hears why there is no answer, and else nothing
+pub record IsRowsHeard (aim : Aim) (heard now : Option (List Said)) (status : ℕ) : Type 0 where
+  pub answer : Result RowsOutcome ReportError
+  pub told : status ≡ rows_status_of aim answer
+  pub hears : MatchResult answer (λ _. Hears heard now []) (λ error. Hears heard now (Why error ∷ []))
 
 -- the two that may be asked
 abbrev pub IsSettledRowsTold : Option (List ℕ) → Option (List ℕ) → Option (List ℕ) → Option (List ℕ) → ℕ → Type 0

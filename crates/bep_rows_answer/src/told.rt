@@ -1,9 +1,10 @@
 //! A stream of rows is answered, and the exit status says how.
 ghost use Rattle.std.specs.Prelude.{◌≡◌};
-ghost use Rattle.bep_rows_answer.specs.Told.{IsFirmRowsTold, IsSettledRowsTold, SaysFirmRows, SaysSettledRows};
+ghost use Rattle.bep_rows.specs.declared.aim.Aim.TheVariants.{Firm, Settled};
+ghost use Rattle.bep_rows_answer.specs.Told.{IsFirmRowsTold, IsRowsHeard, IsSettledRowsTold, SaysFirmRows, SaysSettledRows};
 
 use crate::stream::rows_text;
-use bep_answer::{end, end_firm};
+use bep_answer::{Person, end, end_firm};
 use bep_machine::{firm_stays_put, settled_stays_put, settled_stays_settled};
 use bep_model::firm_stays_firm;
 use bep_rows::Aim;
@@ -11,37 +12,41 @@ use std::io::{Read, Write};
 
 /// Answers a stream of rows as `rows_text` does; tells why there is no answer on standard error, and answers the exit status:
 /// 0 settled, 1 not settled, 2 a line refused, 4 out of memory, 5 a read or write fault.
-pub fn rows_and_tell<P: AllocGlobal + Eprint, R: Read, W: Write>(
+pub fn rows_and_tell<P: AllocGlobal, H: Person, R: Read, W: Write>(
     rt: &P,
+    person: &mut H,
     reader: &mut R,
     writer: &mut W,
 ) -> u8
     ensures told { IsSettledRowsTold (R.remaining reader.old) (R.remaining reader.new) (W.contents writer.old) (W.contents writer.new) result }
     ensures settled { result ≡ 0 → SaysSettledRows (R.remaining reader.old) (R.remaining reader.new) }
+    ensures heard { IsRowsHeard Settled (H.heard person.old) (H.heard person.new) result }
 {
     settled_stays_put();
     settled_stays_settled();
     match rows_text(rt.alloc(), Aim::Settled, reader, writer) {
-        Ok(outcome) => end(rt, Ok((outcome.settled(), None))),
-        Err(error) => end(rt, Err(error)),
+        Ok(outcome) => end(person, Ok((outcome.settled(), None))),
+        Err(error) => end(person, Err(error)),
     }
 }
 
 /// The same where firm is asked for: 0 firm, 1 not firm.
-pub fn firm_rows_and_tell<P: AllocGlobal + Eprint, R: Read, W: Write>(
+pub fn firm_rows_and_tell<P: AllocGlobal, H: Person, R: Read, W: Write>(
     rt: &P,
+    person: &mut H,
     reader: &mut R,
     writer: &mut W,
 ) -> u8
     ensures told { IsFirmRowsTold (R.remaining reader.old) (R.remaining reader.new) (W.contents writer.old) (W.contents writer.new) result }
     ensures firm { result ≡ 0 → SaysFirmRows (R.remaining reader.old) (R.remaining reader.new) }
+    ensures heard { IsRowsHeard Firm (H.heard person.old) (H.heard person.new) result }
 {
     firm_stays_firm();
     firm_stays_put();
     settled_stays_put();
     settled_stays_settled();
     match rows_text(rt.alloc(), Aim::Firm, reader, writer) {
-        Ok(outcome) => end_firm(rt, Ok((outcome.firmness(), None))),
-        Err(error) => end_firm(rt, Err(error)),
+        Ok(outcome) => end_firm(person, Ok((outcome.firmness(), None))),
+        Err(error) => end_firm(person, Err(error)),
     }
 }

@@ -13,6 +13,8 @@
 //!     }
 #![tactic(auto)]
 
+mod command;
+mod help;
 mod mode;
 mod release;
 mod told;

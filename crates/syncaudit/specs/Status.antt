@@ -4,21 +4,27 @@ use Rattle.std.specs.Io.KnownBytes.{Keeps}
 use Rattle.std.specs.declared.io.ErrorKind.{ErrorKind}
 use Rattle.std.specs.declared.io.ErrorKind.TheVariants.{OutOfMemory}
 use Rattle.bep_answer.specs.Answer.{SaysSettled}
+use Rattle.bep_answer.specs.Beside.{TellsOfCheck, TellsOfCut, TellsOfPart}
 use Rattle.bep_answer.specs.Firm.{SaysFirm}
-use Rattle.bep_answer.specs.Status.{IsCertificateTold, IsFirmTold, IsFirmToldUnderWinners, IsPartTold, IsTold, IsToldUnderWinners, status_of, usage}
+use Rattle.bep_answer.specs.Heard.{IsHeard}
+use Rattle.bep_answer.specs.Status.{IsCertificateTold, IsFirmTold, IsFirmToldUnderWinners, IsPartTold, IsTold, IsToldUnderWinners, certified_status_of, firm_status_of, partial_status_of, status_of, usage}
+use Rattle.bep_answer.specs.declared.person.Said.{Said}
 use Rattle.bep_answer.specs.UnderWinners.{SaysFirmUnderWinners, SaysSettledUnderWinners}
 use Rattle.bep_converge_answer.specs.Convergence.{SaysConverging}
-use Rattle.bep_converge_answer.specs.Status.{IsConvergeTold}
+use Rattle.bep_converge_answer.specs.Status.{IsConvergeTold, converge_status_of}
 use Rattle.bep_converge_explain.specs.Explained.{IsConvergeExplanationTold}
 use Rattle.bep_lines.specs.declared.form.Form.{Form}
+use Rattle.bep_live.specs.Beside.{IsLiveEndWith, IsLiveWith}
 use Rattle.bep_live.specs.Lived.{EndsLived}
-use Rattle.bep_live.specs.Told.{IsLiveEndTold, IsLiveTold}
+use Rattle.bep_live.specs.Told.{IsLiveEndTold, IsLiveHeard, IsLiveTold}
+use Rattle.bep_play.specs.Beside.{TellsOfEnd, TellsOfRun}
 use Rattle.bep_play.specs.Played.{EndsSettled}
 use Rattle.bep_play.specs.Told.{IsEndTold, IsRunTold}
 use Rattle.bep_explain.specs.document.FirmExplained.{IsFirmExplanationTold}
 use Rattle.bep_explain.specs.document.Told.{IsExplanationTold}
 use Rattle.bep_explain.specs.document.UnderWinners.{IsExplanationToldUnderWinners, IsFirmExplanationToldUnderWinners}
-use Rattle.bep_rows_answer.specs.Told.{IsFirmRowsTold, IsSettledRowsTold, SaysFirmRows, SaysSettledRows}
+use Rattle.bep_rows_answer.specs.Told.{IsFirmRowsTold, IsRowsHeard, IsSettledRowsTold, SaysFirmRows, SaysSettledRows}
+use Rattle.bep_rows.specs.declared.aim.Aim.TheVariants as standards
 use Rattle.bep_report.specs.declared.error.ReportError.TheVariants.{Memory}
 use Rattle.clap.specs.Words.{Text, fault_of}
 use Rattle.bep_words.specs.Mode.{Asks, program}
@@ -37,86 +43,86 @@ use Rattle.bep_words.specs.declared.mode.Under.{Under}
 use Rattle.bep_words.specs.declared.mode.Under.TheVariants.{Given, Winners}
 
 -- what came of a scenario for each ending that is asked for
-abbrev pub IsEnding : Ending → Option (List ℕ) → Option (List ℕ) → Option (List ℕ) → Option (List ℕ) → ℕ → Type 0
-IsEnding Report = IsRunTold
-IsEnding Document = IsEndTold
+abbrev pub IsEnding : Ending → Option (List ℕ) → Option (List ℕ) → Option (List ℕ) → Option (List ℕ) → Option (List Said) → Option (List Said) → ℕ → Type 0
+IsEnding Report unread left held now heard hears status = IsRunTold unread left held now status × IsHeard status_of TellsOfRun unread left heard hears status
+IsEnding Document unread left held now heard hears status = IsEndTold unread left held now status × IsHeard certified_status_of TellsOfEnd unread left heard hears status
 
 -- the same where threads run its cluster after the steps
-abbrev pub IsLiveEnding : Ending → Option (List ℕ) → Option (List ℕ) → Option (List ℕ) → Option (List ℕ) → ℕ → Type 0
-IsLiveEnding Report = IsLiveTold
-IsLiveEnding Document = IsLiveEndTold
+abbrev pub IsLiveEnding : Ending → Option (List ℕ) → Option (List ℕ) → Option (List ℕ) → Option (List ℕ) → Option (List Said) → Option (List Said) → ℕ → Type 0
+IsLiveEnding Report unread left held now heard hears status = IsLiveTold unread left held now status × IsLiveHeard status_of IsLiveWith unread left held now heard hears status
+IsLiveEnding Document unread left held now heard hears status = IsLiveEndTold unread left held now status × IsLiveHeard certified_status_of IsLiveEndWith unread left held now heard hears status
 
 -- what came of a scenario for the turns that threads are to make: without turns exactly what its steps lead to
-pub record IsRunning (ending : Ending) (turns : ℕ) (unread left held now : Option (List ℕ)) (status : ℕ) : Type 0 where
-  pub at_rest : turns ≡ 0 → IsEnding ending unread left held now status
-  pub live : 0 < turns → IsLiveEnding ending unread left held now status
+pub record IsRunning (ending : Ending) (turns : ℕ) (unread left held now : Option (List ℕ)) (heard hears : Option (List Said)) (status : ℕ) : Type 0 where
+  pub at_rest : turns ≡ 0 → IsEnding ending unread left held now heard hears status
+  pub live : 0 < turns → IsLiveEnding ending unread left held now heard hears status
 
 -- what came of the document for the rows under which an audit is asked for
-abbrev pub IsChecking : Under → Option (List ℕ) → Option (List ℕ) → Option (List ℕ) → Option (List ℕ) → ℕ → Type 0
-IsChecking Given = IsTold
-IsChecking Winners = IsToldUnderWinners
+abbrev pub IsChecking : Under → Option (List ℕ) → Option (List ℕ) → Option (List ℕ) → Option (List ℕ) → Option (List Said) → Option (List Said) → ℕ → Type 0
+IsChecking Given unread left held now heard hears status = IsTold unread left held now status × IsHeard status_of TellsOfCheck unread left heard hears status
+IsChecking Winners unread left held now heard hears status = IsToldUnderWinners unread left held now status × IsHeard status_of TellsOfCut unread left heard hears status
 
 -- the same where firm is asked for
-abbrev pub IsFirming : Under → Option (List ℕ) → Option (List ℕ) → Option (List ℕ) → Option (List ℕ) → ℕ → Type 0
-IsFirming Given = IsFirmTold
-IsFirming Winners = IsFirmToldUnderWinners
+abbrev pub IsFirming : Under → Option (List ℕ) → Option (List ℕ) → Option (List ℕ) → Option (List ℕ) → Option (List Said) → Option (List Said) → ℕ → Type 0
+IsFirming Given unread left held now heard hears status = IsFirmTold unread left held now status × IsHeard firm_status_of TellsOfCheck unread left heard hears status
+IsFirming Winners unread left held now heard hears status = IsFirmToldUnderWinners unread left held now status × IsHeard firm_status_of TellsOfCut unread left heard hears status
 
 -- what came of the stream of rows for what is asked of it
-abbrev pub IsReadingRows : Aim → Option (List ℕ) → Option (List ℕ) → Option (List ℕ) → Option (List ℕ) → ℕ → Type 0
-IsReadingRows aims.Settled = IsSettledRowsTold
-IsReadingRows aims.Firm = IsFirmRowsTold
+abbrev pub IsReadingRows : Aim → Option (List ℕ) → Option (List ℕ) → Option (List ℕ) → Option (List ℕ) → Option (List Said) → Option (List Said) → ℕ → Type 0
+IsReadingRows aims.Settled unread left held now heard hears status = IsSettledRowsTold unread left held now status × IsRowsHeard standards.Settled heard hears status
+IsReadingRows aims.Firm unread left held now heard hears status = IsFirmRowsTold unread left held now status × IsRowsHeard standards.Firm heard hears status
 
 -- what came of the document for the certificate that is asked for
-abbrev pub IsCertifying : Extent → Option (List ℕ) → Option (List ℕ) → Option (List ℕ) → Option (List ℕ) → ℕ → Type 0
-IsCertifying All = IsCertificateTold
-IsCertifying Won = IsPartTold
+abbrev pub IsCertifying : Extent → Option (List ℕ) → Option (List ℕ) → Option (List ℕ) → Option (List ℕ) → Option (List Said) → Option (List Said) → ℕ → Type 0
+IsCertifying All unread left held now heard hears status = IsCertificateTold unread left held now status × IsHeard certified_status_of TellsOfCut unread left heard hears status
+IsCertifying Won unread left held now heard hears status = IsPartTold unread left held now status × IsHeard partial_status_of TellsOfPart unread left heard hears status
 
 -- what came of the document for what is to be explained, in the form that is asked for
-abbrev pub IsExplainingGiven : Goal → Form → Option (List ℕ) → Option (List ℕ) → Option (List ℕ) → Option (List ℕ) → ℕ → Type 0
-IsExplainingGiven Settled form = IsExplanationTold form
-IsExplainingGiven goals.Firm form = IsFirmExplanationTold form
-IsExplainingGiven goals.Converging form = IsConvergeExplanationTold form
+abbrev pub IsExplainingGiven : Goal → Form → Option (List ℕ) → Option (List ℕ) → Option (List ℕ) → Option (List ℕ) → Option (List Said) → Option (List Said) → ℕ → Type 0
+IsExplainingGiven Settled form unread left held now heard hears status = IsExplanationTold form unread left held now status × IsHeard status_of TellsOfCheck unread left heard hears status
+IsExplainingGiven goals.Firm form unread left held now heard hears status = IsFirmExplanationTold form unread left held now status × IsHeard firm_status_of TellsOfCheck unread left heard hears status
+IsExplainingGiven goals.Converging form unread left held now heard hears status = IsConvergeExplanationTold form unread left held now status × IsHeard converge_status_of TellsOfCut unread left heard hears status
 
 -- the same under the winners of its names, at which nobody looks where it is asked what keeps it from converging
-abbrev pub IsExplainingUnderWinners : Goal → Form → Option (List ℕ) → Option (List ℕ) → Option (List ℕ) → Option (List ℕ) → ℕ → Type 0
-IsExplainingUnderWinners Settled form = IsExplanationToldUnderWinners form
-IsExplainingUnderWinners goals.Firm form = IsFirmExplanationToldUnderWinners form
-IsExplainingUnderWinners goals.Converging form = IsConvergeExplanationTold form
+abbrev pub IsExplainingUnderWinners : Goal → Form → Option (List ℕ) → Option (List ℕ) → Option (List ℕ) → Option (List ℕ) → Option (List Said) → Option (List Said) → ℕ → Type 0
+IsExplainingUnderWinners Settled form unread left held now heard hears status = IsExplanationToldUnderWinners form unread left held now status × IsHeard status_of TellsOfCut unread left heard hears status
+IsExplainingUnderWinners goals.Firm form unread left held now heard hears status = IsFirmExplanationToldUnderWinners form unread left held now status × IsHeard firm_status_of TellsOfCut unread left heard hears status
+IsExplainingUnderWinners goals.Converging form unread left held now heard hears status = IsConvergeExplanationTold form unread left held now status × IsHeard converge_status_of TellsOfCut unread left heard hears status
 
 -- one of the two
-abbrev pub IsExplaining : Goal → Under → Form → Option (List ℕ) → Option (List ℕ) → Option (List ℕ) → Option (List ℕ) → ℕ → Type 0
+abbrev pub IsExplaining : Goal → Under → Form → Option (List ℕ) → Option (List ℕ) → Option (List ℕ) → Option (List ℕ) → Option (List Said) → Option (List Said) → ℕ → Type 0
 IsExplaining goal Given form = IsExplainingGiven goal form
 IsExplaining goal Winners form = IsExplainingUnderWinners goal form
 
 -- what came of the document, or of the stream of rows, in each mode
-abbrev pub IsDone : Mode → Option (List ℕ) → Option (List ℕ) → Option (List ℕ) → Option (List ℕ) → ℕ → Type 0
+abbrev pub IsDone : Mode → Option (List ℕ) → Option (List ℕ) → Option (List ℕ) → Option (List ℕ) → Option (List Said) → Option (List Said) → ℕ → Type 0
 IsDone (Check under) = IsChecking under
 IsDone (Firm under) = IsFirming under
-IsDone Converge = IsConvergeTold
+IsDone Converge unread left held now heard hears status = IsConvergeTold unread left held now status × IsHeard converge_status_of TellsOfCut unread left heard hears status
 IsDone (Certify extent) = IsCertifying extent
 IsDone (Explain goal under form) = IsExplaining goal under form
 IsDone (Rows aim) = IsReadingRows aim
 IsDone (Run ending turns) = IsRunning ending turns
 
 -- the words ask for a mode, and this came of the document in it
-abbrev pub IsFollowed : List Text → Option (List ℕ) → Option (List ℕ) → Option (List ℕ) → Option (List ℕ) → ℕ → Type 0
-IsFollowed words unread left held now status = (mode : Mode) × Asks words mode × IsDone mode unread left held now status
+abbrev pub IsFollowed : List Text → Option (List ℕ) → Option (List ℕ) → Option (List ℕ) → Option (List ℕ) → Option (List Said) → Option (List Said) → ℕ → Type 0
+IsFollowed words unread left held now heard hears status = (mode : Mode) × Asks words mode × IsDone mode unread left held now heard hears status
 
 -- the status tells that the words weren't followed, or that there was no memory for them, and nothing was read or written
 abbrev pub IsUnfollowed : Option (List ℕ) → Option (List ℕ) → Option (List ℕ) → Option (List ℕ) → ℕ → Type 0
 IsUnfollowed unread left held now status = ((status ≡ usage) ⊎ (status ≡ status_of (Err Memory))) × (left ≡ unread) × Keeps held now
 
 -- one of the two came of the words
-abbrev pub IsEnd : List Text → Option (List ℕ) → Option (List ℕ) → Option (List ℕ) → Option (List ℕ) → ℕ → Type 0
-IsEnd words unread left held now status = IsUnfollowed unread left held now status ⊎ IsFollowed words unread left held now status
+abbrev pub IsEnd : List Text → Option (List ℕ) → Option (List ℕ) → Option (List ℕ) → Option (List ℕ) → Option (List Said) → Option (List Said) → ℕ → Type 0
+IsEnd words unread left held now heard hears status = IsUnfollowed unread left held now status ⊎ IsFollowed words unread left held now heard hears status
 
 -- what comes of the words that the program is given
-pub record IsProgramRun (words : List Text) (unread left held now : Option (List ℕ)) (status : ℕ) : Type 0 where
+pub record IsProgramRun (words : List Text) (unread left held now : Option (List ℕ)) (heard hears : Option (List Said)) (status : ℕ) : Type 0 where
   -- those in which nothing is at fault are followed
-  pub followed : fault_of program words ≡ [] → IsFollowed words unread left held now status
+  pub followed : fault_of program words ≡ [] → IsFollowed words unread left held now heard hears status
   -- others aren't: those that clap refuses, and those that ask for help or for the version
   pub unfollowed : fault_of program words ≢ [] → IsUnfollowed unread left held now status
-  pub end : IsEnd words unread left held now status
+  pub end : IsEnd words unread left held now heard hears status
   pub settled : Asks words (Check Given) → status ≡ 0 → SaysSettled unread left
   pub settled_under_winners : Asks words (Check Winners) → status ≡ 0 → SaysSettledUnderWinners unread left
   pub firm : Asks words (Firm Given) → status ≡ 0 → SaysFirm unread left

@@ -5,6 +5,7 @@
 mod run;
 
 use crate::run::run_given;
+use bep_answer::StandardError;
 pub use bep_answer::{
     Certified, Firmness, Outcome, certified_status_of, certify_text, check_text, firm_status_of,
     firm_text, status_of,
@@ -19,5 +20,12 @@ use std::process::ExitCode;
 
 fn main(rt: HostRuntime) -> ExitCode {
     let words = env::args(&rt);
-    ExitCode::from(run_given(&rt, &mut rt.stdin(), &mut rt.stdout(), words))
+    let mut person = StandardError::of(&rt);
+    ExitCode::from(run_given(
+        &rt,
+        &mut person,
+        &mut rt.stdin(),
+        &mut rt.stdout(),
+        words,
+    ))
 }

@@ -20,7 +20,7 @@ ghost use Rattle.bep_words.specs.declared.mode.Mode.TheVariants.{Check, Converge
 ghost use Rattle.bep_words.specs.declared.mode.Under.TheVariants.{Given, Winners};
 
 use bep_answer::{
-    USAGE, certify_and_tell, certify_partly_and_tell, check_and_tell, check_under_winners_and_tell,
+    Person, USAGE, certify_and_tell, certify_partly_and_tell, check_and_tell, check_under_winners_and_tell,
     end, firm_and_tell, firm_under_winners_and_tell,
 };
 use bep_converge_answer::converge_and_tell;
@@ -46,34 +46,36 @@ use std::thread::Threads;
 
 /// Does what the words ask for that the system gave the program, all of them, as `run` does; or tells why it gave none, and
 /// answers the exit status. Without words nothing is read or written. May wait, as `run` may.
-pub fn run_given<P: AllocGlobal + Eprint + Threads + Wait + Sync, R: Read, W: Write>(
+pub fn run_given<P: AllocGlobal + Eprint + Threads + Wait + Sync, H: Person, R: Read, W: Write>(
     rt: &P,
+    person: &mut H,
     reader: &mut R,
     writer: &mut W,
     words: io::Result<Args>,
 ) -> u8
-    ensures given { IfOk words (λ all. IsProgramRun (map string_bytes (into_iter_items all)) (R.remaining reader.old) (R.remaining reader.new) (W.contents writer.old) (W.contents writer.new) result) }
+    ensures given { IfOk words (λ all. IsProgramRun (map string_bytes (into_iter_items all)) (R.remaining reader.old) (R.remaining reader.new) (W.contents writer.old) (W.contents writer.new) (H.heard person.old) (H.heard person.new) result) }
     ensures without { IfErr words (λ error. IsWithoutWords (error_kind error) (R.remaining reader.old) (R.remaining reader.new) (W.contents writer.old) (W.contents writer.new) result) }
 {
     match words {
-        Ok(words) => run_all(rt, reader, writer, words),
-        Err(error) => run_without_words(rt, error),
+        Ok(words) => run_all(rt, person, reader, writer, words),
+        Err(error) => run_without_words(rt, person, error),
     }
 }
 
 // Does what all these words ask for, as `run` does.
-fn run_all<P: AllocGlobal + Eprint + Threads + Wait + Sync, R: Read, W: Write>(
+fn run_all<P: AllocGlobal + Eprint + Threads + Wait + Sync, H: Person, R: Read, W: Write>(
     rt: &P,
+    person: &mut H,
     reader: &mut R,
     writer: &mut W,
     words: Args,
 ) -> u8
-    ensures { IsProgramRun (map string_bytes (into_iter_items words)) (R.remaining reader.old) (R.remaining reader.new) (W.contents writer.old) (W.contents writer.new) result }
+    ensures { IsProgramRun (map string_bytes (into_iter_items words)) (R.remaining reader.old) (R.remaining reader.new) (W.contents writer.old) (W.contents writer.new) (H.heard person.old) (H.heard person.new) result }
 {
     faultless_words_ask();
     match all_of(rt.alloc(), words) {
-        Ok(all) => run(rt, reader, writer, all.as_slice()),
-        Err(_) => end(rt, Err(ReportError::Memory)),
+        Ok(all) => run(rt, person, reader, writer, all.as_slice()),
+        Err(_) => end(person, Err(ReportError::Memory)),
     }
 }
 
@@ -82,17 +84,18 @@ fn run_all<P: AllocGlobal + Eprint + Threads + Wait + Sync, R: Read, W: Write>(
 ///
 /// A document, or a stream of rows, is read and its answer written; why there is none is told on standard error. Only where turns are asked for are
 /// threads made, and may it wait.
-pub fn run<P: AllocGlobal + Eprint + Threads + Wait + Sync, R: Read, W: Write, S: AsStr>(
+pub fn run<P: AllocGlobal + Eprint + Threads + Wait + Sync, H: Person, R: Read, W: Write, S: AsStr>(
     rt: &P,
+    person: &mut H,
     reader: &mut R,
     writer: &mut W,
     words: &[S],
 ) -> u8
     ensures followed { fault_of program (map S.text words.entry.now) ≡ []
-        → IsFollowed (map S.text words.entry.now) (R.remaining reader.old) (R.remaining reader.new) (W.contents writer.old) (W.contents writer.new) result }
+        → IsFollowed (map S.text words.entry.now) (R.remaining reader.old) (R.remaining reader.new) (W.contents writer.old) (W.contents writer.new) (H.heard person.old) (H.heard person.new) result }
     ensures unfollowed { fault_of program (map S.text words.entry.now) ≢ []
         → IsUnfollowed (R.remaining reader.old) (R.remaining reader.new) (W.contents writer.old) (W.contents writer.new) result }
-    ensures end { IsEnd (map S.text words.entry.now) (R.remaining reader.old) (R.remaining reader.new) (W.contents writer.old) (W.contents writer.new) result }
+    ensures end { IsEnd (map S.text words.entry.now) (R.remaining reader.old) (R.remaining reader.new) (W.contents writer.old) (W.contents writer.new) (H.heard person.old) (H.heard person.new) result }
     ensures settled { Asks (map S.text words.entry.now) (Check Given)
         → result ≡ 0 → SaysSettled (R.remaining reader.old) (R.remaining reader.new) }
     ensures settled_under_winners { Asks (map S.text words.entry.now) (Check Winners)
@@ -114,30 +117,31 @@ pub fn run<P: AllocGlobal + Eprint + Threads + Wait + Sync, R: Read, W: Write, S
 {
     faultless_words_ask();
     match mode_told(rt, words) {
-        Ok(mode) => follow(rt, mode, reader, writer),
-        Err(Unfollowed::Memory) => end(rt, Err(ReportError::Memory)),
+        Ok(mode) => follow(rt, person, mode, reader, writer),
+        Err(Unfollowed::Memory) => end(person, Err(ReportError::Memory)),
         Err(Unfollowed::Usage) => USAGE,
     }
 }
 
 // Does what is asked for in this mode.
-fn follow<P: AllocGlobal + Eprint + Threads + Wait + Sync, R: Read, W: Write>(
+fn follow<P: AllocGlobal + Threads + Wait + Sync, H: Person, R: Read, W: Write>(
     rt: &P,
+    person: &mut H,
     mode: Mode,
     reader: &mut R,
     writer: &mut W,
 ) -> u8
-    ensures done { IsDone mode (R.remaining reader.old) (R.remaining reader.new) (W.contents writer.old) (W.contents writer.new) result }
+    ensures done { IsDone mode (R.remaining reader.old) (R.remaining reader.new) (W.contents writer.old) (W.contents writer.new) (H.heard person.old) (H.heard person.new) result }
     ensures says { result ≡ 0 → SaysIn mode (R.remaining reader.old) (R.remaining reader.new) }
 {
     match mode {
-        Mode::Check(under) => check(rt, under, reader, writer),
-        Mode::Firm(under) => firm(rt, under, reader, writer),
-        Mode::Converge => converge_and_tell(rt, reader, writer),
-        Mode::Certify(extent) => certify(rt, extent, reader, writer),
-        Mode::Explain(goal, under, form) => explain(rt, goal, under, form, reader, writer),
-        Mode::Rows(aim) => read_rows(rt, aim, reader, writer),
-        Mode::Run(ending, turns) => run_scenario(rt, ending, turns, reader, writer),
+        Mode::Check(under) => check(rt, person, under, reader, writer),
+        Mode::Firm(under) => firm(rt, person, under, reader, writer),
+        Mode::Converge => converge_and_tell(rt, person, reader, writer),
+        Mode::Certify(extent) => certify(rt, person, extent, reader, writer),
+        Mode::Explain(goal, under, form) => explain(rt, person, goal, under, form, reader, writer),
+        Mode::Rows(aim) => read_rows(rt, person, aim, reader, writer),
+        Mode::Run(ending, turns) => run_scenario(rt, person, ending, turns, reader, writer),
     }
 }
 
@@ -149,11 +153,11 @@ fn all_of(alloc: Global, words: Args) -> Result<Vec<String>, AllocError>
 }
 
 // Tells why there are no words, and answers the exit status.
-fn run_without_words<P: Eprint>(rt: &P, error: io::Error) -> u8
+fn run_without_words<P: Eprint, H: Person>(rt: &P, person: &mut H, error: io::Error) -> u8
     ensures { result ≡ status_without (error_kind error) }
 {
     match error.kind() {
-        io::ErrorKind::OutOfMemory => end(rt, Err(ReportError::Memory)),
+        io::ErrorKind::OutOfMemory => end(person, Err(ReportError::Memory)),
         _ => {
             let _ = eprint!(rt; "error: the words are no UTF-8\n");
             USAGE
@@ -162,171 +166,181 @@ fn run_without_words<P: Eprint>(rt: &P, error: io::Error) -> u8
 }
 
 // Audits a document, and writes its report.
-fn check<P: AllocGlobal + Eprint, R: Read, W: Write>(
+fn check<P: AllocGlobal, H: Person, R: Read, W: Write>(
     rt: &P,
+    person: &mut H,
     under: Under,
     reader: &mut R,
     writer: &mut W,
 ) -> u8
-    ensures told { IsChecking under (R.remaining reader.old) (R.remaining reader.new) (W.contents writer.old) (W.contents writer.new) result }
+    ensures told { IsChecking under (R.remaining reader.old) (R.remaining reader.new) (W.contents writer.old) (W.contents writer.new) (H.heard person.old) (H.heard person.new) result }
     ensures settled { under ≡ Given → result ≡ 0 → SaysSettled (R.remaining reader.old) (R.remaining reader.new) }
     ensures settled_under_winners { under ≡ Winners → result ≡ 0 → SaysSettledUnderWinners (R.remaining reader.old) (R.remaining reader.new) }
 {
     match under {
-        Under::Given => check_and_tell(rt, reader, writer),
-        Under::Winners => check_under_winners_and_tell(rt, reader, writer),
+        Under::Given => check_and_tell(rt, person, reader, writer),
+        Under::Winners => check_under_winners_and_tell(rt, person, reader, writer),
     }
 }
 
 // The same where firm is asked for.
-fn firm<P: AllocGlobal + Eprint, R: Read, W: Write>(
+fn firm<P: AllocGlobal, H: Person, R: Read, W: Write>(
     rt: &P,
+    person: &mut H,
     under: Under,
     reader: &mut R,
     writer: &mut W,
 ) -> u8
-    ensures told { IsFirming under (R.remaining reader.old) (R.remaining reader.new) (W.contents writer.old) (W.contents writer.new) result }
+    ensures told { IsFirming under (R.remaining reader.old) (R.remaining reader.new) (W.contents writer.old) (W.contents writer.new) (H.heard person.old) (H.heard person.new) result }
     ensures firm { under ≡ Given → result ≡ 0 → SaysFirm (R.remaining reader.old) (R.remaining reader.new) }
     ensures firm_under_winners { under ≡ Winners → result ≡ 0 → SaysFirmUnderWinners (R.remaining reader.old) (R.remaining reader.new) }
 {
     match under {
-        Under::Given => firm_and_tell(rt, reader, writer),
-        Under::Winners => firm_under_winners_and_tell(rt, reader, writer),
+        Under::Given => firm_and_tell(rt, person, reader, writer),
+        Under::Winners => firm_under_winners_and_tell(rt, person, reader, writer),
     }
 }
 
 // Audits a stream of rows, and answers as it reads.
-fn read_rows<P: AllocGlobal + Eprint, R: Read, W: Write>(
+fn read_rows<P: AllocGlobal, H: Person, R: Read, W: Write>(
     rt: &P,
+    person: &mut H,
     aim: Aim,
     reader: &mut R,
     writer: &mut W,
 ) -> u8
-    ensures told { IsReadingRows aim (R.remaining reader.old) (R.remaining reader.new) (W.contents writer.old) (W.contents writer.new) result }
+    ensures told { IsReadingRows aim (R.remaining reader.old) (R.remaining reader.new) (W.contents writer.old) (W.contents writer.new) (H.heard person.old) (H.heard person.new) result }
     ensures settled { aim ≡ aims.Settled → result ≡ 0 → SaysSettledRows (R.remaining reader.old) (R.remaining reader.new) }
     ensures firm { aim ≡ aims.Firm → result ≡ 0 → SaysFirmRows (R.remaining reader.old) (R.remaining reader.new) }
 {
     match aim {
-        Aim::Settled => rows_and_tell(rt, reader, writer),
-        Aim::Firm => firm_rows_and_tell(rt, reader, writer),
+        Aim::Settled => rows_and_tell(rt, person, reader, writer),
+        Aim::Firm => firm_rows_and_tell(rt, person, reader, writer),
     }
 }
 
 // Certifies a document, and writes as much of the certificate as is asked for.
-fn certify<P: AllocGlobal + Eprint, R: Read, W: Write>(
+fn certify<P: AllocGlobal, H: Person, R: Read, W: Write>(
     rt: &P,
+    person: &mut H,
     extent: Extent,
     reader: &mut R,
     writer: &mut W,
 ) -> u8
-    ensures { IsCertifying extent (R.remaining reader.old) (R.remaining reader.new) (W.contents writer.old) (W.contents writer.new) result }
+    ensures { IsCertifying extent (R.remaining reader.old) (R.remaining reader.new) (W.contents writer.old) (W.contents writer.new) (H.heard person.old) (H.heard person.new) result }
 {
     match extent {
-        Extent::All => certify_and_tell(rt, reader, writer),
-        Extent::Won => certify_partly_and_tell(rt, reader, writer),
+        Extent::All => certify_and_tell(rt, person, reader, writer),
+        Extent::Won => certify_partly_and_tell(rt, person, reader, writer),
     }
 }
 
 // Explains a document, and writes what keeps it from being what is asked for.
-fn explain<P: AllocGlobal + Eprint, R: Read, W: Write>(
+fn explain<P: AllocGlobal, H: Person, R: Read, W: Write>(
     rt: &P,
+    person: &mut H,
     goal: Goal,
     under: Under,
     form: Form,
     reader: &mut R,
     writer: &mut W,
 ) -> u8
-    ensures { IsExplaining goal under form (R.remaining reader.old) (R.remaining reader.new) (W.contents writer.old) (W.contents writer.new) result }
+    ensures { IsExplaining goal under form (R.remaining reader.old) (R.remaining reader.new) (W.contents writer.old) (W.contents writer.new) (H.heard person.old) (H.heard person.new) result }
 {
     match under {
-        Under::Given => explain_given(rt, goal, form, reader, writer),
-        Under::Winners => explain_under_winners(rt, goal, form, reader, writer),
+        Under::Given => explain_given(rt, person, goal, form, reader, writer),
+        Under::Winners => explain_under_winners(rt, person, goal, form, reader, writer),
     }
 }
 
 // Explains a document under its own rows.
-fn explain_given<P: AllocGlobal + Eprint, R: Read, W: Write>(
+fn explain_given<P: AllocGlobal, H: Person, R: Read, W: Write>(
     rt: &P,
+    person: &mut H,
     goal: Goal,
     form: Form,
     reader: &mut R,
     writer: &mut W,
 ) -> u8
-    ensures { IsExplainingGiven goal form (R.remaining reader.old) (R.remaining reader.new) (W.contents writer.old) (W.contents writer.new) result }
+    ensures { IsExplainingGiven goal form (R.remaining reader.old) (R.remaining reader.new) (W.contents writer.old) (W.contents writer.new) (H.heard person.old) (H.heard person.new) result }
 {
     match goal {
-        Goal::Settled => explain_and_tell(rt, form, reader, writer),
-        Goal::Firm => explain_firm_and_tell(rt, form, reader, writer),
-        Goal::Converging => explain_converge_and_tell(rt, form, reader, writer),
+        Goal::Settled => explain_and_tell(rt, person, form, reader, writer),
+        Goal::Firm => explain_firm_and_tell(rt, person, form, reader, writer),
+        Goal::Converging => explain_converge_and_tell(rt, person, form, reader, writer),
     }
 }
 
 // Explains a document under the winners of its names.
-fn explain_under_winners<P: AllocGlobal + Eprint, R: Read, W: Write>(
+fn explain_under_winners<P: AllocGlobal, H: Person, R: Read, W: Write>(
     rt: &P,
+    person: &mut H,
     goal: Goal,
     form: Form,
     reader: &mut R,
     writer: &mut W,
 ) -> u8
-    ensures { IsExplainingUnderWinners goal form (R.remaining reader.old) (R.remaining reader.new) (W.contents writer.old) (W.contents writer.new) result }
+    ensures { IsExplainingUnderWinners goal form (R.remaining reader.old) (R.remaining reader.new) (W.contents writer.old) (W.contents writer.new) (H.heard person.old) (H.heard person.new) result }
 {
     match goal {
-        Goal::Settled => explain_under_winners_and_tell(rt, form, reader, writer),
-        Goal::Firm => explain_firm_under_winners_and_tell(rt, form, reader, writer),
-        Goal::Converging => explain_converge_and_tell(rt, form, reader, writer),
+        Goal::Settled => explain_under_winners_and_tell(rt, person, form, reader, writer),
+        Goal::Firm => explain_firm_under_winners_and_tell(rt, person, form, reader, writer),
+        Goal::Converging => explain_converge_and_tell(rt, person, form, reader, writer),
     }
 }
 
 // Makes the steps of a scenario, has threads run its cluster if they are to make turns, and writes what is asked for of where
 // that leads.
-fn run_scenario<P: AllocGlobal + Eprint + Threads + Wait + Sync, R: Read, W: Write>(
+fn run_scenario<P: AllocGlobal + Threads + Wait + Sync, H: Person, R: Read, W: Write>(
     rt: &P,
+    person: &mut H,
     ending: Ending,
     turns: u32,
     reader: &mut R,
     writer: &mut W,
 ) -> u8
-    ensures told { IsRunning ending turns (R.remaining reader.old) (R.remaining reader.new) (W.contents writer.old) (W.contents writer.new) result }
+    ensures told { IsRunning ending turns (R.remaining reader.old) (R.remaining reader.new) (W.contents writer.old) (W.contents writer.new) (H.heard person.old) (H.heard person.new) result }
     ensures settled { ending ≡ Report → turns ≡ 0 → result ≡ 0 → EndsSettled (R.remaining reader.old) (R.remaining reader.new) }
     ensures lives_settled { ending ≡ Report → 0 < turns → result ≡ 0 → EndsLived (R.remaining reader.old) (R.remaining reader.new) }
 {
     if turns == 0 {
-        make_steps(rt, ending, reader, writer)
+        make_steps(rt, person, ending, reader, writer)
     } else {
-        run_on(rt, ending, turns, reader, writer)
+        run_on(rt, person, ending, turns, reader, writer)
     }
 }
 
 // Makes the steps of a scenario, and writes what is asked for of where they lead. No thread is made.
-fn make_steps<P: AllocGlobal + Eprint, R: Read, W: Write>(
+fn make_steps<P: AllocGlobal, H: Person, R: Read, W: Write>(
     rt: &P,
+    person: &mut H,
     ending: Ending,
     reader: &mut R,
     writer: &mut W,
 ) -> u8
-    ensures told { IsEnding ending (R.remaining reader.old) (R.remaining reader.new) (W.contents writer.old) (W.contents writer.new) result }
+    ensures told { IsEnding ending (R.remaining reader.old) (R.remaining reader.new) (W.contents writer.old) (W.contents writer.new) (H.heard person.old) (H.heard person.new) result }
     ensures settled { ending ≡ Report → result ≡ 0 → EndsSettled (R.remaining reader.old) (R.remaining reader.new) }
 {
     match ending {
-        Ending::Report => run_and_tell(rt, reader, writer),
-        Ending::Document => run_document_and_tell(rt, reader, writer),
+        Ending::Report => run_and_tell(rt, person, reader, writer),
+        Ending::Document => run_document_and_tell(rt, person, reader, writer),
     }
 }
 
 // Makes the steps of a scenario, has threads run its cluster, and writes what is asked for of a cut of it.
-fn run_on<P: AllocGlobal + Eprint + Threads + Wait + Sync, R: Read, W: Write>(
+fn run_on<P: AllocGlobal + Threads + Wait + Sync, H: Person, R: Read, W: Write>(
     rt: &P,
+    person: &mut H,
     ending: Ending,
     turns: u32,
     reader: &mut R,
     writer: &mut W,
 ) -> u8
-    ensures told { IsLiveEnding ending (R.remaining reader.old) (R.remaining reader.new) (W.contents writer.old) (W.contents writer.new) result }
+    ensures told { IsLiveEnding ending (R.remaining reader.old) (R.remaining reader.new) (W.contents writer.old) (W.contents writer.new) (H.heard person.old) (H.heard person.new) result }
     ensures settled { ending ≡ Report → result ≡ 0 → EndsLived (R.remaining reader.old) (R.remaining reader.new) }
 {
     match ending {
-        Ending::Report => live_and_tell(rt, reader, writer, turns),
-        Ending::Document => live_document_and_tell(rt, reader, writer, turns),
+        Ending::Report => live_and_tell(rt, person, reader, writer, turns),
+        Ending::Document => live_document_and_tell(rt, person, reader, writer, turns),
     }
 }

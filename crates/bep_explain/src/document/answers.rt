@@ -1,6 +1,9 @@
 //! All that fails of a document is written, a hint told on standard error, and the exit status answered.
 ghost use Rattle.std.specs.Prelude.{IfOk, IfErr};
+ghost use Rattle.bep_answer.specs.Beside.{TellsOfCheck, TellsOfCut};
 ghost use Rattle.bep_answer.specs.Exchange.{IsEndedEarly, IsWhole};
+ghost use Rattle.bep_answer.specs.Heard.{IsHeard};
+ghost use Rattle.bep_answer.specs.Status.{firm_status_of, status_of};
 ghost use Rattle.bep_explain.specs.document.Explained.{IsExplainedOfBytes};
 ghost use Rattle.bep_explain.specs.document.FirmExplained.{IsFirmExplanationTold};
 ghost use Rattle.bep_explain.specs.document.Told.{IsExplanationTold};
@@ -10,7 +13,7 @@ ghost use Rattle.bep_lines.specs.declared.form.Form.TheVariants.{Text};
 use crate::document::explain::ReasonsOfCut;
 use crate::document::firm::FirmReasonsOfCut;
 use crate::document::under_winners::{FirmReasonsUnderWinners, ReasonsUnderWinners};
-use bep_answer::{Outcome, end, end_firm, exchange};
+use bep_answer::{Outcome, Person, end, end_firm, exchange};
 use bep_lines::Form;
 use bep_report::ReportError;
 use std::alloc::Global;
@@ -38,59 +41,67 @@ pub fn explain_text<R: Read, W: Write>(
 /// The same in one of two forms; tells a hint on where a refused document is at fault, or why there is no answer, on
 /// standard error, and answers the exit status. As JSON it is one document on a line: what fails, in the same order, and
 /// whether that is nothing; or the fault.
-pub fn explain_and_tell<P: AllocGlobal + Eprint, R: Read, W: Write>(
+pub fn explain_and_tell<P: AllocGlobal, H: Person, R: Read, W: Write>(
     rt: &P,
+    person: &mut H,
     form: Form,
     reader: &mut R,
     writer: &mut W,
 ) -> u8
-    ensures { IsExplanationTold form (R.remaining reader.old) (R.remaining reader.new) (W.contents writer.old) (W.contents writer.new) result }
+    ensures told { IsExplanationTold form (R.remaining reader.old) (R.remaining reader.new) (W.contents writer.old) (W.contents writer.new) result }
+    ensures heard { IsHeard status_of TellsOfCheck (R.remaining reader.old) (R.remaining reader.new) (H.heard person.old) (H.heard person.new) result }
 {
     end(
-        rt,
+        person,
         exchange(rt.alloc(), ReasonsOfCut { form }, reader, writer),
     )
 }
 
 /// The same of all that keeps the cut from being firm: what `explain_and_tell` writes, and behind that each of the four
 /// further reasons that fails, at each place at which it fails; `firm` alone where nothing fails.
-pub fn explain_firm_and_tell<P: AllocGlobal + Eprint, R: Read, W: Write>(
+pub fn explain_firm_and_tell<P: AllocGlobal, H: Person, R: Read, W: Write>(
     rt: &P,
+    person: &mut H,
     form: Form,
     reader: &mut R,
     writer: &mut W,
 ) -> u8
-    ensures { IsFirmExplanationTold form (R.remaining reader.old) (R.remaining reader.new) (W.contents writer.old) (W.contents writer.new) result }
+    ensures told { IsFirmExplanationTold form (R.remaining reader.old) (R.remaining reader.new) (W.contents writer.old) (W.contents writer.new) result }
+    ensures heard { IsHeard firm_status_of TellsOfCheck (R.remaining reader.old) (R.remaining reader.new) (H.heard person.old) (H.heard person.new) result }
 {
     end_firm(
-        rt,
+        person,
         exchange(rt.alloc(), FirmReasonsOfCut { form }, reader, writer),
     )
 }
 
 /// What `explain_and_tell` does, of the cut alone under the winners of its names: the document's certificate may be missing
 /// and isn't looked at. A name without a winner, for which no row can stand, is told as that.
-pub fn explain_under_winners_and_tell<P: AllocGlobal + Eprint, R: Read, W: Write>(
+pub fn explain_under_winners_and_tell<P: AllocGlobal, H: Person, R: Read, W: Write>(
     rt: &P,
+    person: &mut H,
     form: Form,
     reader: &mut R,
     writer: &mut W,
 ) -> u8
-    ensures { IsExplanationToldUnderWinners form (R.remaining reader.old) (R.remaining reader.new) (W.contents writer.old) (W.contents writer.new) result }
+    ensures told { IsExplanationToldUnderWinners form (R.remaining reader.old) (R.remaining reader.new) (W.contents writer.old) (W.contents writer.new) result }
+    ensures heard { IsHeard status_of TellsOfCut (R.remaining reader.old) (R.remaining reader.new) (H.heard person.old) (H.heard person.new) result }
 {
     let answer = exchange(rt.alloc(), ReasonsUnderWinners { form }, reader, writer);
-    end(rt, answer)
+    end(person, answer)
 }
 
 /// The same of all that keeps the cut from being firm, as `explain_firm_and_tell` does.
-pub fn explain_firm_under_winners_and_tell<P: AllocGlobal + Eprint, R: Read, W: Write>(
+pub fn explain_firm_under_winners_and_tell<P: AllocGlobal, H: Person, R: Read, W: Write>(
     rt: &P,
+    person: &mut H,
     form: Form,
     reader: &mut R,
     writer: &mut W,
 ) -> u8
-    ensures { IsFirmExplanationToldUnderWinners form (R.remaining reader.old) (R.remaining reader.new) (W.contents writer.old) (W.contents writer.new) result }
+    ensures told { IsFirmExplanationToldUnderWinners form (R.remaining reader.old) (R.remaining reader.new) (W.contents writer.old) (W.contents writer.new) result }
+    ensures heard { IsHeard firm_status_of TellsOfCut (R.remaining reader.old) (R.remaining reader.new) (H.heard person.old) (H.heard person.new) result }
 {
     let answer = exchange(rt.alloc(), FirmReasonsUnderWinners { form }, reader, writer);
-    end_firm(rt, answer)
+    end_firm(person, answer)
 }

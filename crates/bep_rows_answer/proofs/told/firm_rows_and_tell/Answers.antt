@@ -7,23 +7,23 @@ use Rattle.bep_rows_answer.proofs.told.firm_rows_and_tell.Goals as goal
 pub returns-in-Ok-clause-told : goal.returns-in-Ok-clause-told
 returns-in-Ok-clause-told g c = record {
   answer = Ok c.in-Ok.outcome;
-  told = c.end_firm.ensures ∙ ap (λ (outcome : Firmness). firm_status_of (Ok outcome)) c.firmness.ensures;
+  told = c.end_firm.ensures.status ∙ ap (λ (outcome : Firmness). firm_status_of (Ok outcome)) c.firmness.ensures;
   done = c.in-Ok.ensures.ok;
 }
 
 pub returns-in-Err-clause-told : goal.returns-in-Err-clause-told
-returns-in-Err-clause-told g c = record { answer = Err c.in-Err.error; told = c.end_firm-in-Err.ensures; done = c.in-Err.ensures.err }
+returns-in-Err-clause-told g c = record { answer = Err c.in-Err.error; told = c.end_firm-in-Err.ensures.status; done = c.in-Err.ensures.err }
 
 pub returns-in-Ok-clause-firm : goal.returns-in-Ok-clause-firm
 returns-in-Ok-clause-firm g c =
     firm_rows c.settled_stays_put.ensures c.settled_stays_settled.ensures c.firm_stays_firm.ensures c.firm_stays_put.ensures _ _ _ _ _
     (record {
       answer = Ok c.in-Ok.outcome;
-      told = c.end_firm.ensures ∙ ap (λ (outcome : Firmness). firm_status_of (Ok outcome)) c.firmness.ensures;
+      told = c.end_firm.ensures.status ∙ ap (λ (outcome : Firmness). firm_status_of (Ok outcome)) c.firmness.ensures;
       done = c.in-Ok.ensures.ok;
     })
 
 pub returns-in-Err-clause-firm : goal.returns-in-Err-clause-firm
 returns-in-Err-clause-firm g c =
     firm_rows c.settled_stays_put.ensures c.settled_stays_settled.ensures c.firm_stays_firm.ensures c.firm_stays_put.ensures _ _ _ _ _
-    (record { answer = Err c.in-Err.error; told = c.end_firm-in-Err.ensures; done = c.in-Err.ensures.err })
+    (record { answer = Err c.in-Err.error; told = c.end_firm-in-Err.ensures.status; done = c.in-Err.ensures.err })

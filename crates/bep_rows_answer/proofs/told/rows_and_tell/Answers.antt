@@ -7,22 +7,22 @@ use Rattle.bep_rows_answer.proofs.told.rows_and_tell.Goals as goal
 pub returns-in-Ok-clause-told : goal.returns-in-Ok-clause-told
 returns-in-Ok-clause-told g c = record {
   answer = Ok c.in-Ok.outcome;
-  told = c.end.ensures ∙ ap (λ (outcome : Outcome). status_of (Ok outcome)) c.settled.ensures;
+  told = c.end.ensures.status ∙ ap (λ (outcome : Outcome). status_of (Ok outcome)) c.settled.ensures;
   done = c.in-Ok.ensures.ok;
 }
 
 pub returns-in-Err-clause-told : goal.returns-in-Err-clause-told
-returns-in-Err-clause-told g c = record { answer = Err c.in-Err.error; told = c.end-in-Err.ensures; done = c.in-Err.ensures.err }
+returns-in-Err-clause-told g c = record { answer = Err c.in-Err.error; told = c.end-in-Err.ensures.status; done = c.in-Err.ensures.err }
 
 pub returns-in-Ok-clause-settled : goal.returns-in-Ok-clause-settled
 returns-in-Ok-clause-settled g c =
     settled_rows c.settled_stays_put.ensures c.settled_stays_settled.ensures _ _ _ _ _
     (record {
       answer = Ok c.in-Ok.outcome;
-      told = c.end.ensures ∙ ap (λ (outcome : Outcome). status_of (Ok outcome)) c.settled.ensures;
+      told = c.end.ensures.status ∙ ap (λ (outcome : Outcome). status_of (Ok outcome)) c.settled.ensures;
       done = c.in-Ok.ensures.ok;
     })
 
 pub returns-in-Err-clause-settled : goal.returns-in-Err-clause-settled
 returns-in-Err-clause-settled g c =
-    settled_rows c.settled_stays_put.ensures c.settled_stays_settled.ensures _ _ _ _ _ (record { answer = Err c.in-Err.error; told = c.end-in-Err.ensures; done = c.in-Err.ensures.err })
+    settled_rows c.settled_stays_put.ensures c.settled_stays_settled.ensures _ _ _ _ _ (record { answer = Err c.in-Err.error; told = c.end-in-Err.ensures.status; done = c.in-Err.ensures.err })

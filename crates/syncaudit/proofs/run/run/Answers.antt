@@ -8,7 +8,7 @@ use Rattle.syncaudit.proofs.StatusFacts.{followed_without_memory}
 use Rattle.syncaudit.proofs.run.run.Goals as goal
 
 pub returns-in-Err-Memory-clause-followed : goal.returns-in-Err-Memory-clause-followed
-returns-in-Err-Memory-clause-followed g c = followed_without_memory c.faultless_words_ask.ensures (map g.S.AsStr.text c.args.words.now) _ _ _ c.end.ensures
+returns-in-Err-Memory-clause-followed g c = followed_without_memory _ _ c.end.ensures.heard c.faultless_words_ask.ensures (map g.S.AsStr.text c.args.words.now) _ _ _ c.end.ensures.status
 
 pub returns-in-Ok-clause-followed : goal.returns-in-Ok-clause-followed
 returns-in-Ok-clause-followed g c = λ none. (c.in-Ok.mode, c.in-Ok.ensures.asked, c.follow.ensures.done)

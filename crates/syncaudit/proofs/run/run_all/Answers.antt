@@ -6,7 +6,7 @@ use Rattle.syncaudit.proofs.run.run_all.Goals as goal
 
 pub returns-in-Ok : goal.returns-in-Ok
 returns-in-Ok g c =
-    subst (λ all. IsProgramRun (map string_bytes all) (g.R.Read.remaining c.args.reader.now) (g.R.Read.remaining c.run.new.reader) (g.W.Write.contents c.args.writer.now) (g.W.Write.contents c.run.new.writer) c.run.result)
+    subst (λ all. IsProgramRun (map string_bytes all) (g.R.Read.remaining c.args.reader.now) (g.R.Read.remaining c.run.new.reader) (g.W.Write.contents c.args.writer.now) (g.W.Write.contents c.run.new.writer) (g.H.Person.heard c.args.person.now) (g.H.Person.heard c.run.new.person) c.run.result)
     (c.as_slice.ensures.value ∙ c.in-Ok.ensures)
     (record {
       followed = c.run.ensures.followed;
@@ -24,4 +24,4 @@ returns-in-Ok g c =
     })
 
 pub returns-in-Err : goal.returns-in-Err
-returns-in-Err g c = run_without_memory c.faultless_words_ask.ensures _ _ _ _ c.end.ensures
+returns-in-Err g c = run_without_memory _ _ c.end.ensures.heard c.faultless_words_ask.ensures _ _ _ _ c.end.ensures.status

@@ -4,8 +4,8 @@ use Rattle.syncaudit.proofs.run.run_on.Goals as goal
 
 pub returns-in-Report-clause-told : goal.returns-in-Report-clause-told
 returns-in-Report-clause-told g c =
-    subst (λ ending. IsLiveEnding ending (g.R.Read.remaining c.args.reader.now) (g.R.Read.remaining c.live_and_tell.new.reader) (g.W.Write.contents c.args.writer.now) (g.W.Write.contents c.live_and_tell.new.writer) c.live_and_tell.result) (sym c.in-Report.is) c.live_and_tell.ensures.told
+    subst (λ ending. IsLiveEnding ending (g.R.Read.remaining c.args.reader.now) (g.R.Read.remaining c.live_and_tell.new.reader) (g.W.Write.contents c.args.writer.now) (g.W.Write.contents c.live_and_tell.new.writer) (g.H.Person.heard c.args.person.now) (g.H.Person.heard c.live_and_tell.new.person) c.live_and_tell.result) (sym c.in-Report.is) (c.live_and_tell.ensures.told, c.live_and_tell.ensures.heard)
 
 pub returns-in-Document-clause-told : goal.returns-in-Document-clause-told
 returns-in-Document-clause-told g c =
-    subst (λ ending. IsLiveEnding ending (g.R.Read.remaining c.args.reader.now) (g.R.Read.remaining c.live_document_and_tell.new.reader) (g.W.Write.contents c.args.writer.now) (g.W.Write.contents c.live_document_and_tell.new.writer) c.live_document_and_tell.result) (sym c.in-Document.is) c.live_document_and_tell.ensures
+    subst (λ ending. IsLiveEnding ending (g.R.Read.remaining c.args.reader.now) (g.R.Read.remaining c.live_document_and_tell.new.reader) (g.W.Write.contents c.args.writer.now) (g.W.Write.contents c.live_document_and_tell.new.writer) (g.H.Person.heard c.args.person.now) (g.H.Person.heard c.live_document_and_tell.new.person) c.live_document_and_tell.result) (sym c.in-Document.is) (c.live_document_and_tell.ensures.told, c.live_document_and_tell.ensures.heard)

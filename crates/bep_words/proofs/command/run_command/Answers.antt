@@ -1,6 +1,6 @@
 use Rattle.std.proofs.lemmas.Result.{IfOk-weaker}
 use Rattle.bep_words.proofs.ModeFacts.{flagged}
-use Rattle.bep_words.proofs.mode.run_command.Goals as goal
+use Rattle.bep_words.proofs.command.run_command.Goals as goal
 
 pub returns : goal.returns
 returns c =

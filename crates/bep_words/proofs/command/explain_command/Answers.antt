@@ -1,6 +1,6 @@
 use Rattle.std.proofs.lemmas.Result.{IfOk-weaker}
 use Rattle.bep_words.proofs.ModeFacts.{flagged}
-use Rattle.bep_words.proofs.mode.explain_command.Goals as goal
+use Rattle.bep_words.proofs.command.explain_command.Goals as goal
 
 pub returns : goal.returns
 returns c =

@@ -1,6 +1,6 @@
 use Rattle.std.proofs.Common.{ap, ◌∙◌}
 use Rattle.clap.specs.Simple.{app_of_fields}
-use Rattle.bep_words.proofs.mode.plain_command.Goals as goal
+use Rattle.bep_words.proofs.command.plain_command.Goals as goal
 
 pub returns : goal.returns
 returns c = record {

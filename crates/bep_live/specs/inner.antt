@@ -1,2 +1,0 @@
--- What only private contracts say: no public contract rests on it.
-pub mod Beside
