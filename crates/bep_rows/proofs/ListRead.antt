@@ -21,7 +21,7 @@ use Rattle.bep_rows.specs.Names.{IsAbove, IsUpTo, Key, among, is_name}
 use Rattle.bep_rows.specs.Row.{IsRowOf}
 use Rattle.bep_rows.specs.Standing.{IsStanding}
 use Rattle.bep_rows.specs.Stream.{IsReadTo}
-use Rattle.bep_rows.specs.ListRead.{HasKeys, IsListRead}
+use Rattle.bep_rows.specs.ListRead.{IsListRead}
 use Rattle.bep_rows.proofs.Reading.{all_read, in_first, up_to_below}
 use Rattle.bep_rows.proofs.ThreeParts.{ByParts}
 

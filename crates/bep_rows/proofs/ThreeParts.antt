@@ -1,33 +1,14 @@
 -- The verdict on a cut is the first of those on three parts of it.
-use Rattle.std.proofs.Common.{◌≡◌, ◌⊎◌, Bool, true, false, not, List, [], ◌∷◌, ◌++◌, Contains, Option, refl, sym, ap, subst, ◌∙◌, inl, inr, ⊎_elim}
-use Rattle.std.specs.Prelude.{if◌then◌else◌}
-use Rattle.std.specs.Ordering.{is_lt}
-use Rattle.std.specs.declared.cmp.Ordering.TheVariants.{Less}
-use Rattle.std.proofs.lemmas.Bool.{cases_Bool}
-use Rattle.std.proofs.lemmas.List.{append-nil}
-use Rattle.std.proofs.lemmas.List.Elements.{Contains-append_left, Contains-append_right, Contains-append_cases}
+use Rattle.std.proofs.Common.{◌≡◌, ◌⊎◌, List, [], ◌∷◌, Contains, sym, subst, ⊎_elim}
 use Rattle.bep_facts.specs.Members.{Contains-first, Contains-more, Contains-one, Contains-cons_cases}
-use Rattle.bep_facts.specs.Orders.{texts_total, not_less_itself}
-use Rattle.bep_choice.specs.Choice.{Candidate}
-use Rattle.bep_model.specs.declared.firm_reason.FirmReason.{FirmReason}
-use Rattle.bep_model.specs.declared.reason.Reason.{Reason}
 use Rattle.bep_model.specs.declared.row.Row.{Row}
-use Rattle.bep_model.specs.Tables.{Tables, Device, Folder, FileName}
-use Rattle.bep_model.specs.Foreign.{IsKnown}
-use Rattle.bep_model.specs.Winner.{IsWinner}
+use Rattle.bep_model.specs.Tables.{Tables, Folder, FileName}
 use Rattle.bep_model.specs.FirmVerdict as firm_verdicts
-use Rattle.bep_model.specs.Settled.{IsListOfWinners, Rise, key_of, key_cmp}
+use Rattle.bep_model.specs.Settled.{Rise}
 use Rattle.bep_model.specs.Verdict as verdicts
-use Rattle.bep_model.specs.WithoutWinner.{HasWinner, IsFirstWithoutWinner, IsWithoutWinner}
 use Rattle.bep_parts.specs.FirstVerdict.{ComesUpTo, FirmComesUpTo, FirmJudged, Judged}
 use Rattle.bep_parts.specs.Laws.{FirmVerdictByParts, VerdictByParts}
-use Rattle.bep_parts.specs.Parts.{IsInSome, Keeps, all_but, only, rows_of}
-use Rattle.bep_parts.proofs.Alike.{known_there, turned, winner_there}
-use Rattle.bep_parts.proofs.OnlyFacts.{known_kept, only_alike}
-use Rattle.bep_rows.specs.declared.aim.Aim.{Aim}
-use Rattle.bep_rows.specs.declared.aim.Aim.TheVariants as aims
-use Rattle.bep_rows.specs.Names.{either}
-use Rattle.bep_rows.specs.Standing.{IsJudged, IsStanding, IsUnderWinners, failing, joined, loosening}
+use Rattle.bep_parts.specs.Parts.{IsInSome, Keeps, only, rows_of}
 
 -- the verdict on a cut is the first of those on three parts of which it is that on the first or the second
 abbrev pub ByThree : (V : Type 0) → (Tables → List Row → V → Type 0) → (V → V → Type 0) → Type 0

@@ -6,7 +6,7 @@ use Rattle.std.specs.declared.cmp.Ordering.TheVariants.{Less}
 use Rattle.std.proofs.lemmas.Bool.{cases_Bool}
 use Rattle.std.proofs.lemmas.List.{append-nil}
 use Rattle.std.proofs.lemmas.List.Elements.{Contains-append_left, Contains-append_right, Contains-append_cases}
-use Rattle.bep_facts.specs.Members.{Contains-first, Contains-more, Contains-one, Contains-cons_cases}
+use Rattle.bep_facts.specs.Members.{Contains-first, Contains-more}
 use Rattle.bep_facts.specs.Orders.{texts_total, not_less_itself}
 use Rattle.bep_audit.specs.Loose.{loose_cmp}
 use Rattle.bep_audit.specs.Walk.{failure_cmp}
@@ -18,11 +18,10 @@ use Rattle.bep_model.specs.Tables.{Tables, Device, Folder, FileName}
 use Rattle.bep_model.specs.Foreign.{IsKnown}
 use Rattle.bep_model.specs.Winner.{IsWinner}
 use Rattle.bep_model.specs.FirmVerdict as firm_verdicts
-use Rattle.bep_model.specs.Settled.{IsListOfWinners, Rise, key_of, key_cmp}
+use Rattle.bep_model.specs.Settled.{IsListOfWinners, key_of, key_cmp}
 use Rattle.bep_model.specs.Verdict as verdicts
 use Rattle.bep_model.specs.WithoutWinner.{HasWinner, IsFirstWithoutWinner, IsWithoutWinner}
-use Rattle.bep_parts.specs.FirstVerdict.{ComesUpTo, FirmComesUpTo, FirmJudged, Judged}
-use Rattle.bep_parts.specs.Laws.{FirmVerdictByParts, VerdictByParts}
+use Rattle.bep_parts.specs.FirstVerdict.{ComesUpTo, FirmComesUpTo}
 use Rattle.bep_parts.specs.Parts.{IsInSome, Keeps, all_but, only, rows_of}
 use Rattle.bep_parts.proofs.Alike.{known_there, turned, winner_there}
 use Rattle.bep_parts.proofs.OnlyFacts.{known_kept, only_alike}
@@ -35,7 +34,7 @@ use Rattle.bep_rows.specs.Standing.{IsJudged, IsStanding, IsUnderWinners, failin
 use Rattle.bep_rows.proofs.Kept.{firm_where_unknown, rise_both, rows_all_kept, rows_none_kept, rows_of_both, settled_where_unknown}
 use Rattle.bep_rows.proofs.Stands.{stands}
 use Rattle.bep_rows.proofs.Order.{earlier_is_up_to, itself_is_up_to, later_is_up_to, loose_rank, rank}
-use Rattle.bep_rows.proofs.ThreeParts.{ByParts, firm_by_three, settled_by_three, up_to_firm, up_to_settled}
+use Rattle.bep_rows.proofs.ThreeParts.{ByParts, ByThree, firm_by_three, settled_by_three, up_to_firm, up_to_settled}
 
 -- all names of one part are below all of the other
 abbrev pub IsBelow : Keeps → Keeps → Type 0
