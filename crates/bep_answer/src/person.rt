@@ -28,6 +28,7 @@ pub trait Person {
 }
 
 /// The person who reads standard error. A write there that fails is passed over: there is nobody to tell.
+#[derive(Drop)]
 pub struct StandardError<'a, P> {
     rt: &'a P,
 }

@@ -72,7 +72,10 @@ pub fn check_under_winners_and_tell<P: AllocGlobal, H: Person, R: Read, W: Write
 {
     settled_stays_put();
     settled_stays_settled();
-    end(person, exchange(rt.alloc(), AuditUnderWinners, reader, writer))
+    end(
+        person,
+        exchange(rt.alloc(), AuditUnderWinners, reader, writer),
+    )
 }
 
 /// The same where firm is asked for, as `firm_text` does.
@@ -106,7 +109,10 @@ pub fn certify_and_tell<P: AllocGlobal, H: Person, R: Read, W: Write>(
     ensures told { IsCertificateTold (R.remaining reader.old) (R.remaining reader.new) (W.contents writer.old) (W.contents writer.new) result }
     ensures heard { IsHeard spec.certified_status_of TellsOfCut (R.remaining reader.old) (R.remaining reader.new) (H.heard person.old) (H.heard person.new) result }
 {
-    end_certified(person, exchange(rt.alloc(), CertificateOfCut, reader, writer))
+    end_certified(
+        person,
+        exchange(rt.alloc(), CertificateOfCut, reader, writer),
+    )
 }
 
 /// The same for the certificate as far as there are winners: the check document of the cut with the winners of the known
@@ -141,7 +147,10 @@ pub fn end_firm<H: Person>(person: &mut H, answer: Result<Hinted<Firmness>, Repo
 }
 
 /// The same where a certificate was asked for.
-pub fn end_certified<H: Person>(person: &mut H, answer: Result<Hinted<Certified>, ReportError>) -> u8
+pub fn end_certified<H: Person>(
+    person: &mut H,
+    answer: Result<Hinted<Certified>, ReportError>,
+) -> u8
     ensures status { result ≡ spec.certified_status_of (without_hint answer) }
     ensures heard { Hears (H.heard person.old) (H.heard person.new) (said_of answer) }
 {

@@ -28,11 +28,17 @@ pub fn converge_and_tell<P: AllocGlobal, H: Person, R: Read, W: Write>(
     ensures heard { IsHeard spec.converge_status_of TellsOfCut (R.remaining reader.old) (R.remaining reader.new) (H.heard person.old) (H.heard person.new) result }
 {
     prevailing_goes_on();
-    end_converge(person, exchange(rt.alloc(), ConvergenceOfCut, reader, writer))
+    end_converge(
+        person,
+        exchange(rt.alloc(), ConvergenceOfCut, reader, writer),
+    )
 }
 
 /// Tells what was answered beside the outcome, if there is anything, or why there is no answer, and answers the exit status.
-pub fn end_converge<H: Person>(person: &mut H, answer: Result<Hinted<Convergence>, ReportError>) -> u8
+pub fn end_converge<H: Person>(
+    person: &mut H,
+    answer: Result<Hinted<Convergence>, ReportError>,
+) -> u8
     ensures status { result ≡ spec.converge_status_of (without_hint answer) }
     ensures heard { Hears (H.heard person.old) (H.heard person.new) (said_of answer) }
 {

@@ -44,6 +44,12 @@ IsSettledRowsTold = IsRowsTold aims.Settled
 abbrev pub IsFirmRowsTold : Option (List ℕ) → Option (List ℕ) → Option (List ℕ) → Option (List ℕ) → ℕ → Type 0
 IsFirmRowsTold = IsRowsTold aims.Firm
 
+abbrev pub IsSettledRowsHeard : Option (List Said) → Option (List Said) → ℕ → Type 0
+IsSettledRowsHeard = IsRowsHeard aims.Settled
+
+abbrev pub IsFirmRowsHeard : Option (List Said) → Option (List Said) → ℕ → Type 0
+IsFirmRowsHeard = IsRowsHeard aims.Firm
+
 -- settled under the list of the winners, and so it stays: of every cluster with these tables
 pub record StaysUnderWinners (t : Tables) : Type 0 where
   pub winners : List Row

@@ -1,7 +1,6 @@
 //! A stream of rows is answered, and the exit status says how.
 ghost use Rattle.std.specs.Prelude.{◌≡◌};
-ghost use Rattle.bep_rows.specs.declared.aim.Aim.TheVariants.{Firm, Settled};
-ghost use Rattle.bep_rows_answer.specs.Told.{IsFirmRowsTold, IsRowsHeard, IsSettledRowsTold, SaysFirmRows, SaysSettledRows};
+ghost use Rattle.bep_rows_answer.specs.Told.{IsFirmRowsHeard, IsFirmRowsTold, IsSettledRowsHeard, IsSettledRowsTold, SaysFirmRows, SaysSettledRows};
 
 use crate::stream::rows_text;
 use bep_answer::{Person, end, end_firm};
@@ -20,7 +19,7 @@ pub fn rows_and_tell<P: AllocGlobal, H: Person, R: Read, W: Write>(
 ) -> u8
     ensures told { IsSettledRowsTold (R.remaining reader.old) (R.remaining reader.new) (W.contents writer.old) (W.contents writer.new) result }
     ensures settled { result ≡ 0 → SaysSettledRows (R.remaining reader.old) (R.remaining reader.new) }
-    ensures heard { IsRowsHeard Settled (H.heard person.old) (H.heard person.new) result }
+    ensures heard { IsSettledRowsHeard (H.heard person.old) (H.heard person.new) result }
 {
     settled_stays_put();
     settled_stays_settled();
@@ -39,7 +38,7 @@ pub fn firm_rows_and_tell<P: AllocGlobal, H: Person, R: Read, W: Write>(
 ) -> u8
     ensures told { IsFirmRowsTold (R.remaining reader.old) (R.remaining reader.new) (W.contents writer.old) (W.contents writer.new) result }
     ensures firm { result ≡ 0 → SaysFirmRows (R.remaining reader.old) (R.remaining reader.new) }
-    ensures heard { IsRowsHeard Firm (H.heard person.old) (H.heard person.new) result }
+    ensures heard { IsFirmRowsHeard (H.heard person.old) (H.heard person.new) result }
 {
     firm_stays_firm();
     firm_stays_put();

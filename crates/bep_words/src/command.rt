@@ -4,7 +4,8 @@ ghost use Rattle.clap.specs.Words.{app_of, new_app, rule_of};
 ghost use Rattle.bep_words.specs.Mode.{IsCommand, audit_app, certify_app, explain_app, flag, program, rows_app, run_app, top_level};
 
 use crate::help::{
-    CERTIFY_HELP, CHECK_HELP, COMMANDS_HELP, CONVERGE_HELP, EXPLAIN_HELP, FIRM_HELP, ROWS_HELP, RUN_HELP,
+    CERTIFY_HELP, CHECK_HELP, COMMANDS_HELP, CONVERGE_HELP, EXPLAIN_HELP, FIRM_HELP, ROWS_HELP,
+    RUN_HELP,
 };
 use crate::release::RELEASE;
 use crate::turns::turns_option;

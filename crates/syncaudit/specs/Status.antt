@@ -23,8 +23,7 @@ use Rattle.bep_play.specs.Told.{IsEndTold, IsRunTold}
 use Rattle.bep_explain.specs.document.FirmExplained.{IsFirmExplanationTold}
 use Rattle.bep_explain.specs.document.Told.{IsExplanationTold}
 use Rattle.bep_explain.specs.document.UnderWinners.{IsExplanationToldUnderWinners, IsFirmExplanationToldUnderWinners}
-use Rattle.bep_rows_answer.specs.Told.{IsFirmRowsTold, IsRowsHeard, IsSettledRowsTold, SaysFirmRows, SaysSettledRows}
-use Rattle.bep_rows.specs.declared.aim.Aim.TheVariants as standards
+use Rattle.bep_rows_answer.specs.Told.{IsFirmRowsHeard, IsFirmRowsTold, IsSettledRowsHeard, IsSettledRowsTold, SaysFirmRows, SaysSettledRows}
 use Rattle.bep_report.specs.declared.error.ReportError.TheVariants.{Memory}
 use Rattle.clap.specs.Words.{Text, fault_of}
 use Rattle.bep_words.specs.Mode.{Asks, program}
@@ -69,8 +68,8 @@ IsFirming Winners unread left held now heard hears status = IsFirmToldUnderWinne
 
 -- what came of the stream of rows for what is asked of it
 abbrev pub IsReadingRows : Aim → Option (List ℕ) → Option (List ℕ) → Option (List ℕ) → Option (List ℕ) → Option (List Said) → Option (List Said) → ℕ → Type 0
-IsReadingRows aims.Settled unread left held now heard hears status = IsSettledRowsTold unread left held now status × IsRowsHeard standards.Settled heard hears status
-IsReadingRows aims.Firm unread left held now heard hears status = IsFirmRowsTold unread left held now status × IsRowsHeard standards.Firm heard hears status
+IsReadingRows aims.Settled unread left held now heard hears status = IsSettledRowsTold unread left held now status × IsSettledRowsHeard heard hears status
+IsReadingRows aims.Firm unread left held now heard hears status = IsFirmRowsTold unread left held now status × IsFirmRowsHeard heard hears status
 
 -- what came of the document for the certificate that is asked for
 abbrev pub IsCertifying : Extent → Option (List ℕ) → Option (List ℕ) → Option (List ℕ) → Option (List ℕ) → Option (List Said) → Option (List Said) → ℕ → Type 0

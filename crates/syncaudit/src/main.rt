@@ -21,11 +21,6 @@ use std::process::ExitCode;
 fn main(rt: HostRuntime) -> ExitCode {
     let words = env::args(&rt);
     let mut person = StandardError::of(&rt);
-    ExitCode::from(run_given(
-        &rt,
-        &mut person,
-        &mut rt.stdin(),
-        &mut rt.stdout(),
-        words,
-    ))
+    let status = run_given(&rt, &mut person, &mut rt.stdin(), &mut rt.stdout(), words);
+    ExitCode::from(status)
 }

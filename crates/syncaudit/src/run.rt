@@ -20,8 +20,8 @@ ghost use Rattle.bep_words.specs.declared.mode.Mode.TheVariants.{Check, Converge
 ghost use Rattle.bep_words.specs.declared.mode.Under.TheVariants.{Given, Winners};
 
 use bep_answer::{
-    Person, USAGE, certify_and_tell, certify_partly_and_tell, check_and_tell, check_under_winners_and_tell,
-    end, firm_and_tell, firm_under_winners_and_tell,
+    Person, USAGE, certify_and_tell, certify_partly_and_tell, check_and_tell,
+    check_under_winners_and_tell, end, firm_and_tell, firm_under_winners_and_tell,
 };
 use bep_converge_answer::converge_and_tell;
 use bep_converge_explain::explain_converge_and_tell;
