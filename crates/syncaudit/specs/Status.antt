@@ -93,11 +93,15 @@ abbrev pub IsExplaining : Goal → Under → Form → Option (List ℕ) → Opti
 IsExplaining goal Given form = IsExplainingGiven goal form
 IsExplaining goal Winners form = IsExplainingUnderWinners goal form
 
+-- what came of the document where it is asked whether its cut converges
+abbrev pub IsConverging : Option (List ℕ) → Option (List ℕ) → Option (List ℕ) → Option (List ℕ) → Option (List Said) → Option (List Said) → ℕ → Type 0
+IsConverging unread left held now heard hears status = IsConvergeTold unread left held now status × IsHeard converge_status_of TellsOfCut unread left heard hears status
+
 -- what came of the document, or of the stream of rows, in each mode
 abbrev pub IsDone : Mode → Option (List ℕ) → Option (List ℕ) → Option (List ℕ) → Option (List ℕ) → Option (List Said) → Option (List Said) → ℕ → Type 0
 IsDone (Check under) = IsChecking under
 IsDone (Firm under) = IsFirming under
-IsDone Converge unread left held now heard hears status = IsConvergeTold unread left held now status × IsHeard converge_status_of TellsOfCut unread left heard hears status
+IsDone Converge = IsConverging
 IsDone (Certify extent) = IsCertifying extent
 IsDone (Explain goal under form) = IsExplaining goal under form
 IsDone (Rows aim) = IsReadingRows aim
