@@ -44,3 +44,17 @@ func TestAChoiceThatCannotBeKept(t *testing.T) {
 		t.Errorf("%v, asked %d times", err, asks)
 	}
 }
+
+// No two names of folders have one key, whatever letters they have: neither an id nor a name has a zero byte.
+func TestKeysOfNames(t *testing.T) {
+	texts, found := []string{"a", "b", "c", "ab", "bc", "\x01", "a\x01", "\x01a", "a\x01b", "b\x01c", "\x01\x01", "a b", "b c", " ", "a/b", "b/c", "\xff", "a\xff", "\xffb"}, map[string]string{}
+	for _, folder := range texts {
+		for _, name := range texts {
+			key := string(keyOf(folder, name))
+			if had, is := found[key]; is {
+				t.Errorf("%q and %q of %q have the key %q", had, name, folder, key)
+			}
+			found[key] = name
+		}
+	}
+}

@@ -57,3 +57,30 @@ func TestPlansThatFail(t *testing.T) {
 		}
 	}
 }
+
+// A plan whose time is over while names are counted, or while they are chosen, is none, and leaves nothing.
+func TestPlansThatAreStopped(t *testing.T) {
+	const names = 600 // more than are read ahead
+	c := newCluster(t, 2)
+	for number := 0; number < names; number++ {
+		c.record(fmt.Sprintf("%03d", number), 100, 0, 1)
+	}
+	places := []Place{{Folder: "docs", Device: 0, Index: c.indexes[0]}, {Folder: "docs", Device: 1, Index: c.indexes[1]}}
+	for _, last := range []int{1, 2, names + 1, names + 2} {
+		ctx, stop := context.WithCancel(context.Background())
+		room, asked := t.TempDir(), 0
+		isFault := func(string, string) bool {
+			if asked++; asked == last {
+				stop()
+			}
+			return false
+		}
+		plan, err := Make(ctx, c.history, places, Asked{Bytes: 1000, IsFault: isFault, Room: room})
+		if plan != nil || !errors.Is(err, context.Canceled) || asked < last || asked >= last+names-1 {
+			t.Errorf("stopped at %d, asked of %d: %v", last, asked, err)
+		}
+		if left, err := os.ReadDir(room); err != nil || len(left) > 0 {
+			t.Errorf("stopped at %d: %v is left, %v", last, left, err)
+		}
+	}
+}

@@ -88,4 +88,15 @@ func TestNamesOfEachKind(t *testing.T) {
 	if bytes, err := index.Bytes(choice.Names{}); bytes != 2*8*protocol.MinBlockSize || err != nil {
 		t.Errorf("%d bytes, %v", bytes, err)
 	}
+	slices := int64(0)
+	for slice := 1; slice <= 3; slice++ { // of which each entry is read
+		bytes, err := index.Bytes(choice.Names{Slice: slice, Slices: 3})
+		if err != nil {
+			t.Error(err)
+		}
+		slices += bytes
+	}
+	if slices != 2*8*protocol.MinBlockSize {
+		t.Errorf("%d bytes in all slices", slices)
+	}
 }

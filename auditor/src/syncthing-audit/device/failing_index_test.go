@@ -119,8 +119,15 @@ func TestWhatAnIndexHasNotHeardOf(t *testing.T) {
 		}
 	}
 	index.Config.ID = "none"
-	if count, err := index.countOf(protocol.LocalDeviceID, choice.Names{}); err != nil || count != 0 {
-		t.Errorf("%d, %v", count, err)
+	for number := byte(1); number < 4; number++ { // entries of other folders, of which one has the number that a device has
+		if err := index.home.backend.Put([]byte{db.KeyTypeDevice, 0, 0, 0, number, 0, 0, 0, 1, 'a'}, nil); err != nil {
+			t.Fatal(err)
+		}
+	}
+	for _, of := range []protocol.DeviceID{protocol.LocalDeviceID, otherDevice} {
+		if count, err := index.countOf(of, choice.Names{}); err != nil || count != 0 {
+			t.Errorf("%v: %d, %v", of, count, err)
+		}
 	}
 }
 

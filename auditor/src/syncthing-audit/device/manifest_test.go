@@ -4,6 +4,8 @@ import (
 	"bufio"
 	"bytes"
 	"encoding/binary"
+	"io"
+	"math"
 	"os"
 	"testing"
 )
@@ -20,6 +22,15 @@ func TestATextThatIsTooLong(t *testing.T) {
 		made := &manifest{}
 		if err := made.read(bufio.NewReader(bytes.NewReader(entry))); (err == nil) != one.isText {
 			t.Errorf("%d bytes: %v", one.length, err)
+		}
+	}
+}
+
+// A text may have as many bytes as an 'int' of 32 bits can say; where they aren't there, the manifest ends too early.
+func TestTheLongestTextOfAManifest(t *testing.T) {
+	for length, told := range map[uint64]string{math.MaxInt32: io.EOF.Error(), math.MaxInt32 + 1: "it has a text of 2147483648 bytes"} {
+		if err := passOver(bufio.NewReader(bytes.NewReader(nil)), length); err == nil || err.Error() != told {
+			t.Errorf("%d bytes: %v", length, err)
 		}
 	}
 }

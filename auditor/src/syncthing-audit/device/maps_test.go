@@ -84,3 +84,14 @@ func TestAHomeOfAContainer(t *testing.T) {
 		t.Error(err)
 	}
 }
+
+// A home is read with its folders where the maps say, or not at all.
+func TestAHomeThatIsReadWithMaps(t *testing.T) {
+	dir, docs := aHome(t)
+	for from, place := range map[string]string{docs: "/volume1/docs", "/": "/volume1/docs" + docs, docs + "2": ""} {
+		_, read, err := About(dir, Map{from, "/volume1/docs"})
+		if (err == nil) != (place != "") || err == nil && read.Folders[0].Path != place || err != nil && !strings.Contains(err.Error(), "no --map has that") {
+			t.Errorf("%s: %+v, %v", from, read.Folders, err)
+		}
+	}
+}

@@ -45,6 +45,22 @@ func TestEndOfRecords(t *testing.T) {
 	}
 }
 
+// A header that has just room in its block is read, also where no byte stands behind it.
+func TestARecordThatEndsItsBlock(t *testing.T) {
+	for room := 0; room < 2*bytesOfHeader; room++ {
+		log, ends := recordsOf(t, bytesOfBlock-bytesOfHeader-room, 0)
+		for length := ends[0]; length <= len(log); length++ {
+			due := ends[0]
+			if length == ends[1] {
+				due = ends[1]
+			}
+			if end, err := endOfRecords(log[:length]); err != nil || end != due {
+				t.Errorf("with room for %d bytes, cut off at %d it ends at %d, not %d: %v", room, length, end, due, err)
+			}
+		}
+	}
+}
+
 // What is wrong inside a log isn't taken for its end.
 func TestDamagedRecords(t *testing.T) {
 	log, ends := recordsOf(t, 10, 20, 30)

@@ -46,7 +46,7 @@ func TestAnotherSchema(t *testing.T) {
 		told   string
 	}{
 		{0, "doesn't say of which schema it is: start Syncthing on it once"},
-		{13, "schema 13"}, // the packages of 1.29 say that it is too old
+		{13, "schema 13, "}, // the packages of 1.29 say that it is too old
 		{15, "has schema 15, which Syncthing's packages don't read as this program has them: Syncthing v1.99.0 required"},
 	}
 	for _, one := range cases {

@@ -148,6 +148,18 @@ func TestSequencesOfADeletedFolder(t *testing.T) {
 	}
 }
 
+// Own entries are behind a folder's greatest sequence from the next one on, and those of another folder aren't.
+func TestWhichSequencesAreBehind(t *testing.T) {
+	behind := sequencesBehind([]byte{0, 0, 0, 5}, 254)
+	for key, is := range map[string]bool{"\x00\x00\x00\x05\x00\x00\x00\x00\x00\x00\x00\xfe": false, "\x00\x00\x00\x05\x00\x00\x00\x00\x00\x00\x00\xff": true,
+		"\x00\x00\x00\x05\x00\x00\x00\x00\x00\x00\x01\x00": true, "\x00\x00\x00\x06\x00\x00\x00\x00\x00\x00\x00\xff": false} {
+		whole := string([]byte{db.KeyTypeSequence}) + key
+		if (whole >= string(behind.Start) && whole < string(behind.Limit)) != is {
+			t.Errorf("% x: not %v", whole, is)
+		}
+	}
+}
+
 // A copy is taken where it is whole, opens, and has no entry behind a folder's greatest sequence; where it isn't, one is told apart that another round may mend.
 func TestWhichCopyIsTaken(t *testing.T) {
 	for why, row := range map[string]struct {

@@ -3,6 +3,7 @@ package device
 import (
 	"os"
 	"path/filepath"
+	"strings"
 	"testing"
 )
 
@@ -35,7 +36,7 @@ func TestIndexesThatChange(t *testing.T) {
 		if err := one.change(database); err != nil {
 			t.Fatal(err)
 		}
-		if err := home.checkUnchanged(); (err == nil) != one.good {
+		if err := home.checkUnchanged(); (err == nil) != one.good || err != nil && !strings.HasPrefix(err.Error(), "refused: "+home.Dir+": its index changed while it was read (") {
 			t.Errorf("%s: %v", one.why, err)
 		}
 	}

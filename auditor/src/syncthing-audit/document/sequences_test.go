@@ -20,9 +20,9 @@ func TestNumbersThatAreTaken(t *testing.T) {
 				t.Fatalf("round %d: %d is taken: %v", round, number, taken[number])
 			}
 			taken[number] = true
-		}
-		if numbers.count != len(taken) || len(numbers.table) < 2*numbers.count {
-			t.Fatalf("%d of %d in %d", numbers.count, len(taken), len(numbers.table))
+			if numbers.count != len(taken) || len(numbers.table) < 2*numbers.count {
+				t.Fatalf("%d of %d in %d", numbers.count, len(taken), len(numbers.table))
+			}
 		}
 		numbers.reset()
 	}

@@ -193,7 +193,7 @@ func TestNodesThatAreAlike(t *testing.T) {
 		return []part.Content{{Size: 5, BlockSize: blockSize, Hash: [32]byte{hash}}}
 	}
 	nodes := []part.Node{{ModifiedS: 5}, {ModifiedS: 5, Contents: content(1, 1<<17)}, {ModifiedS: 5, Contents: content(1, 1<<18)}, {ModifiedS: 5, Contents: content(2, 1<<17)},
-		{ModifiedS: 6, Contents: content(1, 1<<17)}, {Type: 1, ModifiedS: 5}, {Type: 4, ModifiedS: 5, Target: "x"}, {Type: 4, ModifiedS: 5, Target: "y"}}
+		{ModifiedS: 6, Contents: content(1, 1<<17)}, {ModifiedS: 5, ModifiedNs: 7, Contents: content(1, 1<<17)}, {ModifiedS: 5, ModifiedNs: 7}, {Type: 1, ModifiedS: 5}, {Type: 4, ModifiedS: 5, Target: "x"}, {Type: 4, ModifiedS: 5, Target: "y"}}
 	for first := range nodes {
 		for second := range nodes {
 			one, other := nodes[first], nodes[second]
@@ -265,18 +265,19 @@ func rowOfLine(name string, sequence int64, length int) *join.Row {
 
 // A line of just as many bytes as it may have is in a stream, and a stream of just as many lines' bytes is one.
 func TestLinesOfJustAsManyBytes(t *testing.T) {
-	for _, length := range []int{mostBytesOfLine - 1, mostBytesOfLine, mostBytesOfLine + 1} {
+	const ofLine, ofStream = 1 << 20, 2 << 20 // `syncaudit rows` reads no longer lines
+	for _, length := range []int{ofLine - 1, ofLine, ofLine + 1} {
 		made, out := streamed(twoDevices(), []*join.Row{rowOfLine("a", 1, length)})
-		if len(made) != 1 || out != nil || made[0].IsStream() != (length <= mostBytesOfLine) {
+		if len(made) != 1 || out != nil || made[0].IsStream() != (length <= ofLine) {
 			t.Errorf("%d bytes: %d streams, without %v", length, len(made), out)
 		}
 	}
 	for more := -1; more < 2; more++ {
-		rows := []*join.Row{rowOfLine("a", 1, mostBytesOfLine), rowOfLine("b", 2, bytesOfStream-mostBytesOfLine-500), rowOfLine("c", 3, 500+more)}
+		rows := []*join.Row{rowOfLine("a", 1, ofLine), rowOfLine("b", 2, ofStream-ofLine-500), rowOfLine("c", 3, 500+more)}
 		if made, out := streamed(twoDevices(), rows); out != nil || (len(made) == 1) != (more <= 0) {
 			t.Errorf("%d bytes more than a stream: %d streams, without %v", more, len(made), out)
 		}
-		two := []*join.Row{rowOfLine("a", 1, mostBytesOfLine), rowOfLine("b", 2, bytesOfStream-mostBytesOfLine+more)}
+		two := []*join.Row{rowOfLine("a", 1, ofLine), rowOfLine("b", 2, ofStream-ofLine+more)}
 		if made, out := streamed(twoDevices(), two); out != nil || (len(made) == 1) != (more <= 0) {
 			t.Errorf("%d bytes more than a stream in two lines: %d streams, without %v", more, len(made), out)
 		}
@@ -285,13 +286,14 @@ func TestLinesOfJustAsManyBytes(t *testing.T) {
 
 // A stream has no more names and bytes than it may, and no two of one sequence; one that is left out takes no room.
 func TestBoundsOfStreams(t *testing.T) {
+	const mostNames = 1024
 	rows := []*join.Row{}
-	for place := 0; place < 2*mostRows+1; place++ {
+	for place := 0; place < 2*mostNames+1; place++ {
 		rows = append(rows, rowOf(fmt.Sprintf("%05d", place), int64(place+1), 5))
 	}
 	rows[1].At[0].Own.Sequence = 1
 	made, out := streamed(twoDevices(), rows)
-	if len(made) != 2 || len(made[0].Rows) != mostRows || len(made[1].Rows) != mostRows || len(out) != 1 || out[0] != "00001" {
+	if len(made) != 2 || len(made[0].Rows) != mostNames || len(made[1].Rows) != mostNames || len(out) != 1 || out[0] != "00001" {
 		t.Errorf("%d streams, without %v", len(made), out)
 	}
 	long := []*join.Row{}

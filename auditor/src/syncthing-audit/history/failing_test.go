@@ -134,6 +134,11 @@ var questions = map[string]func(history *History) error{
 	"take other": func(history *History) error {
 		return history.Take(device{"a": {bytes: 'x'}}.partOf(1, choice.Names{}), night(2))
 	},
+	"take no names": func(history *History) error { // of a part that ends early
+		stream := device{}.partOf(1, choice.Names{})
+		stream.lines = stream.lines[:1]
+		return history.Take(stream, night(2))
+	},
 	"keep": func(history *History) error {
 		_, err := history.Keep(night(2), named("b c"), func(Fault) bool { return true })
 		return err
@@ -178,6 +183,12 @@ var questions = map[string]func(history *History) error{
 		numbers := []uint64{part.Number(ids[0]), part.Number(ids[1])}
 		_, err := history.Since(Audited{At: night(2), Found: named("b c"), Folders: map[string][]uint64{"docs": numbers},
 			IDs: map[uint64]string{numbers[0]: ids[0], numbers[1]: ids[1]}, Names: func(string, string) bool { return true }})
+		return err
+	},
+	"since of none": func(history *History) error { // which devices that were read before are absent is looked up alone
+		numbers := []uint64{part.Number(ids[0]), part.Number(ids[1])}
+		_, err := history.Since(Audited{At: night(2), Folders: map[string][]uint64{"docs": nil}, Sharing: map[string][]uint64{"docs": numbers},
+			Names: func(string, string) bool { return true }})
 		return err
 	},
 }

@@ -38,7 +38,7 @@ func TestKeysOfOlderPrograms(t *testing.T) {
 
 // A history that another process has open is busy, and no other one is.
 func TestWhichHistoriesAreBusy(t *testing.T) {
-	for err, is := range map[error]bool{syscall.EWOULDBLOCK: true, storage.ErrLocked: true, fmt.Errorf("x: %w", syscall.EAGAIN): true, os.ErrNotExist: false, nil: false} {
+	for err, is := range map[error]bool{syscall.EWOULDBLOCK: true, storage.ErrLocked: true, fmt.Errorf("x: %w", syscall.EAGAIN): true, fmt.Errorf("x: %w", storage.ErrLocked): true, os.ErrNotExist: false, nil: false} {
 		if isBusy(err) != is {
 			t.Errorf("%v: %v", err, !is)
 		}
@@ -64,6 +64,7 @@ func TestAFaultThatCannotBeRead(t *testing.T) {
 // A history is for its user alone.
 func TestWhoMayReadAHistory(t *testing.T) {
 	room := filepath.Join(t.TempDir(), "above", "history")
+	defer syscall.Umask(syscall.Umask(0)) // which an earlier test may have left at what a history wants
 	history, err := Open(room)
 	if err != nil {
 		t.Fatal(err)

@@ -106,7 +106,12 @@ func TestNothingGoesOnInAHistory(t *testing.T) {
 	device := part.Number(ids[0])
 	audit := Audited{At: night(2), Folders: map[string][]uint64{"docs": {device}}, Sharing: map[string][]uint64{"docs": {part.Number(ids[1])}}, Names: func(string, string) bool { return true }}
 	for what, does := range map[string]func() error{
-		"a part":        func() error { return history.Take(files.partOf(0, choice.Names{}), night(1)) },
+		"a part": func() error { return history.Take(files.partOf(0, choice.Names{}), night(1)) },
+		"two folders": func() error {
+			stream := files.partOf(0, choice.Names{})
+			stream.lines = append(stream.lines, part.Line{Begin: &part.Begin{Folder: "pics"}}, part.Line{End: &part.End{Folder: "pics", Last: true}})
+			return history.Take(stream, night(1))
+		},
 		"a part in all": func() error { return teeOf(history, files, 99) },
 		"half a part":   func() error { return teeOf(history, files, 2) },
 		"an audit":      func() error { _, err := history.Since(audit); return err },

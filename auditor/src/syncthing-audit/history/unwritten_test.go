@@ -77,6 +77,16 @@ func TestEachWriteOfAHistoryThatFails(t *testing.T) {
 		"files that are gone":       func(h *History) error { return h.Take(device{}.partOf(0, choice.Names{}), night(2)) },
 		"what was asked for":        func(h *History) error { return putAsked(h, 0, count) },
 		"what isn't asked any more": func(h *History) error { return putAsked(h, count, 1) },
+		"what is put": func(h *History) error {
+			writer := h.AskedWriter("docs", part.Number(ids[0]))
+			defer writer.Release()
+			return writer.Put(longName(count), AskedFor{At: 5, Sequence: 7})
+		},
+		"what stays as it is": func(h *History) error {
+			writer := h.AskedWriter("docs", part.Number(ids[0]))
+			defer writer.Release()
+			return writer.Stay(longName(count)) // what is before it is forgotten
+		},
 		"an audit": func(h *History) error {
 			_, err := h.Keep(night(2), named("a b"), func(Fault) bool { return true })
 			return err

@@ -1,8 +1,11 @@
 package history
 
 import (
+	"math"
 	"strings"
 	"testing"
+
+	"syncthing-audit/part"
 )
 
 // One looks for the bytes before they changed under their time, and else for those that were read last, of all devices each once.
@@ -32,5 +35,19 @@ func TestWanted(t *testing.T) {
 		if err != nil || len(told) != len(one.wanted) || strings.Join(told, "") != one.wanted && strings.Join(told, "") != "ba" {
 			t.Errorf("%s: %v, %v", one.why, told, err)
 		}
+	}
+}
+
+// What was read of another folder, whose keys are as long, isn't what one may look for in this one.
+func TestWantedOfAnotherFolder(t *testing.T) {
+	history := opened(t)
+	reading := Reading{At: night(1), Content: part.Content{Size: 9, BlockSize: 9}}
+	for _, folder := range []string{"docr", "doct"} { // before it, and behind it
+		if err := history.db.Put(keyOfReading(folder, math.MaxUint64, "f"), reading.bytes(), nil); err != nil {
+			t.Fatal(err)
+		}
+	}
+	if found, err := history.Wanted("docs", "f"); err != nil || len(found) > 0 {
+		t.Errorf("%+v, %v", found, err)
 	}
 }

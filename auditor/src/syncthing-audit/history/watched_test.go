@@ -69,6 +69,9 @@ func TestATeeThatEndsEarly(t *testing.T) {
 		if due := map[int]int{2: 1, 3: 2, 4: 2}[taken]; kept != due {
 			t.Errorf("%d lines: %d names are kept, not %d", taken, kept, due)
 		}
+		if drained(t, tee); tee.End() != nil || len(history.readings(t, 0)) != kept {
+			t.Errorf("%d lines: behind the end %d names are kept, not %d", taken, len(history.readings(t, 0)), kept)
+		}
 	}
 }
 

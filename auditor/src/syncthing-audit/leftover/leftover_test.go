@@ -84,7 +84,7 @@ func TestPipesThatNobodyReads(t *testing.T) {
 	input.Write([]byte("\n"))
 	child.Wait()
 	left, err := os.ReadDir(room)
-	if err != nil || len(left) != 0 || child.ProcessState.ExitCode() != statusOfSignal+int(syscall.SIGPIPE) {
+	if err != nil || len(left) != 0 || child.ProcessState.ExitCode() != 128+int(syscall.SIGPIPE) {
 		t.Errorf("left are %v, the status is %d", left, child.ProcessState.ExitCode())
 	}
 }
@@ -118,7 +118,7 @@ func TestSignals(t *testing.T) {
 		}
 		child.Wait()
 		left, err := os.ReadDir(room)
-		if err != nil || len(left) != 0 || child.ProcessState.ExitCode() != statusOfSignal+int(number) {
+		if err != nil || len(left) != 0 || child.ProcessState.ExitCode() != 128+int(number) {
 			t.Errorf("%v: left are %v, the status is %d", number, left, child.ProcessState.ExitCode())
 		}
 	}

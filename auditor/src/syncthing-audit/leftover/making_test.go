@@ -34,7 +34,7 @@ func TestDirectoriesThatAreMade(t *testing.T) {
 	if _, err := os.Stat(filepath.Join(room, "a", "b")); !os.IsNotExist(err) || directories != nil || !isThere(filepath.Join(room, "a", "file")) {
 		t.Errorf("%v, %v", directories, err)
 	}
-	for _, none := range []string{filepath.Join(room, "a", "file"), filepath.Join(room, "a", "file", "below"), "/proc/none", "/proc/none/above/below"} {
+	for _, none := range []string{filepath.Join(room, "a", "file"), filepath.Join(room, "a", "file", "below"), "/proc/none", "/proc/none/above", "/proc/none/above/below"} {
 		if err := makeAt(none); err == nil || len(directories) != 0 {
 			t.Errorf("%s: %v, %v", none, directories, err)
 		}

@@ -1,6 +1,8 @@
 package observing
 
 import (
+	"errors"
+	"io"
 	"path/filepath"
 	"strings"
 	"testing"
@@ -63,4 +65,45 @@ func TestLooksByTurns(t *testing.T) {
 	here.expect("a device that isn't looked at", exit.Partial, "not read this time: docs on device a (")
 	here.asked.History = filepath.Join(here.asked.Homes[0], "cert.pem")
 	here.expect("a history that is none", exit.Refused, "cert.pem")
+}
+
+// deaf takes what is written to it until it comes to some words.
+type deaf struct{ to string }
+
+func (d deaf) Write(text []byte) (int, error) {
+	if strings.Contains(string(text), d.to) {
+		return 0, errors.New("no room")
+	}
+	return len(text), nil
+}
+
+// Where it can't be told what waits, or that nothing does, the run fails.
+func TestWhatWaitsCannotBeTold(t *testing.T) {
+	here := newWorld(t, 1, map[string]string{"a": "some", "b": "text"})
+	for words, bytes := range map[string]int64{"not read this time": 1, "all files were read this time": 1 << 20} {
+		here.asked.Budget = bytes
+		if _, err := Run(here.asked, deaf{words}, io.Discard); err == nil || !strings.Contains(err.Error(), "no room") {
+			t.Errorf("%s: %v", words, err)
+		}
+	}
+}
+
+// A history that is kept of looks without a budget has no turns, and nothing waits.
+func TestAHistoryWithoutABudget(t *testing.T) {
+	here := newWorld(t, 1, map[string]string{"a": "text"})
+	here.asked.History = filepath.Join(here.asked.Homes[0], "own")
+	for _, why := range []string{"the first look", "the next one"} {
+		if told := here.expect(why, exit.Partial, inStep); strings.Contains(told, "read this time") || here.asksFor() != "a" {
+			t.Errorf("%s: %s", why, told)
+		}
+	}
+}
+
+// Where it can't be chosen what is asked for, no connection stays open.
+func TestNoConnectionsWithoutAChoice(t *testing.T) {
+	here := newWorld(t, 2, map[string]string{"a": "text"})
+	sockets := countSockets(t)
+	here.asked.Budget, here.asked.History = 1, filepath.Join(here.asked.Homes[0], "cert.pem")
+	here.expect("a history that is none", exit.Refused, "cert.pem")
+	awaitSockets(t, sockets)
 }

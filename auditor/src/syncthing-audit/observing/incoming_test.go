@@ -25,10 +25,10 @@ func (f *failingListener) Accept() (net.Conn, error) {
 	return nil, net.ErrClosed
 }
 
-// Want of descriptors passes: devices that connect later are taken all the same. A listener that is closed ends it.
+// Want of descriptors passes: devices that connect later are taken all the same, and until then it isn't tried at once again. A listener that is closed ends it.
 func TestAcceptingGoesOn(t *testing.T) {
 	listener := &failingListener{fails: 3, waits: make(chan struct{}), isEnded: make(chan struct{})}
-	ended := make(chan struct{})
+	begin, ended := time.Now(), make(chan struct{})
 	go func() {
 		(&observing{incoming: listener}).accept()
 		close(ended)
@@ -39,6 +39,9 @@ func TestAcceptingGoesOn(t *testing.T) {
 		t.Fatal("it takes no connection any more")
 	case <-time.After(20 * time.Second):
 		t.Fatal("it hangs")
+	}
+	if waited := time.Since(begin); waited < 3*pauseOfAccepting {
+		t.Errorf("it waits %v alone for three pauses", waited)
 	}
 	close(listener.isEnded)
 	<-ended

@@ -1,9 +1,11 @@
 package observing
 
 import (
+	"errors"
 	"fmt"
 	"os"
 	"path/filepath"
+	"regexp"
 	"sort"
 	"strings"
 	"testing"
@@ -85,12 +87,16 @@ func (w *world) run() (int, string, string, error) {
 	return status, output.String(), log.String(), err
 }
 
-// expect runs, and checks the status, which is a refusal where it is Refused, and that these words are told. Nothing of the run stays but in its home.
+// expect runs, and checks the status, which is a refusal where it is Refused, and that these words are told. Nothing of the run stays but in its home. What
+// fails before there is an answer has no status of one.
 func (w *world) expect(why string, due int, words ...string) string {
 	w.t.Helper()
 	before := fixture.CountOpened(w.t, w.isOfRun)
 	status, output, log, err := w.run()
 	if err != nil {
+		if output == "" && status != exit.Done {
+			w.t.Errorf("%s: status %d without an answer", why, status)
+		}
 		status = exit.Refused
 	}
 	told := fmt.Sprint(output, log, err)
@@ -214,8 +220,17 @@ func TestPartsOverTheWire(t *testing.T) {
 	if sort.Strings(due); err != nil || strings.Join(due, " ") != strings.Join(names, " ") {
 		t.Errorf("%v, not %v: %v", names, due, err)
 	}
+	for _, directory := range []string{here.asked.Into, filepath.Dir(here.asked.Homes[0])} { // nobody else may look into them
+		if about, err := os.Stat(directory); err != nil || about.Mode().Perm() != 0o700 {
+			t.Errorf("%s: %v, %v", directory, about.Mode(), err)
+		}
+	}
 	for _, device := range here.devices {
-		file, err := os.Open(filepath.Join(here.asked.Into, device.ID.String()[:7]+".part"))
+		path := filepath.Join(here.asked.Into, device.ID.String()[:7]+".part")
+		if id, err := readHalf(path, device.ID, ""); id != "" || !errors.Is(err, errOtherHalf) || !strings.HasSuffix(err.Error(), ": it is no part of disks alone") {
+			t.Errorf("a whole part in place of one of disks: %s, %v", id, err)
+		}
+		file, err := os.Open(path)
 		if err != nil {
 			t.Fatal(err)
 		}
@@ -249,5 +264,33 @@ func TestADeviceThatNamesNobody(t *testing.T) {
 	here.expect("nobody", exit.Partial, here.asked.Parts[1]+": not connected: "+string(wire.BadMessage)+": its ClusterConfig: a device without an id", "hashed on device a;")
 	if pages[0].takeScanned() != "" {
 		t.Error("a scan is asked for")
+	}
+}
+
+// Devices are told in the order of their ids, those that are asked as well as those that aren't.
+func TestTheOrderOfDevices(t *testing.T) {
+	here := newWorld(t, 5, map[string]string{"a": "text"})
+	all := []string{}
+	for _, device := range here.devices {
+		all = append(all, device.ID.String())
+	}
+	sort.Strings(all)
+	ids := func(pattern, told string) string {
+		found := []string{}
+		for _, words := range regexp.MustCompile(pattern).FindAllStringSubmatch(told, -1) {
+			found = append(found, words[1])
+		}
+		return strings.Join(found, " ")
+	}
+	here.asked.Lines = true
+	if told := here.expect("all are asked", exit.Partial); ids(` is ([A-Z0-9-]{63}) \(`, told) != strings.Join(all, " ") {
+		t.Errorf("not in the order %v: %s", all, told)
+	}
+	here.asked.Lines, here.asked.Strict = false, true
+	first := strings.SplitN(here.asked.Parts[0], "@", 2)[0]
+	here.asked.Parts = here.asked.Parts[:1]
+	others := strings.ReplaceAll(strings.TrimSpace(strings.ReplaceAll(strings.Join(all, " "), first, "")), "  ", " ")
+	if told := here.expect("one is asked", exit.Refused, "share the folder, and aren't asked"); ids(`known \(([A-Z0-9-]{63})\)`, told) != others {
+		t.Errorf("not in the order %v: %s", others, told)
 	}
 }

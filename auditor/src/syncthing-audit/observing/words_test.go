@@ -3,6 +3,7 @@ package observing
 import (
 	"errors"
 	"fmt"
+	"io"
 	"os"
 	"path/filepath"
 	"strings"
@@ -49,6 +50,13 @@ func TestWordsOfObserve(t *testing.T) {
 		if due := map[bool]string{true: "/home/history", false: row.asked.History}[row.asked.Budget+int64(row.asked.Every) > 0 && row.told == ""]; asked.History != due {
 			t.Errorf("%+v: history %s, not %s", row.asked, asked.History, due)
 		}
+		if row.told == "" {
+			continue
+		}
+		asked.Homes, asked.History = row.asked.Homes, row.asked.History
+		if status, err := Run(asked, io.Discard, io.Discard); status != 0 || err == nil || !strings.Contains(err.Error(), row.told) {
+			t.Errorf("%+v: a run has status %d, %v", row.asked, status, err)
+		}
 	}
 	kept := commandline.Options{Homes: []string{"/home"}, Budget: 1, History: "own"}
 	if err := checkObserve(&kept); err != nil || kept.History != "own" {
@@ -92,6 +100,13 @@ func TestAddressesOfDevices(t *testing.T) {
 		if (err == nil) != (row.told == "") || err != nil && !strings.Contains(err.Error(), row.told) || fmt.Sprint(found) != fmt.Sprint(row.addresses) {
 			t.Errorf("%v: %v, %v", row.words, found, err)
 		}
+		ids := (&observing{addresses: found}).idsOfAll()
+		for place, given := range row.addresses {
+			if len(ids) != len(row.addresses) || ids[place] != given.id {
+				t.Errorf("%v: the devices are %v", row.words, ids)
+				break
+			}
+		}
 	}
 	if portOf("tcp://:22000") != ":22000" || portOf("127.0.0.1:1") != "127.0.0.1:1" {
 		t.Error("a port to listen at is another one")
@@ -125,7 +140,7 @@ func TestWordsOfWhatWaits(t *testing.T) {
 		}
 	}
 	seen := &observing{devices: []*observe.Device{nil, {ID: protocol.DeviceID{7: 1}, Hello: wire.Hello{Name: "a b"}}}}
-	if told, unknown := seen.called(1), seen.called(2); told != "a b (AAAAAAA)" || unknown != "2" {
+	if told, unknown := seen.called(1), seen.called(12); told != "a b (AAAAAAA)" || unknown != "12" {
 		t.Errorf("%q, %q", told, unknown)
 	}
 }

@@ -1,0 +1,73 @@
+package observing
+
+import (
+	"os"
+	"strings"
+	"testing"
+	"time"
+
+	"syncthing-audit/ask"
+	"syncthing-audit/exit"
+)
+
+// The time between the looks is that of the observer's own clock. A part that can't be read is told by what its device was given as.
+func TestAnswersOfPartsOfARun(t *testing.T) {
+	here := newWorld(t, 1, map[string]string{"a": "text"})
+	meeting, program := here.meeting(""), ask.Program{Path: here.asked.Program}
+	meeting.room, meeting.asked.Lines = t.TempDir(), true
+	meeting.addresses[0].where, meeting.addresses[0].given = here.devices[0].Address, "the laptop"
+	if err := program.Find(); err != nil {
+		t.Fatal(err)
+	}
+	if err := meeting.listen(); err != nil {
+		t.Fatal(err)
+	}
+	defer meeting.close()
+	if err := meeting.look(); err != nil {
+		t.Fatal(err)
+	}
+	files, err := meeting.write()
+	if err != nil || len(files) != 1 {
+		t.Fatal(files, err)
+	}
+	for due, between := range map[string]time.Duration{"still: docs 7.000 s,": 7 * time.Second, "still: docs 0.250 s,": time.Second / 4} {
+		meeting.second = meeting.first.Add(between)
+		var output strings.Builder
+		if status, err := meeting.answer(program, files, &output); status != exit.Partial || err != nil || !strings.Contains(output.String(), due) {
+			t.Errorf("%v between the looks: %d, %v: %s", between, status, err, output.String())
+		}
+	}
+	for path := range files {
+		if err := os.Remove(path); err != nil {
+			t.Fatal(err)
+		}
+		var output strings.Builder
+		status, err := meeting.answer(program, files, &output)
+		if status != 0 || err == nil || !strings.Contains(err.Error(), "the laptop") || strings.Contains(err.Error(), path) || output.Len() > 0 {
+			t.Errorf("a part that is gone: %d, %v: %s", status, err, output.String())
+		}
+	}
+}
+
+// Where a device's index can't be read any more, no command for a walk is told, and none is awaited.
+func TestAWalkWithoutAnIndex(t *testing.T) {
+	here := newWorld(t, 1, map[string]string{"a": "text"})
+	meeting := here.meeting("")
+	meeting.addresses[0].where = here.devices[0].Address
+	if err := meeting.listen(); err != nil {
+		t.Fatal(err)
+	}
+	defer meeting.close()
+	if err := meeting.look(); err != nil {
+		t.Fatal(err)
+	}
+	var log strings.Builder
+	meeting.log, meeting.asked.Disks = &log, map[int]string{0: "/nowhere/disks.part"}
+	meeting.keptOf(here.devices[0].ID, "docs").Close()
+	if err := meeting.tellCommand(0); err == nil || log.Len() > 0 {
+		t.Fatalf("%v: %s", err, log.String())
+	}
+	if err := meeting.waitForDisks(); err == nil {
+		t.Error("it goes on")
+	}
+}
