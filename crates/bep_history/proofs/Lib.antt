@@ -1,5 +1,6 @@
 mod Filtered
 mod EachSeat
 mod Moves
+mod SeatMoves
 mod PartsFit
 mod AddedIsClaimed

@@ -1,18 +1,15 @@
 -- Each step keeps the rule.
-use Rattle.std.proofs.Common.{◌≡◌, ◌≢◌, ◌<◌, ℕ, zero, suc, ◌+◌, Bool, true, false, if◌then◌else◌, eqb, List, [], ◌∷◌, ◌++◌, length, set, Contains, refl, sym, ap, ◌∙◌, subst, inl, inr, ⊎_elim, eq-eqb, ne_eqb, arith}
+use Rattle.std.proofs.Common.{◌≡◌, ◌≢◌, ◌<◌, ℕ, zero, suc, ◌+◌, Bool, true, false, if◌then◌else◌, eqb, List, [], ◌∷◌, ◌++◌, set, Contains, refl, sym, ap, ◌∙◌, subst, ⊎_elim, eq-eqb, ne_eqb, arith}
 use Rattle.std.specs.Prelude.{slice_index, MatchBool}
-use Rattle.std.specs.List.{flat_map}
 use Rattle.std.proofs.lemmas.Bool.{eqb-true}
-use Rattle.std.proofs.lemmas.List.Elements.{Contains-append_cases, Contains-append_left, Contains-push_cases}
+use Rattle.std.proofs.lemmas.List.Elements.{Contains-append_left, Contains-push_cases}
 use mathlib.Core.Option.{none, some, some-ne-none, some-injective}
 use lib.ListN.{get_elem?}
 use prog.Atomic.{either}
 use Rattle.atomic_table.specs.Table as table
 use Rattle.atomic_table.specs.Table.{State, Me, Act, Valid, step, keeps, stepped, opening, Allows, Splits, Joins}
-use Rattle.atomic_table.proofs.Lists.{exchanged, set_else}
-use Rattle.bep_facts.specs.Decided.{OrNot, same_or_not}
-use Rattle.bep_facts.specs.Members.{Contains-first, Contains-from_flat_map, Contains-from_image, Contains-more, Contains-one, not_in_none}
-use Rattle.bep_fit.specs.contracts.object.Object as object_row
+use Rattle.atomic_table.proofs.Lists.{exchanged}
+use Rattle.bep_facts.specs.Members.{Contains-from_image, Contains-one, not_in_none}
 use Rattle.bep_fit.specs.declared.object.Object.{Object}
 use Rattle.bep_fit.specs.declared.stamped.Stamped.{Stamped}
 use Rattle.bep_fit.specs.Logs.{named}
@@ -20,9 +17,9 @@ use Rattle.bep_history.specs.declared.view.Row.{Row}
 use Rattle.bep_history.specs.declared.view.View.{View}
 use Rattle.bep_history.specs.Parts.{is_about, part_of}
 use Rattle.bep_history.specs.inner.Rule.{Adds, Draws, GivesUp, IsKept, Knows, Learns}
-use Rattle.bep_history.specs.View.{IsAbove, IsFirstApart, IsTold, MayAdd, beginning, claims_of, first_of, first_row, joined, nothing, other_rows, rest_of, row, row_with, view, with_event, with_ticket, without_ticket}
+use Rattle.bep_history.specs.View.{IsAbove, IsTold, MayAdd, beginning, nothing, row, row_with, with_event, with_ticket, without_ticket}
 use Rattle.bep_history.proofs.Filtered.{filter-push, filter-push_other, kept-passes}
-use Rattle.bep_history.proofs.EachSeat.{each_push, each_set, turned, turned-here, turned-other}
+use Rattle.bep_history.proofs.EachSeat.{each_push, each_set}
 
 abbrev St : Type 0
 St = State Stamped View
@@ -30,29 +27,11 @@ St = State Stamped View
 abbrev Seat : Type 0
 Seat = Me Stamped View
 
--- the owner of an object, where the first one's is another
-abbrev moved : Object → Object → ℕ → ℕ → ℕ
-moved object first place was = ⊎_elim (λ _. place) (λ _. was) (same_or_not (object_row.the_row).coded object first)
-
-moved-here : (object first : Object) (place was : ℕ) → object ≡ first → moved object first place was ≡ place
-moved-here object first place was here = cases (same_or_not (object_row.the_row).coded object first)
-  where
-    cases : (d : OrNot (object ≡ first)) → ⊎_elim (λ _. place) (λ _. was) d ≡ place
-    cases (inl is) = refl
-    cases (inr apart) = absurd (apart here)
-
-moved-other : (object first : Object) (place was : ℕ) → object ≢ first → moved object first place was ≡ was
-moved-other object first place was other = cases (same_or_not (object_row.the_row).coded object first)
-  where
-    cases : (d : OrNot (object ≡ first)) → ⊎_elim (λ _. place) (λ _. was) d ≡ was
-    cases (inl is) = absurd (other is)
-    cases (inr apart) = refl
-
 module _ (objects : List Object) where
   abbrev Rule : St → Type 0
   Rule = IsKept objects
 
-  knows_nothing : (history : List Stamped) (next : ℕ) (owner : Object → ℕ) (drawer : ℕ → ℕ) (seat : ℕ) → Knows objects history next owner drawer seat nothing
+  pub knows_nothing : (history : List Stamped) (next : ℕ) (owner : Object → ℕ) (drawer : ℕ → ℕ) (seat : ℕ) → Knows objects history next owner drawer seat nothing
   knows_nothing history next owner drawer seat = record {
     rows = λ one stands. absurd (not_in_none one stands);
     drawn = λ ticket stands. absurd (not_in_none ticket stands);
@@ -137,31 +116,6 @@ module _ (objects : List Object) where
     },
     refl,
   )
-
-  pub claims : (id : ℕ) (old : View) → Splits Rule id old old (claims_of old)
-  claims id old s kept at =
-      let P = Knows objects kept.history kept.next kept.owner kept.drawer in
-      let mine = kept.knows id old at in
-      let in_row : (event : Stamped) → Contains (flat_map (λ one. one.events) old.rows) event → Contains kept.history event =
-      λ event stands.
-      let found = Contains-from_flat_map (λ (one : Row). one.events) old.rows event stands in
-      (kept-passes (is_about found.0.object) kept.history event (subst (λ es. Contains es event) (mine.rows found.0 found.1).1 found.2)).0 in
-      record {
-        history = kept.history;
-        next = kept.next;
-        owner = kept.owner;
-        drawer = kept.drawer;
-        word = kept.word;
-        begun = kept.begun;
-        is_history = kept.is_history;
-        below = kept.below;
-        knows =
-            each_push P (set s.views id old) (claims_of old) (each_set P s.views id old (λ j v _ there. kept.knows j v there) mine) (record {
-              rows = λ one stands. absurd (not_in_none one stands);
-              drawn = λ ticket stands. absurd (not_in_none ticket stands);
-              claims = λ event stands. ⊎_elim (λ claimed. mine.claims event claimed) (in_row event) (Contains-append_cases old.claims (flat_map (λ one. one.events) old.rows) event stands);
-            });
-      }
 
   -- ---- a ticket is drawn
 
@@ -330,118 +284,4 @@ module _ (objects : List Object) where
             (is.0, ap (λ es. if is_about object event then es ++ event ∷ [] else es) is.1 ∙ sym (filter-push (is_about object) kept.history event), is.2);
         drawn = λ ticket stands. absurd (not_in_none ticket stands);
         claims = λ one stands. Contains-append_left kept.history (event ∷ []) one (mine.claims one stands);
-      }
-
-  -- ---- seats are split and joined
-
-  pub splits : (id : ℕ) (old : View) → IsFirstApart old.rows → Splits Rule id old (other_rows old) (first_row old)
-  splits id old apart s kept at = by_rows old.rows refl apart
-    where
-      mine : Knows objects kept.history kept.next kept.owner kept.drawer id old
-      mine = kept.knows id old at
-
-      by_rows : (rows : List Row) → old.rows ≡ rows → IsFirstApart rows
-          → Rule record { words = s.words; homes = s.homes; views = set s.views id (view (rest_of rows) old.drawn old.claims) ++ view (first_of rows) [] [] ∷ [] }
-      by_rows [] is alone =
-          let P = Knows objects kept.history kept.next kept.owner kept.drawer in
-          let left : P id (view [] old.drawn old.claims) = record { rows = λ one stands. absurd (not_in_none one stands); drawn = mine.drawn; claims = mine.claims } in
-          record {
-            history = kept.history;
-            next = kept.next;
-            owner = kept.owner;
-            drawer = kept.drawer;
-            word = kept.word;
-            begun = kept.begun;
-            is_history = kept.is_history;
-            below = kept.below;
-            knows =
-                each_push P (set s.views id (view [] old.drawn old.claims)) nothing
-                (each_set P s.views id (view [] old.drawn old.claims) (λ j v _ there. kept.knows j v there) left)
-                (knows_nothing _ _ _ _ _);
-          }
-      by_rows (first ∷ more) is alone =
-          let left : View = view more old.drawn old.claims in
-          let place : ℕ = length (set s.views id left) in
-          let owner : Object → ℕ = λ object. moved object first.object place (kept.owner object) in
-          let P : ℕ → View → Type 0 = Knows objects kept.history kept.next owner kept.drawer in
-          let of_first = mine.rows first (subst (λ rows. Contains rows first) (sym is) (Contains-first first more)) in
-          record {
-            history = kept.history;
-            next = kept.next;
-            owner = owner;
-            drawer = kept.drawer;
-            word = kept.word;
-            begun = kept.begun;
-            is_history = kept.is_history;
-            below = kept.below;
-            knows =
-                each_push P (set s.views id left) (view (first ∷ []) [] [])
-                (each_set P s.views id left
-                (λ j v other there.
-                let theirs = kept.knows j v there in
-                record {
-                  rows = λ one stands.
-                      let has = theirs.rows one stands in
-                      (moved-other one.object first.object place (kept.owner one.object) (λ same. other (sym has.0 ∙ (ap kept.owner same ∙ of_first.0))) ∙ has.0, has.1, has.2);
-                  drawn = theirs.drawn;
-                  claims = theirs.claims;
-                })
-                (record {
-                  rows = λ one stands.
-                      let has = mine.rows one (subst (λ rows. Contains rows one) (sym is) (Contains-more first more one stands)) in
-                      (moved-other one.object first.object place (kept.owner one.object) (λ same. alone (one, stands, same)) ∙ has.0, has.1, has.2);
-                  drawn = mine.drawn;
-                  claims = mine.claims;
-                }))
-                (record {
-                  rows = λ one stands.
-                      subst (λ (z : Row). (owner z.object ≡ place) × (z.events ≡ part_of z.object kept.history) × Contains objects z.object) (Contains-one first one stands)
-                      (moved-here first.object first.object place (kept.owner first.object) refl, of_first.1, of_first.2);
-                  drawn = λ ticket stands. absurd (not_in_none ticket stands);
-                  claims = λ event stands. absurd (not_in_none event stands);
-                });
-          }
-
-  pub joins : (id : ℕ) (old : View) (other : ℕ) (theirs : View) → Joins Rule id old other theirs (joined old theirs) nothing
-  joins id old other theirs s kept at apart there =
-      let owner : Object → ℕ = λ object. turned other id (kept.owner object) in
-      let drawer : ℕ → ℕ = λ ticket. turned other id (kept.drawer ticket) in
-      let P : ℕ → View → Type 0 = Knows objects kept.history kept.next owner drawer in
-      let mine = kept.knows id old at in
-      let given = kept.knows other theirs (sym (set_else s.views id other (joined old theirs) apart) ∙ there) in
-      let stays : (n : ℕ) → n ≡ id → turned other id n ≡ id = λ n is. turned-other other id n (λ e. apart (sym e ∙ is)) ∙ is in
-      record {
-        history = kept.history;
-        next = kept.next;
-        owner = owner;
-        drawer = drawer;
-        word = kept.word;
-        begun = kept.begun;
-        is_history = kept.is_history;
-        below = kept.below;
-        knows =
-            each_set P (set s.views id (joined old theirs)) other nothing
-            (λ j v no at'. each_set (λ k u. k ≢ other → P k u) s.views id (joined old theirs)
-            (λ k u _ at'' not_it.
-            let has = kept.knows k u at'' in
-            record {
-              rows = λ one stands. let is = has.rows one stands in (turned-other other id (kept.owner one.object) (λ e. not_it (sym is.0 ∙ e)) ∙ is.0, is.1, is.2);
-              drawn = λ ticket stands. let is = has.drawn ticket stands in (turned-other other id (kept.drawer ticket) (λ e. not_it (sym is.0 ∙ e)) ∙ is.0, is.1, is.2);
-              claims = has.claims;
-            })
-            (λ _. record {
-              rows = λ one stands.
-                  ⊎_elim
-                  (λ own. let is = mine.rows one own in (stays (kept.owner one.object) is.0, is.1, is.2))
-                  (λ new. let is = given.rows one new in (turned-here other id (kept.owner one.object) is.0, is.1, is.2))
-                  (Contains-append_cases old.rows theirs.rows one stands);
-              drawn = λ ticket stands.
-                  ⊎_elim
-                  (λ own. let is = mine.drawn ticket own in (stays (kept.drawer ticket) is.0, is.1, is.2))
-                  (λ new. let is = given.drawn ticket new in (turned-here other id (kept.drawer ticket) is.0, is.1, is.2))
-                  (Contains-append_cases old.drawn theirs.drawn ticket stands);
-              claims = λ event stands. ⊎_elim (mine.claims event) (given.claims event) (Contains-append_cases old.claims theirs.claims event stands);
-            })
-            j v at' no)
-            (knows_nothing _ _ _ _ _);
       }

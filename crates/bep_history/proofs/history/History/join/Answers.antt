@@ -1,4 +1,4 @@
-use Rattle.bep_history.proofs.Moves.{joins}
+use Rattle.bep_history.proofs.SeatMoves.{joins}
 use Rattle.bep_history.proofs.history.History.join.Goals as goal
 
 pub join_seat-requires : goal.join_seat-requires

@@ -1,4 +1,4 @@
-use Rattle.bep_history.proofs.Moves.{claims}
+use Rattle.bep_history.proofs.SeatMoves.{claims}
 use Rattle.bep_history.proofs.history.History.receipt.Goals as goal
 
 pub split_seat-requires : goal.split_seat-requires

@@ -1,4 +1,4 @@
-use Rattle.bep_history.proofs.Moves.{splits}
+use Rattle.bep_history.proofs.SeatMoves.{splits}
 use Rattle.bep_history.proofs.history.History.split.Goals as goal
 
 pub split_seat-requires : goal.split_seat-requires
