@@ -11,7 +11,7 @@ TOP = Path(__file__).resolve().parents[2]
 SOURCES = "auditor/src/syncthing-audit"
 # The revision before the model came, and where its sources stood. A shallow clone doesn't have it: then the number is the one that was counted.
 BEFORE, SOURCES_THEN, COUNTED_THEN = "e70e441a^", "export/src/syncthing-audit", {"choice": 164, "summary": 4915}
-PACKAGES = ("summary", "outlook", "print", "advice", "choice")
+PACKAGES = ("summary", "outlook", "print", "advice", "choice", "lists")
 # What the answers of then didn't say, and what says it.
 NEW = {
     "what becomes of each name, and the numbered steps": ("outlook/", "advice/", "print/choices.go", "print/converging.go", "print/fates.go", "print/plans.go",

@@ -1,6 +1,9 @@
 package advice
 
-import "syncthing-audit/forecast"
+import (
+	"syncthing-audit/forecast"
+	"syncthing-audit/lists"
+)
 
 // Check gives the plan of these steps if each of its ends is the goal, and it is safe from the top; nothing if not.
 func (s Search) Check(world forecast.World, goal Goal, steps []Step) *Plan {
@@ -37,12 +40,7 @@ func (s Search) Together(world forecast.World, goals []Goal, steps []Step) (*Pla
 	if plan == nil {
 		return nil, nil
 	}
-	var missed []Goal
-	for _, goal := range goals {
-		if !goal.isReachedAtAll(plan.Answer.Ends) {
-			missed = append(missed, goal)
-		}
-	}
+	missed := lists.Where(goals, func(goal Goal) bool { return !goal.isReachedAtAll(plan.Answer.Ends) })
 	if len(missed) > 0 {
 		return nil, missed
 	}
@@ -50,10 +48,6 @@ func (s Search) Together(world forecast.World, goals []Goal, steps []Step) (*Pla
 	if !t.isSafe(steps, plan.Lost) {
 		return nil, nil
 	}
-	for _, content := range plan.Lost {
-		if !t.unavoidable[content] {
-			plan.Costs = append(plan.Costs, content)
-		}
-	}
+	plan.Costs = lists.Where(plan.Lost, func(content forecast.Content) bool { return !t.unavoidable[content] })
 	return plan, nil
 }

@@ -8,8 +8,8 @@
 package advice
 
 import (
-	"golang.org/x/exp/slices"
 	"syncthing-audit/forecast"
+	"syncthing-audit/lists"
 )
 
 // Goal is what is to stand at a name on all devices; without a node nothing is.
@@ -36,7 +36,7 @@ func (g Goal) isReached(end *forecast.End) bool {
 
 // isReachedAtAll says whether each of these ends is the goal.
 func (g Goal) isReachedAtAll(ends []forecast.End) bool {
-	return slices.IndexFunc(ends, func(end forecast.End) bool { return !g.isReached(&end) }) < 0
+	return !lists.Has(ends, func(end forecast.End) bool { return !g.isReached(&end) })
 }
 
 func isSame(a, b *forecast.Node) bool {
@@ -77,7 +77,7 @@ func (c contents) lostIn(ends []forecast.End, lost contents) {
 // isWithin says whether all of these are among others.
 func (c contents) isWithin(others ...contents) bool {
 	for content := range c {
-		if slices.IndexFunc(others, func(other contents) bool { return other[content] }) < 0 {
+		if !lists.Has(others, func(other contents) bool { return other[content] }) {
 			return false
 		}
 	}

@@ -30,7 +30,7 @@ type Options struct {
 
 // Collect goes through the folders of a plan. Each document is given to take, as long as nothing was refused.
 func Collect(plan *join.Plan, options Options, take func(*document.Document) error) (*finding.Answer, error) {
-	to := &collector{plan: plan, options: options, take: take, foretells: outlook.NewForeteller(budget, time.Now().UnixNano()), answer: &finding.Answer{IsByName: plan.IsByName, ByNames: options.ByNames, HasRest: true}}
+	to := &collector{plan: plan, options: options, take: take, foretells: outlook.NewForeteller(budget, time.Now().UnixNano()), answer: &finding.Answer{IsByName: plan.IsByName, ByNames: options.ByNames}}
 	to.refusePlan()
 	for _, observer := range plan.Observers {
 		if slices.IndexFunc(plan.Folders, func(folder *join.Folder) bool { return folder.ID == observer.Folder }) >= 0 {

@@ -61,7 +61,7 @@ func TestANameThatNoDocumentHas(t *testing.T) {
 		t.Fatal(err)
 	}
 	out := answer.Folders[0].LeftOut
-	if asked != 2 || len(out) != 1 || out[0].Name != "000001" || len(out[0].Why) != 1 || out[0].Why[0].Member != -1 || out[0].Why[0].Kind != part.OddRecord {
+	if asked != 2 || len(out) != 1 || out[0].Name != "000001" || len(out[0].Why) != 1 || out[0].Why[0].Device != "" || out[0].Why[0].Kind != part.OddRecord {
 		t.Errorf("%d asked, %+v", asked, out)
 	}
 }

@@ -36,7 +36,7 @@ func (n *names) row(row *join.Row) error {
 		n.found.Outside.Add(1, row.Size())
 	case hasOut(row):
 		n.addOwnFaults(row)
-		n.leaveOut(row, reasonsOf(row))
+		n.leaveOut(row, n.reasonsOf(row))
 	default:
 		return n.audit(row)
 	}
@@ -60,7 +60,7 @@ func (n *names) audit(row *join.Row) error {
 	full, out := n.filled.Add(row)
 	if out != nil {
 		n.audited--
-		n.leaveOut(row, []finding.Reason{{Member: -1, Kind: out.Kind, Why: out.Why}})
+		n.leaveOut(row, []finding.Reason{{Kind: out.Kind, Why: out.Why}})
 		return nil
 	}
 	n.addLoose(row)
@@ -93,7 +93,7 @@ func (n *names) give(document *document.Document) error {
 
 // isBelow says whether a name stands below a directory that couldn't be read somewhere, and counts it.
 func (n *names) isBelow(row *join.Row) bool {
-	if n.below == nil || !strings.HasPrefix(row.Name, n.below.Name) || row.Name == n.below.Name {
+	if n.below == nil || !strings.HasPrefix(row.Name, string(n.below.Name)) || row.Name == string(n.below.Name) {
 		return false
 	}
 	n.below.Names++
@@ -106,7 +106,7 @@ func (n *names) isBelow(row *join.Row) bool {
 
 // leaveOut leaves a name out for all these reasons, or refuses it for those to which there is no consent.
 func (n *names) leaveOut(row *join.Row, reasons []finding.Reason) {
-	left := &finding.LeftOut{Name: row.Name, Names: 1, Bytes: row.Size(), Why: reasons}
+	left := &finding.LeftOut{Name: part.Bytes(row.Name), Names: 1, Bytes: row.Size(), Why: reasons}
 	for _, at := range row.At {
 		for _, out := range outsOf(at) {
 			left.Below = left.Below || out.Below
@@ -120,7 +120,7 @@ func (n *names) leaveOut(row *join.Row, reasons []finding.Reason) {
 	for _, why := range reasons {
 		if why.Kind != part.Damaged && !n.options.Consent.Has(why.Kind) {
 			refused = true
-			n.refuse(finding.Refusal{Kind: why.Kind, Folder: n.found.ID, Label: n.found.Label, Device: n.labelOf(why.Member), Name: row.Name, Why: why.Why})
+			n.refuse(finding.Refusal{Kind: why.Kind, Folder: n.found.ID, Label: n.found.Label, Device: n.labelOf(why.Device), Name: row.Name, Why: why.Why})
 		}
 	}
 	switch {
@@ -133,12 +133,14 @@ func (n *names) leaveOut(row *join.Row, reasons []finding.Reason) {
 	}
 }
 
-// labelOf names a member for a person.
-func (n *names) labelOf(member int) string {
-	if member < 0 {
-		return ""
+// labelOf names a device for a person; nothing of none.
+func (n *names) labelOf(device string) string {
+	for _, member := range n.found.Members {
+		if member.Head.Device == device {
+			return member.Called()
+		}
 	}
-	return n.found.Members[member].Called()
+	return ""
 }
 
 func outsOf(name *part.Name) []part.LeftOut {
@@ -160,12 +162,12 @@ func hasOut(row *join.Row) bool {
 
 // reasonsOf gives why a name can't be audited, at each member, each reason once: a member's record and its disk may have
 // the same one.
-func reasonsOf(row *join.Row) []finding.Reason {
+func (n *names) reasonsOf(row *join.Row) []finding.Reason {
 	var reasons []finding.Reason
 	seen := map[finding.Reason]bool{}
 	for member, name := range row.At {
 		for _, out := range outsOf(name) {
-			if next := (finding.Reason{Member: member, Kind: out.Kind, Why: out.Why}); !seen[next] {
+			if next := (finding.Reason{Device: n.found.Members[member].Head.Device, Kind: out.Kind, Why: out.Why}); !seen[next] {
 				seen[next] = true
 				reasons = append(reasons, next)
 			}

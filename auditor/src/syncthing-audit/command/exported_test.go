@@ -4,7 +4,6 @@ import (
 	"io"
 	"os"
 	"path/filepath"
-	"regexp"
 	"strings"
 	"testing"
 
@@ -61,7 +60,7 @@ func TestWhatAnExportLeft(t *testing.T) {
 	}
 }
 
-// What was exported of one slice is summed up as far as that goes. A 'sum' of 0.10.0 or before would take it for all: it finds no answer.
+// What was exported of one slice is summed up as far as that goes. 
 func TestAnExportOfASlice(t *testing.T) {
 	room := t.TempDir()
 	slice := aPartOf(t, choice.Names{Slice: 3, Slices: 7})
@@ -71,10 +70,6 @@ func TestAnExportOfASlice(t *testing.T) {
 	reply := []byte("settled\nfolder docs: 1 names, 0 deleted, 1 devices\n")
 	if err := os.WriteFile(filepath.Join(room, "cut-0001.reply"), reply, 0o600); err != nil {
 		t.Fatal(err)
-	}
-	text, err := os.ReadFile(filepath.Join(room, exported.RestName))
-	if err != nil || strings.Contains(string(text), `{"Answer":`) {
-		t.Errorf("%v: an older program reads %s", err, text)
 	}
 	var output strings.Builder
 	if status := Run([]string{"sum", room}, &output, io.Discard); status != exit.Partial || !strings.Contains(output.String(), "not audited: names outside slice 3 of 7") {
@@ -88,8 +83,7 @@ func TestAnExportOfASlice(t *testing.T) {
 	}
 }
 
-// An export of an older program doesn't say which other folders the devices share, and the sum says so. One of 0.9.0 doesn't say that a
-// folder is shared with nobody: it is one at one device alone, as it was.
+// An export of an older program is refused. Of this one's the sum says that a folder is shared with nobody.
 func TestAnExportOfAnOlderProgram(t *testing.T) {
 	room := exportedPart(t)
 	path := filepath.Join(room, exported.RestName)
@@ -97,21 +91,20 @@ func TestAnExportOfAnOlderProgram(t *testing.T) {
 	if err != nil {
 		t.Fatal(err)
 	}
-	own := regexp.MustCompile(`,"Own":"[^"]*"`)
 	for _, row := range []struct {
-		text   string
+		field  string
 		status int
 		told   string
 	}{
-		{string(text), exit.Done, "\nshared with no device: docs on "},
-		{strings.Replace(string(text), `"HasRest":true`, `"HasRest":false`, 1), exit.Partial, "\nnot told: "},
-		{own.ReplaceAllString(string(text), ""), exit.Partial, "\nalone: docs is audited on one device"},
+		{"Found", exit.Done, "\nshared with no device: docs on "},
+		{"Answer", exit.Refused, "a program of 0.17 or before made it: make the export anew"},
+		{"OfSlice", exit.Refused, "a program of 0.17 or before made it: make the export anew"},
 	} {
-		if err := os.WriteFile(path, []byte(row.text), 0o600); err != nil {
+		if err := os.WriteFile(path, []byte(strings.Replace(string(text), `{"Found":`, `{"`+row.field+`":`, 1)), 0o600); err != nil {
 			t.Fatal(err)
 		}
 		var output strings.Builder
-		status := Run([]string{"sum", room}, &output, io.Discard)
+		status := Run([]string{"sum", room}, &output, &output)
 		if status != row.status || !strings.Contains(output.String(), row.told) {
 			t.Errorf("%d, and not %q:\n%s", status, row.told, output.String())
 		}

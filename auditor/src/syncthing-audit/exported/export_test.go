@@ -51,7 +51,7 @@ func TestAnExportAndItsSum(t *testing.T) {
 			t.Fatalf("%d, %v, %s", status, err, log)
 		}
 		text, err := os.ReadFile(filepath.Join(directory, RestName))
-		if begin := map[bool]string{true: `{"Answer":{`, false: `{"OfSlice":{`}[names.IsAll()]; err != nil || !strings.HasPrefix(string(text), begin) {
+		if err != nil || !strings.HasPrefix(string(text), `{"Found":{`) {
 			t.Errorf("%v, %.40s", err, text)
 		}
 		answer(t, directory, "cut-0001.reply", settled)
@@ -91,7 +91,7 @@ func TestWhatHasNoSum(t *testing.T) {
 	}{
 		"nothing":                     {RestName, func(string) string { return "" }, "rest.jsonl isn't what 'export' writes: EOF"},
 		"no JSON":                     {RestName, func(text string) string { return text[1:] }, "rest.jsonl isn't what 'export' writes: "},
-		"no answer":                   {RestName, func(string) string { return "{}\n" }, "rest.jsonl isn't what 'export' writes: it has no answer"},
+		"no answer":                   {RestName, func(string) string { return "{}\n" }, "rest.jsonl isn't what 'export' writes: a program of 0.17 or before made it: make the export anew"},
 		"the first line alone":        {RestName, func(text string) string { return strings.SplitAfter(text, "\n")[0] }, "rest.jsonl isn't what 'export' writes: unexpected EOF"},
 		"an answer of no syncaudit":   {"cut-0001.reply", func(string) string { return "x" }, "cut-0001.reply: "},
 		"an answer to another folder": {"cut-0001.reply", func(text string) string { return strings.ReplaceAll(text, "docs", "pics") }, "cut-0001.reply: "},
@@ -117,25 +117,6 @@ func TestWhatHasNoSum(t *testing.T) {
 	}
 	if _, err := SumOf(t.TempDir()); err == nil || !strings.HasPrefix(err.Error(), "refused: 'export --into' fills a directory for 'sum': open ") {
 		t.Errorf("a directory without an export: %v", err)
-	}
-}
-
-// An export of an older program doesn't say which other folders its devices have: they are silent.
-func TestDevicesOfAnOlderExport(t *testing.T) {
-	for has, text := range map[bool]string{true: `"HasRest":true`, false: `"HasRest":false`} {
-		directory := t.TempDir()
-		if _, _, err := exportOf(t, 1, choice.Names{}, directory, io.Discard); err != nil {
-			t.Fatal(err)
-		}
-		answer(t, directory, "cut-0001.reply", settled)
-		rest, err := os.ReadFile(filepath.Join(directory, RestName))
-		if err != nil {
-			t.Fatal(err)
-		}
-		answer(t, directory, RestName, strings.Replace(string(rest), `"HasRest":true`, text, 1))
-		if sum, err := SumOf(directory); err != nil || sum.Devices[0].IsSilent == has {
-			t.Errorf("%s: %v", text, err)
-		}
 	}
 }
 
@@ -288,7 +269,7 @@ func TestRoomForTheRest(t *testing.T) {
 	for count := 0; count < 300; count++ {
 		folder.Unwon.Add(finding.Unwon{Name: "a name that takes some bytes"})
 	}
-	rest := &exported{Answer: &finding.Answer{Devices: make([]finding.Device, 90), Folders: []*finding.Folder{folder}}}
+	rest := &exported{Found: &finding.Answer{Devices: make([]finding.Device, 90), Folders: []*finding.Folder{folder}}}
 	var whole strings.Builder
 	if err := rest.write(&whole); err != nil {
 		t.Fatal(err)

@@ -18,8 +18,7 @@ const RestName = "rest.jsonl"
 
 // exported is what an export into a directory leaves there beside the documents.
 type exported struct {
-	Answer    *finding.Answer `json:",omitempty"`
-	OfSlice   *finding.Answer `json:",omitempty"` // in its place where it is of one slice: a 'sum' that doesn't know of slices refuses it
+	Found     *finding.Answer // a program of 0.17 or before wrote it otherwise, as Answer, and finds none here
 	Documents []exportedDocument
 }
 
@@ -33,14 +32,10 @@ type exportedDocument struct {
 func (e *exported) write(file io.Writer) error {
 	to := bufio.NewWriter(file)
 	lines := json.NewEncoder(to)
-	first := *e
-	if e.Answer.IsOfSlice() {
-		first.Answer, first.OfSlice = nil, e.Answer
-	}
-	if err := lines.Encode(first); err != nil {
+	if err := lines.Encode(e); err != nil {
 		return err
 	}
-	if err := e.Answer.WriteLists(lines); err != nil {
+	if err := e.Found.WriteLists(lines); err != nil {
 		return err
 	}
 	return to.Flush()
@@ -66,15 +61,8 @@ func (e *exported) readFrom(lines *json.Decoder) error {
 	if err := lines.Decode(e); err != nil {
 		return err
 	}
-	if e.OfSlice != nil {
-		e.Answer, e.OfSlice = e.OfSlice, nil
+	if e.Found == nil {
+		return errors.New("a program of 0.17 or before made it: make the export anew")
 	}
-	if e.Answer == nil {
-		return errors.New("it has no answer")
-	}
-	for place := range e.Answer.Devices {
-		device := &e.Answer.Devices[place]
-		device.IsSilent = device.IsSilent || !e.Answer.HasRest
-	}
-	return e.Answer.ReadLists(lines)
+	return e.Found.ReadLists(lines)
 }

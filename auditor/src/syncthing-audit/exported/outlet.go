@@ -82,7 +82,7 @@ func (o *outlet) end(answer *finding.Answer, log io.Writer) error {
 		_, err := fault.Writer{To: o.output}.Write(o.kept)
 		return err
 	}
-	if err := o.writeNew(RestName, (&exported{Answer: answer, Documents: o.written}).write); err != nil {
+	if err := o.writeNew(RestName, (&exported{Found: answer, Documents: o.written}).write); err != nil {
 		return err
 	}
 	if err := o.staged.Put(); errors.Is(err, os.ErrExist) {

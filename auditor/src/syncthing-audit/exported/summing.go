@@ -26,8 +26,8 @@ func SumOf(directory string) (*finding.Answer, error) {
 		}
 		replies.Take(&document.Document{Folder: entry.Folder, Own: entry.Own}, reply)
 	}
-	read.Answer.IsSum = true
-	return read.Answer, replies.AddTo(read.Answer)
+	read.Found.IsSum = true
+	return read.Found, replies.AddTo(read.Found)
 }
 
 // mostOfReply is how many bytes the answer to a document has at most.

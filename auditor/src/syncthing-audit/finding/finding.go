@@ -23,7 +23,6 @@ type Answer struct {
 	Observers []join.Observer  `json:",omitempty"` // devices that share a folder of these, keep no files of it, and aren't asked
 	IsByName  bool             // whether the folders were asked for by their ids
 	ByNames   bool             // whether the names were asked for by how they begin
-	HasRest   bool             // whether the devices' other folders are told: an export of 0.8.0 or before doesn't
 	IsSum     bool             `json:"-"` // whether 'sum' joined it, which has no parts to tell details of what documents tell
 }
 
@@ -73,7 +72,7 @@ type Folder struct {
 	Unlisted    Unlisted
 	Outside     Count                // names that each device which has them ignores: Syncthing doesn't take them for the folder's
 	Live        *Live                // of devices that were looked at while they ran
-	Outlook     *outlook.Outlook     `json:"Foretold,omitempty"` // what happens if nobody does anything; nothing where an older program made the export
+	Outlook     *outlook.Outlook     `json:",omitempty"` // what happens if nobody does anything
 	Rows        map[string]*join.Row // of names that something is told of, as far as a room allowed
 }
 
@@ -132,18 +131,18 @@ type Conflict struct {
 
 // LeftOut is a name that wasn't audited, or all names below it.
 type LeftOut struct {
-	Name  string
-	Below bool // Name ends with a slash, and all names that begin so are meant
-	Names int64
-	Bytes int64
-	Why   []Reason
+	Name  part.Bytes `json:"name"`
+	Below bool       `json:"below"` // Name ends with a slash, and all names that begin so are meant
+	Names int64      `json:"names"`
+	Bytes int64      `json:"bytes"`
+	Why   []Reason   `json:"why"`
 }
 
 // Reason is why a name wasn't audited.
 type Reason struct {
-	Member int
-	Kind   string
-	Why    string
+	Device string `json:"device,omitempty"` // by its id; without one it is of all
+	Kind   string `json:"kind"`
+	Why    string `json:"why"`
 }
 
 // Refusal is why a name, a device or a folder isn't audited.

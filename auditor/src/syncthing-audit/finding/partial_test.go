@@ -262,7 +262,7 @@ func TestWhichFailureIsBefore(t *testing.T) {
 // A name that was left out is read as it was saved, whatever its bytes are.
 func TestLeftOutNamesAreSaved(t *testing.T) {
 	for _, name := range []string{"a", "\xff/"} {
-		saved := &LeftOut{Name: name, Below: true, Names: 2, Bytes: 3, Why: []Reason{{1, "special", "x"}}}
+		saved := &LeftOut{Name: part.Bytes(name), Below: true, Names: 2, Bytes: 3, Why: []Reason{{"A", "special", "x"}}}
 		text, err := json.Marshal(saved)
 		read := &LeftOut{}
 		if err == nil {

@@ -3,6 +3,7 @@ package outlook
 import (
 	"syncthing-audit/advice"
 	"syncthing-audit/forecast"
+	"syncthing-audit/lists"
 )
 
 // fewHands is for how many names of a group each one's plan is searched by itself, before the same is tried for all of them.
@@ -35,21 +36,12 @@ func (p *planner) planAlike(group *forecast.World, hands []hand, lost map[foreca
 
 // touches gives what is wanted a new time where it stands: on a device that only receives that isn't sent.
 func touches(world *forecast.World, goal advice.Goal) []advice.Step {
-	for _, step := range advice.StepsTo(world, goal) {
-		if step.Act == advice.Touch && world.Devices[step.Device].Kind != forecast.ReceiveOnly {
-			return []advice.Step{step}
-		}
-	}
-	return nil
+	return lists.AtMost(1, lists.Where(advice.StepsTo(world, goal), func(step advice.Step) bool {
+		return step.Act == advice.Touch && world.Devices[step.Device].Kind != forecast.ReceiveOnly
+	}))
 }
 
 // copies copies what is wanted to all that don't have it.
 func copies(world *forecast.World, goal advice.Goal) []advice.Step {
-	var steps []advice.Step
-	for _, step := range advice.StepsTo(world, goal) {
-		if step.Act == advice.Copy {
-			steps = append(steps, step)
-		}
-	}
-	return steps
+	return lists.Where(advice.StepsTo(world, goal), func(step advice.Step) bool { return step.Act == advice.Copy })
 }

@@ -4,9 +4,9 @@ import (
 	"reflect"
 	"sort"
 
-	"golang.org/x/exp/slices"
 	"syncthing-audit/damage"
 	"syncthing-audit/forecast"
+	"syncthing-audit/lists"
 	"syncthing-audit/part"
 )
 
@@ -94,7 +94,7 @@ func isUnscanned(own *forecast.Record, what *forecast.Node) bool {
 
 func keeps(told []Name, device string, why forecast.Why) bool {
 	isKept := func(kept Kept) bool { return kept.Device == device && kept.Why == why }
-	return slices.IndexFunc(told, func(name Name) bool { return slices.IndexFunc(name.Kept, isKept) >= 0 }) >= 0
+	return lists.Has(told, func(name Name) bool { return lists.Has(name.Kept, isKept) })
 }
 
 // add counts what a choice does to a group.
@@ -135,27 +135,17 @@ func (c *Choice) take(before *Name, after Name, devices int) {
 	}
 	c.Names++
 	c.IsAll = c.IsAll && after.IsAll
-	if slices.IndexFunc(after.Ends, func(end []Thing) bool { return !isOne(end, devices) }) < 0 {
+	if !lists.Has(after.Ends, func(end []Thing) bool { return !isOne(end, devices) }) {
 		c.Alike++
 	}
-	var loses []Thing
-	for _, thing := range after.Loses {
-		if !isAmong(before.Loses, thing) {
-			loses = append(loses, thing)
-		}
-	}
+	loses := lists.Where(after.Loses, func(thing Thing) bool { return !isAmong(before.Loses, thing) })
 	note(&c.Loses, &c.Lost, after.Name, loses)
 }
 
 // takeReplaced counts what goes by a choice since something recorded replaces it.
 func (c *Choice) takeReplaced(name *forecast.Name, before, after *judge) {
-	var goes []Thing
-	for _, thing := range filesOf(after.goesBy(name, byRecord, byUnscanned)) {
-		if before.survives(name.Name, thing) {
-			goes = append(goes, thing)
-		}
-	}
-	note(&c.Goes, &c.Gone, part.Bytes(name.Name), goes)
+	goes := filesOf(after.goesBy(name, byRecord, byUnscanned))
+	note(&c.Goes, &c.Gone, part.Bytes(name.Name), lists.Where(goes, func(thing Thing) bool { return before.survives(name.Name, thing) }))
 }
 
 // note counts a name of which something goes, and lists it if it is one of the first.
@@ -170,12 +160,7 @@ func note(listed *[]Loss, count *int64, name part.Bytes, goes []Thing) {
 
 // all gives them in the order of their devices.
 func (c *choices) all() []*Choice {
-	var choices []*Choice
 	sort.SliceStable(c.order, func(a, b int) bool { return c.order[a].member < c.order[b].member })
-	for _, step := range c.order {
-		if choice := c.found[step]; choice.Names+choice.Unknown > 0 {
-			choices = append(choices, choice)
-		}
-	}
-	return choices
+	choices := lists.Each(c.order, func(step chosen) *Choice { return c.found[step] })
+	return lists.Where(choices, func(choice *Choice) bool { return choice.Names+choice.Unknown > 0 })
 }

@@ -4,6 +4,7 @@ import (
 	"golang.org/x/exp/slices"
 	"syncthing-audit/damage"
 	"syncthing-audit/forecast"
+	"syncthing-audit/lists"
 )
 
 // goalOf gives what is to stand at a name that needs a hand; nothing where it needs none, or where nobody can tell what is right.
@@ -59,7 +60,7 @@ func comesTo(name *forecast.Name, told *Name) *forecast.Node {
 	var there *forecast.Node
 	most := 0
 	for _, thing := range told.Ends[0] {
-		isKept := slices.IndexFunc(told.Kept, func(kept Kept) bool { return slices.Contains(thing.Devices, kept.Device) }) >= 0
+		isKept := lists.Has(told.Kept, func(kept Kept) bool { return slices.Contains(thing.Devices, kept.Device) })
 		if node := nodeOf(name, thing); node != nil && !thing.IsCopy && !isKept && len(thing.Devices) > most {
 			there, most = node, len(thing.Devices)
 		}
@@ -121,7 +122,7 @@ func laterOf(name *forecast.Name, told *Name) *forecast.Node {
 func holdsLost(group *forecast.World, told []Name, place int) bool {
 	name := &group.Names[place]
 	isNone := func(what *forecast.Node) bool { return what == nil || what.Type != forecast.Directory }
-	return directoryAt(name) != nil && slices.IndexFunc(name.Disk, isNone) >= 0 && losesBelow(group, told, name.Name)
+	return directoryAt(name) != nil && lists.Has(name.Disk, isNone) && losesBelow(group, told, name.Name)
 }
 
 // losesBelow says whether something that isn't a directory is lost below a name. A directory that was renamed loses nothing.

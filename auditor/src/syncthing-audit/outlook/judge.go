@@ -6,6 +6,7 @@ import (
 	"golang.org/x/exp/slices"
 	"syncthing-audit/damage"
 	"syncthing-audit/forecast"
+	"syncthing-audit/lists"
 	"syncthing-audit/part"
 )
 
@@ -49,7 +50,7 @@ func keptOf(end *forecast.End) map[string]map[int]forecast.Why {
 func (j *judge) name(name *forecast.Name) Name {
 	told := Name{Name: part.Bytes(name.Name), IsAll: j.answer.IsAll, Ends: j.endsOf(name), Loses: j.goesBy(name, byNothing), Kept: j.keptOf(name), Now: thingsNow(j.group.Devices, name)}
 	told.certain = j.losesWithoutMeeting(name, told.Loses)
-	if slices.IndexFunc(told.Ends, isEmptyEnd) >= 0 {
+	if lists.Has(told.Ends, isEmptyEnd) {
 		told.deleted = filesOf(j.goesBy(name, byRecord))
 	}
 	switch {
@@ -134,7 +135,7 @@ func isOne(things []Thing, devices int) bool {
 }
 
 func isStuck(end *forecast.End, name string) bool {
-	return slices.IndexFunc(end.Stuck, func(stuck forecast.Stuck) bool { return stuck.Name == name }) >= 0
+	return lists.Has(end.Stuck, func(stuck forecast.Stuck) bool { return stuck.Name == name })
 }
 
 // minority gives the devices that don't have what most devices have at a name.
@@ -174,7 +175,7 @@ func (j *judge) staysAsItIs(name *forecast.Name, told *Name) bool {
 	for member, what := range name.Disk {
 		device := j.group.Devices[member].ID
 		isSame := func(thing Thing) bool { return slices.Contains(thing.Devices, device) && thing.IsSame(thingOf(what)) }
-		if what == nil && stands(told.Ends[0], device) || what != nil && slices.IndexFunc(told.Ends[0], isSame) < 0 {
+		if what == nil && stands(told.Ends[0], device) || what != nil && !lists.Has(told.Ends[0], isSame) {
 			return false
 		}
 	}

@@ -1,8 +1,8 @@
 package outlook
 
 import (
-	"golang.org/x/exp/slices"
 	"syncthing-audit/forecast"
+	"syncthing-audit/lists"
 )
 
 // Differs is why a device keeps a name otherwise than most others, where there is no other reason.
@@ -12,7 +12,7 @@ const Differs forecast.Why = "differs"
 // It takes them from its own disk where another name has them.
 func mayTakeFromTwins(group *forecast.World, answer *forecast.Answer) bool {
 	hasNoSource := func(stuck forecast.Stuck) bool { return stuck.Why == forecast.NoSource }
-	if slices.IndexFunc(answer.Ends, func(end forecast.End) bool { return slices.IndexFunc(end.Stuck, hasNoSource) >= 0 }) >= 0 {
+	if lists.Has(answer.Ends, func(end forecast.End) bool { return lists.Has(end.Stuck, hasNoSource) }) {
 		return true
 	}
 	isRotten, isAlike := false, true

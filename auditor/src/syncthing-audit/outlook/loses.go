@@ -4,6 +4,7 @@ import (
 	"golang.org/x/exp/slices"
 	"syncthing-audit/damage"
 	"syncthing-audit/forecast"
+	"syncthing-audit/lists"
 )
 
 // How something that stands on a disk comes to be on none, if it isn't lost.
@@ -17,18 +18,14 @@ const (
 
 // goesBy gives what stands at a name on some disk now and on none at some end, and goes in one of these ways.
 func (j *judge) goesBy(name *forecast.Name, ways ...way) []Thing {
-	var gone []Thing
-	for _, thing := range thingsNow(j.group.Devices, name) {
-		if !j.survives(name.Name, thing) && slices.Contains(ways, j.wayOf(name, thing)) {
-			gone = append(gone, thing)
-		}
-	}
-	return gone
+	return lists.Where(thingsNow(j.group.Devices, name), func(thing Thing) bool {
+		return !j.survives(name.Name, thing) && slices.Contains(ways, j.wayOf(name, thing))
+	})
 }
 
 // isEmptyEnd says whether nothing stands at a name but copies.
 func isEmptyEnd(end []Thing) bool {
-	return slices.IndexFunc(end, func(thing Thing) bool { return !thing.IsCopy }) < 0
+	return !lists.Has(end, func(thing Thing) bool { return !thing.IsCopy })
 }
 
 // survives says whether something stands on some disk at each end, even where conflict copies meet: a file's bytes under any name that hangs together
@@ -54,12 +51,7 @@ func (j *judge) staysIn(bytes []map[forecast.Content]bool, name string, thing Th
 // wayOf says what came after something that stands at a name. What no device has recorded nothing can have replaced, and a recorded change whose bytes
 // are harmed has replaced nothing: what was there before it is the best that is left. Neither has an empty file, as in showsChange, nor what looks damaged.
 func (j *judge) wayOf(name *forecast.Name, thing Thing) way {
-	var of []*forecast.Record
-	for _, own := range name.Own {
-		if isValid(own) && isOf(own, thing) {
-			of = append(of, own)
-		}
-	}
+	of := lists.Where(name.Own, func(own *forecast.Record) bool { return isValid(own) && isOf(own, thing) })
 	if len(of) == 0 {
 		return byNothing
 	}
@@ -86,7 +78,7 @@ func kindOf(of map[string][]damage.Kind, name string, member int) damage.Kind {
 }
 
 func areAll(records []*forecast.Record, is func(*forecast.Record) bool) bool {
-	return slices.IndexFunc(records, func(record *forecast.Record) bool { return !is(record) }) < 0
+	return !lists.Has(records, func(record *forecast.Record) bool { return !is(record) })
 }
 
 // isEmptied says whether an empty file is recorded in place of a file's bytes: a scan may have taken a harmed file for a change.

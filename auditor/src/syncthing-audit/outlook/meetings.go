@@ -2,8 +2,8 @@ package outlook
 
 import (
 	"golang.org/x/exp/slices"
-
 	"syncthing-audit/forecast"
+	"syncthing-audit/lists"
 )
 
 // Two devices that make conflict copies of different bytes in one second give both the same name. Of these Syncthing keeps one, and deletes the other:
@@ -52,11 +52,7 @@ func sureBytesOf(end map[string][]Thing) map[forecast.Content]bool {
 
 // losesWithoutMeeting gives what is lost of a name where no copies meet, too.
 func (j *judge) losesWithoutMeeting(name *forecast.Name, loses []Thing) []Thing {
-	var lost []Thing
-	for _, thing := range loses {
-		if !j.staysIn(j.bytes, name.Name, thing, func([]Thing, int) bool { return true }) {
-			lost = append(lost, thing)
-		}
-	}
-	return lost
+	return lists.Where(loses, func(thing Thing) bool {
+		return !j.staysIn(j.bytes, name.Name, thing, func([]Thing, int) bool { return true })
+	})
 }

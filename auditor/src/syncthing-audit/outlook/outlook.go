@@ -10,6 +10,7 @@ import (
 	"golang.org/x/exp/slices"
 	"syncthing-audit/forecast"
 	"syncthing-audit/forecast/read"
+	"syncthing-audit/lists"
 	"syncthing-audit/part"
 )
 
@@ -238,7 +239,7 @@ func (t *teller) end() *Outlook {
 		group := Group{Why: string(why), Names: count}
 		for _, all := range t.rows.All {
 			if all.Why == why {
-				group.Devices = idsOf(t.devices, all.Members)
+				group.Devices = lists.Each(all.Members, func(member int) string { return t.devices[member].ID })
 			}
 		}
 		outlook.Unknown = append(outlook.Unknown, group)

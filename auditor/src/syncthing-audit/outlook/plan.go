@@ -11,6 +11,7 @@ import (
 	"syncthing-audit/advice"
 	"syncthing-audit/damage"
 	"syncthing-audit/forecast"
+	"syncthing-audit/lists"
 	"syncthing-audit/part"
 )
 
@@ -210,15 +211,14 @@ func holderOf(name *forecast.Name, node *forecast.Node) int {
 
 // best gives the first plan that deletes nothing, or else the first one.
 func best(plans []advice.Plan) *advice.Plan {
-	if len(plans) == 0 {
-		return nil
-	}
 	deletes := func(step advice.Step) bool { return step.Act == advice.Delete }
-	place := slices.IndexFunc(plans, func(plan advice.Plan) bool { return slices.IndexFunc(plan.Steps, deletes) < 0 })
-	if place < 0 {
-		place = 0
+	switch place := slices.IndexFunc(plans, func(plan advice.Plan) bool { return !lists.Has(plan.Steps, deletes) }); {
+	case place >= 0:
+		return &plans[place]
+	case len(plans) > 0:
+		return &plans[0]
 	}
-	return &plans[place]
+	return nil
 }
 
 // toSave gives what a plan saves that leads to no goal: what is lost, and what goes by a recorded deletion beside it; or else what goes from a device on which
@@ -235,16 +235,11 @@ func (n *Name) toSave() []Thing {
 
 // goes gives what stands on a device now, and at some end nowhere, where the device has nothing then.
 func (n *Name) goes() []Thing {
-	var gone []Thing
-	for _, thing := range filesOf(n.Now) {
-		isGone := func(end []Thing) bool {
-			return !isAmong(end, thing) && slices.IndexFunc(thing.Devices, func(device string) bool { return !stands(end, device) }) >= 0
-		}
-		if slices.IndexFunc(n.Ends, isGone) >= 0 {
-			gone = append(gone, thing)
-		}
-	}
-	return gone
+	return lists.Where(filesOf(n.Now), func(thing Thing) bool {
+		return lists.Has(n.Ends, func(end []Thing) bool {
+			return !isAmong(end, thing) && lists.Has(thing.Devices, func(device string) bool { return !stands(end, device) })
+		})
+	})
 }
 
 // savesOf saves things that are lost else, and what may be right where the record may be the damage. An empty file has nothing to save.
@@ -296,12 +291,12 @@ func planOf(group *forecast.World, hand hand, found *advice.Plan, damaged map[st
 
 // does says whether a plan has this step on a device.
 func (p *Plan) does(act Act, device string) bool {
-	return slices.IndexFunc(p.Steps, func(step Step) bool { return step.Act == act && step.Device == device }) >= 0
+	return lists.Has(p.Steps, func(step Step) bool { return step.Act == act && step.Device == device })
 }
 
 // hasBelow says whether a device has something below a name: it goes with the directory.
 func hasBelow(group *forecast.World, member int, name string) bool {
-	return slices.IndexFunc(group.Names, func(other forecast.Name) bool { return other.Disk[member] != nil && isBelow(other.Name, name) }) >= 0
+	return lists.Has(group.Names, func(other forecast.Name) bool { return other.Disk[member] != nil && isBelow(other.Name, name) })
 }
 
 // isCopyAtAll says whether something stands as a conflict copy of a name at each end.

@@ -5,10 +5,10 @@ import (
 	"sort"
 	"strings"
 
-	"golang.org/x/exp/slices"
 	"syncthing-audit/advice"
 	"syncthing-audit/damage"
 	"syncthing-audit/forecast"
+	"syncthing-audit/lists"
 )
 
 // mostRepairs is how many steps put back what is due to names that hang together.
@@ -119,9 +119,7 @@ func (r *repair) order() []int {
 
 // isDirectory says whether a name is a directory by some record.
 func isDirectory(name *forecast.Name) bool {
-	return slices.IndexFunc(name.Own, func(own *forecast.Record) bool {
-		return isValid(own) && !own.Deleted && own.Type == forecast.Directory
-	}) >= 0
+	return lists.Has(name.Own, func(own *forecast.Record) bool { return isValid(own) && !own.Deleted && own.Type == forecast.Directory })
 }
 
 // copyTo takes the steps of a name on a device. What stands in place of a directory is taken away before.
@@ -145,7 +143,7 @@ func (r *repair) hasDirectoryAbove(member int, name string) bool {
 	what := r.world.At(member, above)
 	if what == nil {
 		isAbove := func(name forecast.Name) bool { return name.Name == above }
-		return slices.IndexFunc(r.group.Names, isAbove) < 0 && r.hasDirectoryAbove(member, above)
+		return !lists.Has(r.group.Names, isAbove) && r.hasDirectoryAbove(member, above)
 	}
 	return what.Type == forecast.Directory
 }
@@ -266,11 +264,5 @@ func (r *repair) tell(plans map[int]*Plan) {
 }
 
 func (r *repair) namesBelow(name string) int64 {
-	count := int64(0)
-	for _, hand := range r.hands {
-		if isBelow(hand.goal.Name, name) {
-			count++
-		}
-	}
-	return count
+	return int64(len(lists.Where(r.hands, func(hand hand) bool { return isBelow(hand.goal.Name, name) })))
 }

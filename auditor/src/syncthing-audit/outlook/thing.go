@@ -7,6 +7,7 @@ import (
 
 	"golang.org/x/exp/slices"
 	"syncthing-audit/forecast"
+	"syncthing-audit/lists"
 	"syncthing-audit/part"
 )
 
@@ -155,29 +156,14 @@ func (t Thing) IsLike(other Thing) bool {
 func (t Thing) isEmpty() bool { return t.Type == forecast.File && t.Content.Size == 0 }
 
 // isAmong says whether a thing is one of some things, or a copy that is kept of it.
-func isAmong(things []Thing, thing Thing) bool { return slices.IndexFunc(things, thing.IsLike) >= 0 }
+func isAmong(things []Thing, thing Thing) bool { return lists.Has(things, thing.IsLike) }
 
 // filesOf leaves directories out: what is below them are names, too.
 func filesOf(things []Thing) []Thing {
-	var files []Thing
-	for _, thing := range things {
-		if thing.Type != forecast.Directory {
-			files = append(files, thing)
-		}
-	}
-	return files
+	return lists.Where(things, func(thing Thing) bool { return thing.Type != forecast.Directory })
 }
 
 // stands says whether something stands at a name on a device that is no copy.
 func stands(things []Thing, device string) bool {
-	return slices.IndexFunc(things, func(thing Thing) bool { return !thing.IsCopy && slices.Contains(thing.Devices, device) }) >= 0
-}
-
-// idsOf gives the ids of devices in these places.
-func idsOf(devices []forecast.Device, places []int) []string {
-	var ids []string
-	for _, place := range places {
-		ids = append(ids, devices[place].ID)
-	}
-	return ids
+	return lists.Has(things, func(thing Thing) bool { return !thing.IsCopy && slices.Contains(thing.Devices, device) })
 }

@@ -1,8 +1,7 @@
 package print
 
 import (
-	"strings"
-
+	"syncthing-audit/lists"
 	"syncthing-audit/outlook"
 	"syncthing-audit/shell"
 )
@@ -31,11 +30,9 @@ func (p *Person) choices(folder string, o *outlook.Outlook) {
 
 // choosers names what may be chosen and the devices.
 func (p *Person) choosers(o *outlook.Outlook) string {
-	var words []string
-	for _, choice := range o.Choices {
-		words = append(words, namesOfChoice[choice.Act]+" on "+p.Called(choice.Device))
-	}
-	return strings.Join(words, ", ")
+	return Joined(o.Choices, ", ", func(choice *outlook.Choice) string {
+		return namesOfChoice[choice.Act] + " on " + p.Called(choice.Device)
+	})
 }
 
 var namesOfChoice = map[outlook.Act]string{outlook.Revert: "'Revert Local Changes'", outlook.Override: "'Override Changes'", outlook.Both: "'Send & Receive'"}
@@ -67,12 +64,8 @@ func (p *Person) losses(all []outlook.Loss, count int64, of string) {
 		return
 	}
 	p.Line("    %s %s: copy %s elsewhere before Syncthing starts, if it is to stay", Counted(count, "name loses", "names lose"), of, oneOf(count, "it", "that"))
-	for _, loss := range AtMost(outlook.MostNamed, all) {
-		var words []string
-		for _, thing := range loss.Loses {
-			words = append(words, what(thing)+" on "+p.Called.AsTheyStand(thing.Devices)+p.modified(thing))
-		}
-		p.Line("      %s: %s", shell.Path(string(loss.Name)), strings.Join(words, "; "))
+	for _, loss := range lists.AtMost(outlook.MostNamed, all) {
+		p.Line("      %s: %s", shell.Path(string(loss.Name)), Joined(loss.Loses, "; ", p.where))
 	}
 	p.more("      ", count-outlook.MostNamed)
 }

@@ -5,10 +5,10 @@ import "syncthing-audit/outlook"
 // Converging prints what is proved of a folder whose records lead to one end: of each name everything that is known of it leads up to
 // one record. Of a folder of which the model foretells more than that, the model's words stand alone.
 func (p *Person) Converging(folder string, o *outlook.Outlook, pairs *int64) {
-	if o != nil && o.Lost+o.Depends+o.Stays+o.Changed > 0 {
+	if o.Lost+o.Depends+o.Stays+o.Changed > 0 {
 		return
 	}
-	if o == nil || o.Names == 0 || o.NotKnown > 0 {
+	if o.Names == 0 || o.NotKnown > 0 {
 		p.Line("\nof %s it is proved, by its records:", folder)
 	}
 	if pairs != nil {

@@ -5,6 +5,7 @@ import (
 
 	"golang.org/x/exp/slices"
 	"syncthing-audit/forecast"
+	"syncthing-audit/lists"
 	"syncthing-audit/outlook"
 )
 
@@ -20,10 +21,8 @@ type fate struct {
 
 // Foretold says what becomes of a name if nobody does anything, on all of these devices; of several names that become alike, with isMany.
 func Foretold(name *outlook.Name, devices []string, called Names, isMany bool) string {
-	f, ends := fate{name, devices, called}, []string{}
-	for _, end := range AtMost(mostEnds, f.Ends) {
-		ends = append(ends, f.end(end))
-	}
+	f := fate{name, devices, called}
+	ends := lists.Each(lists.AtMost(mostEnds, f.Ends), f.end)
 	if more := len(f.Ends) - mostEnds; more > 0 {
 		ends = append(ends, "to "+Counted(int64(more), "more end", "more ends"))
 	}
@@ -43,7 +42,7 @@ func Foretold(name *outlook.Name, devices []string, called Names, isMany bool) s
 // end says what all devices have at an end, and what is a copy then or gone.
 func (f *fate) end(end []outlook.Thing) string {
 	var words []string
-	left := append([]string{}, f.devices...)
+	left := f.devices
 	for _, thing := range end {
 		if !thing.IsCopy {
 			words = append(words, f.holders(thing))
@@ -83,9 +82,6 @@ func (f *fate) holders(thing outlook.Thing) string {
 
 // now says what something is by who has it now.
 func (f *fate) now(thing outlook.Thing) string {
-	if len(f.Now) == 0 { // of an export of before
-		return what(thing)
-	}
 	if now := f.find(thing); now != nil {
 		return "what " + f.called.All(now.Devices) + " " + oneOf(int64(len(now.Devices)), "has", "have") + " now"
 	}
@@ -104,23 +100,15 @@ func (f *fate) find(thing outlook.Thing) *outlook.Thing {
 
 // reasons say why devices keep it otherwise than others.
 func (f *fate) reasons() string {
-	var words []string
 	reasons := Places{}
 	for _, kept := range f.Kept {
 		reasons.Add(wordsOfKept[kept.Why], kept.Device)
 	}
-	reasons.Each(f.called, func(why, devices string) { words = append(words, devices+": "+why) })
-	return strings.Join(words, "; ")
+	return reasons.Joined(f.called, func(why, devices string) string { return devices + ": " + why })
 }
 
 func without(devices, those []string) []string {
-	var rest []string
-	for _, device := range devices {
-		if !slices.Contains(those, device) {
-			rest = append(rest, device)
-		}
-	}
-	return rest
+	return lists.Where(devices, func(device string) bool { return !slices.Contains(those, device) })
 }
 
 // WhyUnknown says why it isn't known what becomes of a name, and what would make it known.

@@ -46,7 +46,8 @@ func TestWhatBecomesOfAName(t *testing.T) {
 		{outlook.Name{Now: things(directory, file(5, "aa", 0)), Ends: ends(things(symlink)), IsAll: true}, false, "all devices then have a symlink that no disk has there now; what laptop has now goes"},
 		{outlook.Name{Now: things(symlink), Ends: ends(things(file(5, "aa", 1))), IsAll: true}, false,
 			"server then has a file that no disk has under this name now; laptop, phone then have nothing there; what laptop, phone, server have now goes"},
-		{outlook.Name{Ends: ends(things(file(5, "aa", 0, 1), directory)), IsAll: true}, false, "laptop, server then have 5 bytes; phone then has the directory"},
+		{outlook.Name{Ends: ends(things(file(5, "aa", 0, 1), directory)), IsAll: true}, false,
+			"laptop, server then have a file that no disk has under this name now; phone then has a directory that no disk has there now"},
 		{outlook.Name{Now: now, Ends: ends(things(file(5, "aa", 0, 1, 2)), things(file(7, "bb", 0, 1, 2)))}, false,
 			"one of several ends, by the order of what happens: all devices then have what laptop has now; what server has now goes; or " +
 				"all devices then have what server has now; what laptop has now goes, in all orders tried"},
@@ -116,7 +117,7 @@ func TestWhatIsProvedOfAFolder(t *testing.T) {
 		pairs *int64
 		told  string
 	}{
-		{nil, nil, head + proved}, {nil, &several, head + "  still to come: 1,234 pairs of a name and a device\n" + proved},
+		{&outlook.Outlook{}, nil, head + proved}, {&outlook.Outlook{}, &several, head + "  still to come: 1,234 pairs of a name and a device\n" + proved},
 		{&outlook.Outlook{}, &single, head + "  still to come: 1 pair of a name and a device\n" + proved},
 		{&outlook.Outlook{Names: 2, Right: 1, NotKnown: 1}, &none, head + "  still to come: 0 pairs of a name and a device\n" + proved},
 		{&outlook.Outlook{Names: 1, Right: 1}, nil, proved}, {&outlook.Outlook{Names: 1, Deleted: 1}, &single, "  still to come: 1 pair of a name and a device\n" + proved},

@@ -5,6 +5,7 @@ import (
 	"strings"
 
 	"golang.org/x/exp/slices"
+	"syncthing-audit/lists"
 )
 
 // Names gives each device's name for a person, by its id.
@@ -12,11 +13,7 @@ type Names func(device string) string
 
 // Each gives the name of each.
 func (n Names) Each(devices []string) []string {
-	names := []string{}
-	for _, device := range devices {
-		names = append(names, n(device))
-	}
-	return names
+	return lists.Each(devices, n)
 }
 
 // Rising gives devices in the order of their names.
@@ -49,11 +46,19 @@ func (p *Places) Add(told, device string) {
 	}
 }
 
+// Count counts what is told.
+func (p *Places) Count() int64 { return int64(len(p.told)) }
+
 // Each says what is told, with the names of the devices, rising.
 func (p *Places) Each(named Names, say func(told, devices string)) {
 	for _, told := range p.told {
 		say(told, named.All(p.devices[told]))
 	}
+}
+
+// Joined gives what is said so as one text.
+func (p *Places) Joined(named Names, say func(told, devices string) string) string {
+	return Joined(p.told, "; ", func(told string) string { return say(told, named.All(p.devices[told])) })
 }
 
 // AddOnce adds a text that isn't there yet.
@@ -64,10 +69,7 @@ func AddOnce(all []string, text string) []string {
 	return append(all, text)
 }
 
-// AtMost gives so many of a list, the first ones.
-func AtMost[Item any](most int, list []Item) []Item {
-	if len(list) > most {
-		return list[:most]
-	}
-	return list
+// Joined gives what is said of each of a list, with something between.
+func Joined[Item any](list []Item, between string, say func(Item) string) string {
+	return strings.Join(lists.Each(list, say), between)
 }

@@ -64,13 +64,3 @@ func TestWhatIsToldOfDevices(t *testing.T) {
 		}
 	}
 }
-
-// So many of a list are its first ones, and all of a shorter one.
-func TestTheFirstOfAList(t *testing.T) {
-	for length := 0; length < 6; length++ {
-		list := []int{0, 1, 2, 3, 4, 5}[:length]
-		if first := AtMost(3, list); len(first) != length && len(first) != 3 || len(first) > 3 || !reflect.DeepEqual(first, list[:len(first)]) {
-			t.Errorf("%v of %v", first, list)
-		}
-	}
-}

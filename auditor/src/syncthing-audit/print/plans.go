@@ -2,9 +2,8 @@ package print
 
 import (
 	"path"
-	"strings"
 
-	"golang.org/x/exp/slices"
+	"syncthing-audit/lists"
 	"syncthing-audit/outlook"
 	"syncthing-audit/part"
 	"syncthing-audit/shell"
@@ -30,7 +29,7 @@ func (p *Person) plans(folder string, o *outlook.Outlook) {
 	if len(o.Choices) > 0 {
 		p.Line("  %s. audit again, once they are idle. What may be chosen for the whole folder (%s) is told then: these steps change what it does", Thousands(number+2), p.choosers(o))
 	}
-	if slices.IndexFunc(o.Plans, func(plan *outlook.Plan) bool { return plan.Goal != nil }) >= 0 {
+	if lists.Has(o.Plans, func(plan *outlook.Plan) bool { return plan.Goal != nil }) {
 		p.Line("  what these steps put right needs nothing that the entries below say to do")
 	}
 }
@@ -64,12 +63,8 @@ func (p *Person) have(devices []string) string {
 
 // firstOf gives the first of so many names, and how many more there are.
 func firstOf(all []part.Bytes, count int64) string {
-	var names []string
-	for _, name := range AtMost(outlook.MostNamed, all) {
-		names = append(names, shell.Path(string(name)))
-	}
-	told := strings.Join(names, " ")
-	if more := count - int64(len(names)); more > 0 {
+	told := Joined(lists.AtMost(outlook.MostNamed, all), " ", func(name part.Bytes) string { return shell.Path(string(name)) })
+	if more := count - outlook.MostNamed; more > 0 {
 		told += " and " + Counted(more, "more name", "more names")
 	}
 	return told

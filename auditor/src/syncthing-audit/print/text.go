@@ -19,7 +19,7 @@ type Person struct {
 
 // Outlook prints what happens in a folder if nobody does anything; nothing where all names are at rest, or a folder in step stays so.
 func (p *Person) Outlook(folder string, isInStep bool, o *outlook.Outlook) {
-	if o == nil || o.Names == 0 || isInStep && o.Right == o.Names {
+	if o.Names == 0 || isInStep && o.Right == o.Names {
 		return
 	}
 	p.Line("\nif nobody does anything in %s, and all devices scan, then run and reach one another until nothing changes any more:", folder)
@@ -32,14 +32,6 @@ func (p *Person) Outlook(folder string, isInStep bool, o *outlook.Outlook) {
 		p.Line("  of %s not all orders were tried: what is said of %s holds in all orders tried", Counted(o.Walked, "name", "names"), itOrThem(o.Walked))
 	}
 	p.plans(folder, o)
-}
-
-// OfOlder is why nothing is foretold of an older program's export, which has another form of it or none.
-const OfOlder = "a program of 0.16.0 or before made the export"
-
-// NoOutlook says that what happens isn't known of such an export.
-func (p *Person) NoOutlook(folder string) {
-	p.Line("\nit isn't known what happens in %s if nobody does anything: %s", folder, OfOlder)
 }
 
 // Line prints a line.
@@ -73,7 +65,7 @@ func (p *Person) lost(o *outlook.Outlook) {
 	p.Line("  %s something that stands on a disk now:", Counted(o.Lost, "name loses", "names lose"))
 	p.named(o, outlook.Lost, o.Lost, func(name *outlook.Name) {
 		for _, thing := range name.Loses {
-			p.Line("    %s: %s on %s%s; then on no device%s", shell.Path(string(name.Name)), what(thing), p.Called.AsTheyStand(thing.Devices), p.modified(thing), some(name))
+			p.Line("    %s: %s; then on no device%s", shell.Path(string(name.Name)), p.where(thing), some(name))
 		}
 	})
 }
@@ -111,6 +103,11 @@ func (p *Person) modified(thing outlook.Thing) string {
 		return ""
 	}
 	return " (modified " + p.When(*at) + ")"
+}
+
+// where says what stands on a disk, and where.
+func (p *Person) where(thing outlook.Thing) string {
+	return what(thing) + " on " + p.Called.AsTheyStand(thing.Devices) + p.modified(thing)
 }
 
 // what names a thing that stands on a disk.

@@ -1,9 +1,6 @@
 package print
 
-import (
-	"strings"
-	"testing"
-)
+import "testing"
 
 // Sizes and numbers at each boundary of their units and groups.
 func TestSizesAndNumbers(t *testing.T) {
@@ -20,14 +17,5 @@ func TestSizesAndNumbers(t *testing.T) {
 	}
 	if Counted(1, "name", "names") != "1 name" || Counted(0, "name", "names") != "0 names" || Counted(1000, "name", "names") != "1,000 names" {
 		t.Error("a number isn't told with what it counts")
-	}
-}
-
-// Of an older program's export it is told that nobody knows what happens.
-func TestWhatIsNotKnownOfAnOlderExport(t *testing.T) {
-	var written strings.Builder
-	(&Person{To: &written}).NoOutlook("docs")
-	if told := written.String(); !strings.Contains(told, "it isn't known what happens in docs if nobody does anything: a program of 0.16.0 or before made the export") {
-		t.Errorf("%q", told)
 	}
 }

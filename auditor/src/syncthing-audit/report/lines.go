@@ -203,10 +203,10 @@ func leftOut(to io.Writer, folder *finding.Folder) {
 	for _, leftOut := range folder.LeftOut {
 		for _, why := range leftOut.Why {
 			device := "-"
-			if why.Member >= 0 {
-				device = strconv.FormatUint(folder.Members[why.Member].Number, 10)
+			if why.Device != "" {
+				device = strconv.FormatUint(part.Number(why.Device), 10)
 			}
-			outside.Printf(to, "left out: %s %s on %s: %s (%s, %d names, %d bytes)\n", folder.ID, printed(leftOut.Name), device, why.Why,
+			outside.Printf(to, "left out: %s %s on %s: %s (%s, %d names, %d bytes)\n", folder.ID, printed(string(leftOut.Name)), device, why.Why,
 				why.Kind, leftOut.Names, leftOut.Bytes)
 		}
 	}

@@ -6,6 +6,7 @@ import (
 	"testing"
 	"time"
 
+	"github.com/syncthing/syncthing/lib/protocol"
 	"syncthing-audit/choice"
 	"syncthing-audit/finding"
 	"syncthing-audit/join"
@@ -19,7 +20,7 @@ func folderOf(id string, devices int, failures ...finding.Failure) *finding.Fold
 		made.Failures.Add(one)
 	}
 	for number := 1; number <= devices; number++ {
-		made.Members = append(made.Members, join.Member{Device: &join.Device{Head: &part.Head{}, Number: uint64(number)}})
+		made.Members = append(made.Members, join.Member{Device: &join.Device{Head: &part.Head{Device: protocol.DeviceID{7: byte(number)}.String()}, Number: uint64(number)}})
 	}
 	return made
 }
@@ -42,7 +43,7 @@ func TestVerdicts(t *testing.T) {
 	differs := finding.Failure{Reason: "StoreDiffers", Name: "b", Device: 1}
 	unwon := finding.Failure{Reason: "NotWinner", Name: "z"}
 	left := folderOf("docs", 2)
-	left.LeftOut = []*finding.LeftOut{{Name: "x", Names: 1, Why: []finding.Reason{{Member: 0, Kind: part.Special, Why: "a fifo"}}}}
+	left.LeftOut = []*finding.LeftOut{{Name: "x", Names: 1, Why: []finding.Reason{{Device: left.Members[0].Head.Device, Kind: part.Special, Why: "a fifo"}}}}
 	cases := []struct {
 		why     string
 		answer  finding.Answer
@@ -126,7 +127,7 @@ func TestLines(t *testing.T) {
 	folder := folderOf("docs", 2)
 	folder.Unwon.Add(finding.Unwon{Name: "new file", At: []finding.Cause{{Member: 1, Kind: finding.Unscanned}}})
 	folder.Permissions.Add(finding.Permissions{Name: "a", At: []finding.Bits{{Has: true, Index: 0o644, OnDisk: true, Disk: 0o600}, {}}})
-	folder.LeftOut = []*finding.LeftOut{{Name: "odd\xff", Names: 1, Bytes: 3, Why: []finding.Reason{{Member: 0, Kind: part.OddName, Why: "not UTF-8"}}}}
+	folder.LeftOut = []*finding.LeftOut{{Name: "odd\xff", Names: 1, Bytes: 3, Why: []finding.Reason{{Device: folder.Members[0].Head.Device, Kind: part.OddName, Why: "not UTF-8"}}}}
 	folder.Unlisted.LeftOut = finding.Count{Names: 1, Bytes: 9}
 	folder.Outside = finding.Count{Names: 1, Bytes: 7}
 	var written strings.Builder

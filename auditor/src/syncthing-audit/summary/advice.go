@@ -3,6 +3,7 @@ package summary
 import (
 	"golang.org/x/exp/slices"
 	"syncthing-audit/damage"
+	"syncthing-audit/lists"
 	"syncthing-audit/outlook"
 	"syncthing-audit/print"
 )
@@ -196,9 +197,6 @@ func (f *File) detailsBy(alone string) string {
 
 // oneMode says on which devices to change permissions, of a name of which these alone differ.
 func (f *File) oneMode(named print.Names) string {
-	devices := []string{}
-	for _, mode := range f.Permissions {
-		devices = append(devices, mode.Device)
-	}
+	devices := lists.Each(f.Permissions, func(mode Mode) string { return mode.Device })
 	return "'chmod' " + f.say("it", "them") + " to the mode that is right on " + named.All(devices) + ", before Syncthing scans there; or choose 'Ignore Permissions' for the folder"
 }

@@ -1,8 +1,6 @@
 package summary
 
 import (
-	"strings"
-
 	"syncthing-audit/part"
 	"syncthing-audit/print"
 	"syncthing-audit/shell"
@@ -40,13 +38,11 @@ func (w *Wanted) words() string {
 	if w.Errors == 0 {
 		return told + ", fails at nothing"
 	}
-	first := []string{}
-	for _, failed := range w.First {
-		first = append(first, shell.Path(string(failed.Name))+" ("+shell.Printable(failed.Why)+")")
-	}
 	told += ", fails at " + counted(w.Errors, "name", "names")
-	if len(first) > 0 {
-		told += ", first at " + strings.Join(first, ", ")
+	if len(w.First) > 0 {
+		told += ", first at " + print.Joined(w.First, ", ", func(failed part.NameError) string {
+			return shell.Path(string(failed.Name)) + " (" + shell.Printable(failed.Why) + ")"
+		})
 	}
 	return told
 }

@@ -16,7 +16,7 @@ func lost(at *part.Name) {
 }
 
 const (
-	unknownOfServer = `  if nothing is done: it isn't known what happens: a program of 0.16.0 or before made the export.
+	unknownOfServer = `  if nothing is done: it isn't known what happens: nothing is foretold of it.
   to do: before Syncthing starts or scans on any of these devices, copy elsewhere what is to stay of
          what stands on `
 	damageOfServer = `  to do: see the system's log on server (journalctl -k, smartctl -a): its disk fails there, and may

@@ -1,8 +1,8 @@
 package summary
 
 import (
-	"strings"
-
+	"syncthing-audit/lists"
+	"syncthing-audit/print"
 	"syncthing-audit/shell"
 )
 
@@ -60,28 +60,16 @@ func (p *printer) group(folder *Folder, group *Group) {
 	}
 	p.Line("\n%s in %s: %s%s", counted(group.Names, "name", "names"), folder.ID, size(group.Bytes), unsized)
 	for place, fault := range group.of.Faults {
-		faults := faultsAt(group.files, place)
+		faults := lists.Each(group.files, func(file *File) *Fault { return file.Faults[place] })
 		p.Line("  %s: %s%s", p.Called(fault.Device), wordsOfFaults(faults, true), differingInAll(faults))
 	}
 	p.same(group.of)
 	p.modes(group.Modes)
-	first := []string{}
-	for _, name := range group.First {
-		first = append(first, shell.Path(string(name)))
-	}
-	p.Line("  the first: %s, and %s more (--lines has all)", strings.Join(first, " "), thousands(group.Names-int64(len(first))))
+	first := print.Joined(group.First, " ", func(name Text) string { return shell.Path(string(name)) })
+	p.Line("  the first: %s, and %s more (--lines has all)", first, thousands(group.Names-int64(len(group.First))))
 	p.have(group.of)
 	p.foretold(group.Foretold)
 	p.advice(group.Advice)
-}
-
-// faultsAt gives the faults of all names at this place, as of one device.
-func faultsAt(all []*File, place int) []*Fault {
-	faults := []*Fault{}
-	for _, file := range all {
-		faults = append(faults, file.Faults[place])
-	}
-	return faults
 }
 
 // differingInAll says how many blocks differ in all names, where these have other bytes on a disk.

@@ -29,7 +29,7 @@ func TestManyNamesOfOtherBytes(t *testing.T) {
   server: other bytes on the disk; size and time are as recorded; 40 blocks differ in all (--json tells them)
   the first: photos/00 photos/01 photos/02 photos/03 photos/04, and 35 more (--lines has all)
   as recorded on: laptop, phone
-  if nothing is done: it isn't known what happens: a program of 0.16.0 or before made the export.
+  if nothing is done: it isn't known what happens: nothing is foretold of it.
   to do: before Syncthing starts or scans on any of these devices, copy elsewhere what is to stay of
          what stands on laptop, server.
   to do: to have again what server recorded, copy them from laptop to server with their times alone,
@@ -72,7 +72,7 @@ func TestManyChanges(t *testing.T) {
   server: changed on the disk since the last scan
   the first: a/00 a/01 a/02 a/03 a/04, and 35 more (--lines has all)
   as recorded on: laptop
-  if nothing is done: it isn't known what happens: a program of 0.16.0 or before made the export.
+  if nothing is done: it isn't known what happens: nothing is foretold of it.
   to do: before Syncthing starts or scans on any of these devices, copy elsewhere what is to stay of
          what stands on laptop, server.
   to do: to have again what server recorded, copy them from laptop to server with their times alone,`, `
@@ -166,11 +166,11 @@ func TestManyLocalChanges(t *testing.T) {
   server: changed on this receive-only device
   the first: a/00 a/01 a/02 a/03 a/04, and 35 more (--lines has all)
   as recorded on: laptop
-  if nothing is done: it isn't known what happens: a program of 0.16.0 or before made the export.`, `
+  if nothing is done: it isn't known what happens: nothing is foretold of it.`, `
 40 names in docs: 12.0 MB
   server: added on this receive-only device; no other has it
   the first: b/00 b/01 b/02 b/03 b/04, and 35 more (--lines has all)
-  if nothing is done: it isn't known what happens: a program of 0.16.0 or before made the export.`, `
+  if nothing is done: it isn't known what happens: nothing is foretold of it.`, `
 c  (in docs, 300.0 kB)
   server: deleted on this receive-only device`} {
 		if !strings.Contains(text, told) {

@@ -18,9 +18,6 @@ type foretold struct {
 // foreteller gives for each name of a folder what is foretold of it.
 func foreteller(folder *Folder, named print.Names) func(name string) foretold {
 	told := folder.Outlook
-	if told == nil {
-		return func(string) foretold { return foretold{why: ": " + print.OfOlder} }
-	}
 	fates, choices := map[string]*outlook.Name{}, map[string]bool{}
 	for place := range told.Listed {
 		fates[string(told.Listed[place].Name)] = &told.Listed[place]
@@ -33,7 +30,7 @@ func foreteller(folder *Folder, named print.Names) func(name string) foretold {
 		fate := foretold{fate: fates[name], plan: planOf(name), choices: choices, devices: devicesIn(folder), hasSteps: len(told.Plans) > 0}
 		switch {
 		case fate.fate == nil && isListed && len(told.Unknown) == 0:
-			fate.why = ": it isn't among the names of which something is foretold"
+			fate.why = ": nothing is foretold of it"
 		case fate.fate == nil || fate.is(outlook.Unknown):
 			fate.why, fate.fate = ": "+print.WhyUnknown(told, fate.fate, named), nil
 		}

@@ -6,6 +6,7 @@ import (
 	"strings"
 
 	"syncthing-audit/finding"
+	"syncthing-audit/lists"
 	"syncthing-audit/print"
 )
 
@@ -148,18 +149,14 @@ func (f *folding) end() ([]*File, []*Group) {
 // tell gives what is told of these names as one.
 func (g *Group) tell(named print.Names) *Group {
 	many := g.files[0].asMany()
-	g.of, g.Cause, g.Devices, g.First, g.Have, g.Modes = many, Permissions, []string{}, []Text{}, many.Have, many.Permissions
+	g.of, g.Cause, g.Have, g.Modes = many, Permissions, many.Have, many.Permissions
 	g.Foretold, g.Advice = many.tell(named), adviceOf(many, named)
 	if len(many.Faults) > 0 {
 		g.Cause = many.Faults[0].Cause
 		g.Deleted = g.Cause == Behind && many.Faults[0].Deletion
 	}
-	for _, fault := range many.Faults {
-		g.Devices = append(g.Devices, fault.Device)
-	}
-	for _, file := range g.files[:mostAlone] {
-		g.First = append(g.First, file.Name)
-	}
+	g.Devices = lists.Each(many.Faults, func(fault *Fault) string { return fault.Device })
+	g.First = lists.Each(g.files[:mostAlone], func(file *File) Text { return file.Name })
 	return g
 }
 

@@ -31,7 +31,7 @@ func full(folder *finding.Folder) {
 	unwon(folder, "new", 0, finding.Unscanned, with(file(1, 1), func(at *part.Name) { at.Own = nil }))
 	folder.Permissions.Add(finding.Permissions{Name: "rotten", At: []finding.Bits{{Has: true, Index: 0o644, OnDisk: true, Disk: 0o600}, {}}})
 	folder.Conflicts = []finding.Conflict{{Name: "a.sync-conflict-20261126-170000.txt", Bytes: 1}}
-	folder.LeftOut = []*finding.LeftOut{{Name: "odd\xff", Names: 1, Why: []finding.Reason{{Member: -1, Kind: part.Large, Why: "large"}, {Member: 0, Kind: part.OddName}}}}
+	folder.LeftOut = []*finding.LeftOut{{Name: "odd\xff", Names: 1, Why: []finding.Reason{{Kind: part.Large, Why: "large"}, {Device: folder.Members[0].Head.Device, Kind: part.OddName}}}}
 	folder.Members[0].Head.Names = choice.Names{Prefix: "a", Slice: 3, Slices: 7}
 	folder.Members[0].About.Indexed = 1001
 	folder.Members[0].About.Writers = []string{"folder photos"}

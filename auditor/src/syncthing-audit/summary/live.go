@@ -7,6 +7,7 @@ import (
 
 	"golang.org/x/exp/slices"
 	"syncthing-audit/finding"
+	"syncthing-audit/lists"
 	"syncthing-audit/part"
 	"syncthing-audit/print"
 	"syncthing-audit/shell"
@@ -176,13 +177,10 @@ func (p *printer) movingNames(folder *Folder, live *Live) {
 	if isWaiting {
 		p.running("  before a scan:", beforeScan)
 	}
-	told := print.AtMost(mostOfList, live.worst())
+	told := lists.AtMost(mostOfList, live.worst())
 	for _, moving := range told {
-		words := []string{}
-		for _, at := range moving.Devices {
-			words = append(words, p.Called(at.Device)+": "+p.whyMoved(at))
-		}
-		p.Line("  %s: %s", shell.Path(string(moving.Name)), strings.Join(words, "; "))
+		words := print.Joined(moving.Devices, "; ", func(at Moved) string { return p.Called(at.Device) + ": " + p.whyMoved(at) })
+		p.Line("  %s: %s", shell.Path(string(moving.Name)), words)
 	}
 	p.more(live.Moving-int64(len(told)), "--json has "+thousands(int64(len(live.Names))))
 	if isWaiting {

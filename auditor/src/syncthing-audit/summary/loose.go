@@ -1,9 +1,8 @@
 package summary
 
 import (
-	"strings"
-
 	"syncthing-audit/finding"
+	"syncthing-audit/lists"
 	"syncthing-audit/print"
 	"syncthing-audit/shell"
 )
@@ -34,11 +33,9 @@ func looseOf(from *finding.Folder) (int64, []Loose) {
 		if len(names) == finding.MostListed {
 			return
 		}
-		next := Loose{Name: Text(loose.Name), Devices: []LooseAt{}}
-		for _, at := range loose.At {
-			next.Devices = append(next.Devices, LooseAt{from.Members[at.Member].Head.Device, at.Reason, at.IsOlder})
-		}
-		names = append(names, next)
+		names = append(names, Loose{Text(loose.Name), lists.Each(loose.At, func(at finding.LooseAt) LooseAt {
+			return LooseAt{from.Members[at.Member].Head.Device, at.Reason, at.IsOlder}
+		})})
 	})
 	return from.Loose.Len(), names
 }
@@ -49,6 +46,13 @@ var wordsOfLoose = map[string]string{
 	finding.ViewNotBelow:   "knows of a concurrent or newer version at another device",
 	finding.FlightNotBelow: "is being told of a concurrent or newer version",
 	finding.PullNotBelow:   "pulls a concurrent or newer version",
+}
+
+func (l LooseAt) words() string {
+	if l.IsOlder {
+		return "has it under an older version"
+	}
+	return wordsOfLoose[l.Reason]
 }
 
 // What it means for Syncthing that a folder in step isn't firm, and what to do.
@@ -64,17 +68,10 @@ func (p *printer) loose(folder *Folder) {
 		return
 	}
 	p.Line("\n%s %s from being firm", counted(folder.Loose, "name keeps", "names keep"), folder.ID)
-	told := print.AtMost(mostOfList, folder.NotFirm)
+	told := lists.AtMost(mostOfList, folder.NotFirm)
 	for _, loose := range told {
-		words := []string{}
-		for _, at := range loose.Devices {
-			why := wordsOfLoose[at.Reason]
-			if at.IsOlder {
-				why = "has it under an older version"
-			}
-			words = append(words, p.Called(at.Device)+" "+why)
-		}
-		p.Line("  %s: %s", shell.Path(string(loose.Name)), strings.Join(words, "; "))
+		words := print.Joined(loose.Devices, "; ", func(at LooseAt) string { return p.Called(at.Device) + " " + at.words() })
+		p.Line("  %s: %s", shell.Path(string(loose.Name)), words)
 	}
 	p.more(folder.Loose-int64(len(told)), "--lines has all")
 	p.running("  that is:", meaningOfLoose)

@@ -8,6 +8,7 @@ import (
 
 	"syncthing-audit/finding"
 	"syncthing-audit/join"
+	"syncthing-audit/outlook"
 	"syncthing-audit/part"
 	"syncthing-audit/print"
 )
@@ -31,7 +32,7 @@ const (
 // answerOf gives an answer of one folder, docs, at so many devices, numbered from 1.
 func answerOf(devices int, fill func(*finding.Folder)) *finding.Answer {
 	folder := &finding.Folder{ID: "docs", Label: "Documents", Names: 1204, Deleted: 4, Bytes: 335200000, Rows: map[string]*join.Row{},
-		Firmness: finding.Firmness{Asked: true}}
+		Firmness: finding.Firmness{Asked: true}, Outlook: &outlook.Outlook{Unknown: []outlook.Group{}, Kept: []outlook.Group{}, Listed: []outlook.Name{}, Plans: []*outlook.Plan{}}}
 	answer := &finding.Answer{Folders: []*finding.Folder{folder}}
 	for place, name := range []string{"laptop", "server", "phone"}[:devices] {
 		head := &part.Head{Device: ids[place], Name: name, Folders: []part.Folder{{ID: "docs", Kind: "send-receive", Path: "/srv/docs"}}}

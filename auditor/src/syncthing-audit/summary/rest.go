@@ -6,6 +6,7 @@ import (
 
 	"golang.org/x/exp/slices"
 	"syncthing-audit/finding"
+	"syncthing-audit/lists"
 	"syncthing-audit/part"
 	"syncthing-audit/print"
 	"syncthing-audit/shell"
@@ -177,7 +178,7 @@ func (p *printer) copies(folder *Folder) {
 	}
 	p.Line("%s in %s, %s: compare each with its file, and keep what you want of both", counted(count, "conflict copy", "conflict copies"),
 		folder.ID, size(bytes))
-	told := print.AtMost(mostOfList, folder.Copies)
+	told := lists.AtMost(mostOfList, folder.Copies)
 	for _, conflict := range told {
 		p.Line("  %s", shell.Path(string(conflict.Name)))
 	}
@@ -229,7 +230,7 @@ func (p *printer) temporary(folder *Folder) {
 const mostLeft = 5
 
 // leftByReasons prints names that were left out: of those for the same on the same devices the first ones.
-func (p *printer) leftByReasons(all []Names) {
+func (p *printer) leftByReasons(all []*finding.LeftOut) {
 	told, more, keys := map[string]int{}, map[string]finding.Count{}, []string{}
 	for _, names := range all {
 		key := p.kindsOf(names)
@@ -250,8 +251,8 @@ func (p *printer) leftByReasons(all []Names) {
 }
 
 // kindsOf says for what a name was left out, on which devices.
-func (p *printer) kindsOf(names Names) string {
-	return p.byDevices(names.Why, func(why WhyLeft) string { return why.Kind }, func(kind, devices string) string {
+func (p *printer) kindsOf(names *finding.LeftOut) string {
+	return p.byDevices(names.Why, func(why finding.Reason) string { return why.Kind }, func(kind, devices string) string {
 		if devices != "" {
 			kind += " on " + devices
 		}
@@ -260,22 +261,21 @@ func (p *printer) kindsOf(names Names) string {
 }
 
 // byDevices gives reasons as texts, each once with the devices at which it is.
-func (p *printer) byDevices(all []WhyLeft, text func(WhyLeft) string, say func(text, devices string) string) string {
-	reasons, words := print.Places{}, []string{}
+func (p *printer) byDevices(all []finding.Reason, text func(finding.Reason) string, say func(text, devices string) string) string {
+	reasons := print.Places{}
 	for _, why := range all {
 		reasons.Add(text(why), why.Device)
 	}
-	reasons.Each(p.Called, func(text, devices string) { words = append(words, say(text, devices)) })
-	return strings.Join(words, "; ")
+	return reasons.Joined(p.Called, say)
 }
 
 // left prints a name that was left out.
-func (p *printer) left(names Names) {
+func (p *printer) left(names *finding.LeftOut) {
 	name := shell.Path(string(names.Name))
 	if names.Below {
 		name += " and all below it (" + counted(names.Names, "name", "names") + ")"
 	}
-	p.Line("  %s, %s: %s", name, size(names.Bytes), p.byDevices(names.Why, func(why WhyLeft) string { return why.Why }, func(why, devices string) string {
+	p.Line("  %s, %s: %s", name, size(names.Bytes), p.byDevices(names.Why, func(why finding.Reason) string { return why.Why }, func(why, devices string) string {
 		if devices != "" {
 			why = devices + ": " + why
 		}

@@ -5,6 +5,7 @@ import (
 	"time"
 
 	"syncthing-audit/history"
+	"syncthing-audit/lists"
 	"syncthing-audit/print"
 	"syncthing-audit/shell"
 )
@@ -63,7 +64,7 @@ func (p *printer) changed(count int64, all []history.Changed, on string, toDo fu
 		return
 	}
 	p.Line("%s %s", counted(count, "file has other bytes than before", "files have other bytes than before, each"), on)
-	told := print.AtMost(mostNews, all)
+	told := lists.AtMost(mostNews, all)
 	for _, file := range told {
 		devices := p.Called.All(file.Devices)
 		p.Line("  %s in %s: its bytes changed between %s and %s on %s%s. A program that puts a file's time back after it wrote looks the same", shell.Quoted(string(file.Name)),
@@ -85,7 +86,7 @@ func (p *printer) news(since *history.Since) {
 		list history.List
 	}{{"new", since.New}, {"mended", since.Mended}, {"lasts", since.Lasting}, {"not looked at", since.Unasked}} {
 		places := placesOf(list.list.First)
-		for _, place := range print.AtMost(mostNews, places) {
+		for _, place := range lists.AtMost(mostNews, places) {
 			p.Line("  %s: %s in %s%s (%s), since %s", list.word, shell.Quoted(string(place.Name)), place.Folder, p.onDevice(place.Device), place.Reason, p.day(place.First))
 		}
 		if more := len(places) - mostNews; more > 0 {

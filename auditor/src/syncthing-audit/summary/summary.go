@@ -10,6 +10,7 @@ import (
 	"syncthing-audit/finding"
 	"syncthing-audit/history"
 	"syncthing-audit/join"
+	"syncthing-audit/lists"
 	"syncthing-audit/outlook"
 	"syncthing-audit/outside"
 	"syncthing-audit/part"
@@ -94,7 +95,7 @@ type Folder struct {
 	Files   []*File            `json:"files"`
 	Groups  []*Group           `json:"groups"`
 	Copies  []finding.Conflict `json:"conflict_copies"`
-	LeftOut []Names            `json:"left_out"`
+	LeftOut []*finding.LeftOut `json:"left_out"`
 	MoreOut Count              `json:"left_out_unlisted"`
 	More    Count              `json:"conflict_copies_unlisted"`
 	Ignored Count              `json:"ignored"`
@@ -111,9 +112,7 @@ type Folder struct {
 	Hindrance  *Hindrance         `json:"not_converging,omitempty"` // the first thing that hinders it, in syncaudit's words
 	Pairs      *int64             `json:"pairs_to_come,omitempty"`  // of a name and a device, in a folder that converges
 
-	Outlook *outlook.Outlook `json:"outlook,omitempty"` // what happens if nobody does anything; nothing where an older program made the export
-
-	lacksOutlook bool // of a folder not in step
+	Outlook *outlook.Outlook `json:"outlook"` // what happens if nobody does anything
 }
 
 // Member is a device that shares a folder.
@@ -155,22 +154,6 @@ func memberOf(member join.Member) Member {
 
 // Count is of names that aren't listed: of those that .stignore keeps out of the folder everywhere, or of further ones.
 type Count = part.Count
-
-// Names are a name that was left out on request, or all names below it.
-type Names struct {
-	Name  Text      `json:"name"`
-	Below bool      `json:"below"`
-	Names int64     `json:"names"`
-	Bytes int64     `json:"bytes"`
-	Why   []WhyLeft `json:"why"`
-}
-
-// WhyLeft is why a name was left out; without a device where it is of all.
-type WhyLeft struct {
-	Device string `json:"device,omitempty"`
-	Kind   string `json:"kind"`
-	Why    string `json:"why"`
-}
 
 // LeftOut is a device that was left out of a folder.
 type LeftOut struct {
@@ -231,7 +214,7 @@ func Of(answer *finding.Answer) *Summary {
 }
 
 // shortOf gives as much of an id as tells devices of one name apart.
-func shortOf(id string) string { return string(print.AtMost(7, []byte(id))) }
+func shortOf(id string) string { return string(lists.AtMost(7, []byte(id))) }
 
 // Called gives each device's name for a person: the configured one, with the id's beginning where two have the same.
 func (s *Summary) Called() print.Names {
@@ -268,35 +251,28 @@ func verdictOf(answer *finding.Answer) string {
 
 // folderOf gives the summary of a folder, but for what is told of its names, which it puts there.
 func folderOf(answer *finding.Answer, from *finding.Folder, all *folding) *Folder {
-	folder := &Folder{ID: from.ID, Label: from.Label, Own: from.Own != "", isApart: answer.IsApart(from), Verdict: InStep, Names: from.Names, Deleted: from.Deleted, Going: from.Deleting, Bytes: from.Bytes,
-		Devices: []Member{}, Files: []*File{}, Groups: []*Group{}, Copies: append([]finding.Conflict{}, from.Conflicts...), LeftOut: []Names{}, Ignored: from.Outside, MoreOut: from.Unlisted.LeftOut, More: from.Unlisted.Conflicts}
+	folder := &Folder{Outlook: &outlook.Outlook{}, ID: from.ID, Label: from.Label, Own: from.Own != "", isApart: answer.IsApart(from), Verdict: InStep, Names: from.Names, Deleted: from.Deleted, Going: from.Deleting, Bytes: from.Bytes,
+		Devices: lists.Each(from.Members, memberOf), Files: []*File{}, Groups: []*Group{}, Copies: append([]finding.Conflict{}, from.Conflicts...), LeftOut: append([]*finding.LeftOut{}, from.LeftOut...), Ignored: from.Outside, MoreOut: from.Unlisted.LeftOut, More: from.Unlisted.Conflicts}
 	switch {
 	case from.HasFailures():
 		folder.Verdict = NotInStep
 	case answer.IsPart(from):
 		folder.Verdict = AsFar
 	}
-	for _, member := range from.Members {
-		folder.Devices = append(folder.Devices, memberOf(member))
-	}
 	if from.Outlook != nil {
-		told := *from.Outlook
-		folder.Outlook = &told
+		*folder.Outlook = *from.Outlook
 	}
 	foretell := foreteller(folder, all.named)
 	from.EachName(func(told *finding.Told) {
 		file := fileOf(from, told)
 		file.isOfSum, file.foretold = answer.IsSum, foretell(told.Name)
 		all.take(file)
-		if folder.Outlook != nil && len(file.withoutSteps()) > 0 {
+		if len(file.withoutSteps()) > 0 {
 			folder.Outlook.AddWithoutSteps(told.Name)
 		}
 	})
 	folder.Wrong, folder.modes = all.wrong, all.modes
 	all.to.noteWaiting(from)
-	for _, left := range from.LeftOut {
-		folder.LeftOut = append(folder.LeftOut, namesOf(from, left))
-	}
 	folder.Live = liveOf(from)
 	folder.Firm = from.HowFirm()
 	folder.Loose, folder.NotFirm = looseOf(from)
@@ -305,29 +281,11 @@ func folderOf(answer *finding.Answer, from *finding.Folder, all *folding) *Folde
 	if folder.Converging == finding.Converges {
 		folder.Pairs = from.Convergence.Pairs
 	}
-	folder.lacksOutlook = answer.IsSum && from.Outlook == nil && folder.Verdict == NotInStep
 	return folder
 }
 
 func devicesIn(folder *Folder) []string {
-	devices := []string{}
-	for _, member := range folder.Devices {
-		devices = append(devices, member.Device)
-	}
-	return devices
-}
-
-// namesOf gives what was left out.
-func namesOf(folder *finding.Folder, left *finding.LeftOut) Names {
-	names := Names{Name: Text(left.Name), Below: left.Below, Names: left.Names, Bytes: left.Bytes, Why: []WhyLeft{}}
-	for _, why := range left.Why {
-		device := ""
-		if why.Member >= 0 {
-			device = folder.Members[why.Member].Head.Device
-		}
-		names.Why = append(names.Why, WhyLeft{device, why.Kind, why.Why})
-	}
-	return names
+	return lists.Each(folder.Devices, func(member Member) string { return member.Device })
 }
 
 // askedOf gives, for each device, which names were read of it.

@@ -4,12 +4,12 @@ import (
 	"fmt"
 	"io"
 	"strconv"
-	"strings"
 	"time"
 
 	"golang.org/x/exp/slices"
 	"syncthing-audit/damage"
 	"syncthing-audit/finding"
+	"syncthing-audit/lists"
 	"syncthing-audit/print"
 	"syncthing-audit/shell"
 )
@@ -33,9 +33,6 @@ func (s *Summary) Print(to io.Writer, zone *time.Location, now time.Time) {
 		p.Outlook(shell.Folder(folder.ID, folder.Label), folder.Verdict != NotInStep, folder.Outlook)
 		if folder.Converging == finding.Converges {
 			p.Converging(shell.Folder(folder.ID, folder.Label), folder.Outlook, folder.Pairs)
-		}
-		if folder.lacksOutlook {
-			p.NoOutlook(shell.Folder(folder.ID, folder.Label))
 		}
 	}
 	p.entries(s)
@@ -209,17 +206,14 @@ const mostRanges = 8
 
 // differing says by their numbers which blocks differ.
 func differing(blocks *Blocks) string {
-	words := []string{}
 	told := int64(0)
-	for _, span := range print.AtMost(mostRanges, blocks.Ranges) {
+	text := print.Joined(lists.AtMost(mostRanges, blocks.Ranges), ", ", func(span [2]int64) string {
 		told += span[1] - span[0] + 1
 		if span[0] == span[1] {
-			words = append(words, strconv.FormatInt(span[0], 10))
-		} else {
-			words = append(words, fmt.Sprintf("%d-%d", span[0], span[1]))
+			return strconv.FormatInt(span[0], 10)
 		}
-	}
-	text := strings.Join(words, ", ")
+		return fmt.Sprintf("%d-%d", span[0], span[1])
+	})
 	if told < blocks.Count {
 		text += " and " + thousands(blocks.Count-told) + " more"
 	}
@@ -234,15 +228,13 @@ func (p *printer) modes(all []Mode) {
 	if len(all) == 0 {
 		return
 	}
-	words := []string{}
-	for _, mode := range all {
-		word := p.Called(mode.Device) + " " + mode.Index
+	p.Line("  permissions differ (they don't count for the verdict): %s", print.Joined(all, "; ", func(mode Mode) string {
+		told := p.Called(mode.Device) + " " + mode.Index
 		if mode.Disk != "" && mode.Disk != mode.Index {
-			word += " recorded, " + mode.Disk + " on the disk"
+			told += " recorded, " + mode.Disk + " on the disk"
 		}
-		words = append(words, word)
-	}
-	p.Line("  permissions differ (they don't count for the verdict): %s", strings.Join(words, "; "))
+		return told
+	}))
 }
 
 // foretold prints what becomes of a name if nobody does anything.

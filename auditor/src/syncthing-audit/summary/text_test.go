@@ -32,7 +32,7 @@ var textsForAPerson = []struct {
     block 2 differs (1 of 3 blocks of 128 KiB; the first is block 0)
     the first of them: SHA-256 abcd0000.. recorded, 12000000.. on the disk
   as recorded on: laptop
-  if nothing is done: it isn't known what happens: a program of 0.16.0 or before made the export.
+  if nothing is done: it isn't known what happens: nothing is foretold of it.
   to do: before Syncthing starts or scans on any of these devices, copy elsewhere what is to stay of
          what stands on laptop, server.
   to do: to have again what server recorded, copy it from laptop to server with its time alone, into
@@ -48,7 +48,7 @@ a  (in docs, 300.0 kB)
     block 2 differs (1 of 3 blocks of 128 KiB; the first is block 0)
     the first of them: SHA-256 abcd0000.. recorded, 12000000.. on the disk
   as recorded on: laptop
-  if nothing is done: it isn't known what happens: a program of 0.16.0 or before made the export.
+  if nothing is done: it isn't known what happens: nothing is foretold of it.
   to do: before Syncthing starts or scans on any of these devices, copy elsewhere what is to stay of
          what stands on laptop, server.
   to do: to have again what server recorded, copy it from laptop to server with its time alone, into
@@ -68,7 +68,7 @@ a  (in docs, 300.0 kB)
     the first of them: SHA-256 abcd0000.. recorded, 12000000.. on the disk
   the same other bytes on: phone, server
   as recorded on: laptop
-  if nothing is done: it isn't known what happens: a program of 0.16.0 or before made the export.
+  if nothing is done: it isn't known what happens: nothing is foretold of it.
   to do: before Syncthing starts or scans on any of these devices, copy elsewhere what is to stay of
          what stands on laptop, phone, server.
   to do: to have again what phone recorded, copy it from laptop to phone with its time alone, into
@@ -85,7 +85,7 @@ a  (in docs, 300.0 kB)
 link  (in docs)
   server: behind: doesn't have it yet
   as recorded on: laptop
-  if nothing is done: it isn't known what happens: a program of 0.16.0 or before made the export.
+  if nothing is done: it isn't known what happens: nothing is foretold of it.
   to do: before Syncthing starts or scans on any of these devices, copy elsewhere what is to stay of
          what stands on laptop.
 ` + lastLine},
@@ -97,7 +97,7 @@ link  (in docs)
 a  (in docs, 300.0 kB)
   server: behind: hasn't deleted it yet (since 2020-09-13 12:27:40 UTC)
   deleted on: laptop
-  if nothing is done: it isn't known what happens: a program of 0.16.0 or before made the export.
+  if nothing is done: it isn't known what happens: nothing is foretold of it.
   to do: before Syncthing starts or scans on any of these devices, copy elsewhere what is to stay of
          what stands on server.
 ` + lastLine},
@@ -109,7 +109,7 @@ first, on server: see that the disk of docs (Documents) is mounted before Syncth
 a  (in docs, 300.0 kB)
   server: missing on the disk
   as recorded on: laptop
-  if nothing is done: it isn't known what happens: a program of 0.16.0 or before made the export.
+  if nothing is done: it isn't known what happens: nothing is foretold of it.
   to do: before Syncthing starts or scans on any of these devices, copy elsewhere what is to stay of
          what stands on laptop.
   to do: to have again what server recorded, copy it from laptop to server as it is (cp -a, or rsync
@@ -123,7 +123,7 @@ a  (in docs, 300.0 kB)
 a  (in docs, 300.0 kB)
   server: in conflict: has one change of it, and lacks another
   as recorded on: laptop
-  if nothing is done: it isn't known what happens: a program of 0.16.0 or before made the export.
+  if nothing is done: it isn't known what happens: nothing is foretold of it.
   to do: before Syncthing starts or scans on any of these devices, copy elsewhere what is to stay of
          what stands on laptop, server.
 ` + lastLine},
@@ -135,7 +135,7 @@ a  (in docs, 300.0 kB)
 a  (in docs, 300.0 kB)
   server: behind: hasn't taken what is newest (modified 2020-09-13 12:26:40 UTC)
   as recorded on: laptop, phone
-  if nothing is done: it isn't known what happens: a program of 0.16.0 or before made the export.
+  if nothing is done: it isn't known what happens: nothing is foretold of it.
   to do: before Syncthing starts or scans on any of these devices, copy elsewhere what is to stay of
          what stands on laptop, server.
 ` + lastLine},
@@ -155,7 +155,7 @@ first, on server: do what the steps and the entries below say to do before Synct
   server: behind: doesn't have them yet
   the first: 'photo 0' 'photo 1' 'photo 2' 'photo 3' 'photo 4', and 2 more (--lines has all)
   as recorded on: laptop
-  if nothing is done: it isn't known what happens: a program of 0.16.0 or before made the export.
+  if nothing is done: it isn't known what happens: nothing is foretold of it.
   to do: before Syncthing starts or scans on any of these devices, copy elsewhere what is to stay of
          what stands on laptop.
 ` + lastLine},
@@ -165,7 +165,7 @@ first, on server: do what the steps and the entries below say to do before Synct
 	}, lineOfFolder + `
 added  (in docs, 300.0 kB)
   server: added on this receive-only device; no other has it (modified 2020-09-13 12:26:40 UTC)
-  if nothing is done: it isn't known what happens: a program of 0.16.0 or before made the export.
+  if nothing is done: it isn't known what happens: nothing is foretold of it.
   to do: before Syncthing starts or scans on any of these devices, copy elsewhere what is to stay of
          what stands on server.
 ` + lastLine},
@@ -174,7 +174,7 @@ added  (in docs, 300.0 kB)
 	}, lineOfFolder + `
 new  (in docs, 300.0 kB)
   laptop: on the disk, and no scan has seen it (modified 2020-09-13 12:27:40 UTC)
-  if nothing is done: it isn't known what happens: a program of 0.16.0 or before made the export.
+  if nothing is done: it isn't known what happens: nothing is foretold of it.
   to do: before Syncthing starts or scans on any of these devices, copy elsewhere what is to stay of
          what stands on laptop.
 ` + lastLine},
@@ -188,7 +188,7 @@ a  (in docs, 300.0 kB)
     the first of them: SHA-256 abcd0000.. recorded, 12000000.. on the disk
   permissions differ (they don't count for the verdict): laptop 0644; server 0644 recorded, 0600 on the disk
   as recorded on: laptop
-  if nothing is done: it isn't known what happens: a program of 0.16.0 or before made the export.
+  if nothing is done: it isn't known what happens: nothing is foretold of it.
   to do: before Syncthing starts or scans on any of these devices, copy elsewhere what is to stay of
          what stands on laptop, server.
   to do: to have again what server recorded, copy it from laptop to server with its time alone, into
@@ -217,7 +217,7 @@ a  (in docs)
          choose 'Ignore Permissions' for the folder.
 ` + lastLine},
 	{"what was left out, and which names weren't asked for", 2, func(folder *finding.Folder) {
-		folder.LeftOut = []*finding.LeftOut{{Name: "odd\xff", Names: 1, Bytes: 3000000, Why: []finding.Reason{{Member: 0, Kind: part.OddName, Why: "its name isn't UTF-8"}}}}
+		folder.LeftOut = []*finding.LeftOut{{Name: "odd\xff", Names: 1, Bytes: 3000000, Why: []finding.Reason{{Device: folder.Members[0].Head.Device, Kind: part.OddName, Why: "its name isn't UTF-8"}}}}
 		folder.Outside = finding.Count{Names: 4, Bytes: 7}
 		folder.Members[0].Head.Prefix = "a b"
 	}, `docs (Documents): in step and firm as far as audited; 1,204 names (4 deleted), 335.2 MB hashed on laptop, server
@@ -249,7 +249,7 @@ not compared: owners, extended attributes, old versions
 not compared: owners, extended attributes, old versions
 `},
 	{"more than is listed", 2, func(folder *finding.Folder) {
-		folder.LeftOut = []*finding.LeftOut{{Name: "a", Names: 1, Bytes: 1000, Why: []finding.Reason{{Member: 0, Kind: part.Unreadable, Why: "it can't be read"}}}}
+		folder.LeftOut = []*finding.LeftOut{{Name: "a", Names: 1, Bytes: 1000, Why: []finding.Reason{{Device: folder.Members[0].Head.Device, Kind: part.Unreadable, Why: "it can't be read"}}}}
 		folder.Unlisted.LeftOut = finding.Count{Names: 1234, Bytes: 3000000}
 		for next := 0; next <= mostOfList; next++ {
 			folder.Conflicts = append(folder.Conflicts, finding.Conflict{Name: "a", Bytes: 1})
@@ -265,13 +265,13 @@ left out of docs: 1,235 names, 3.0 MB
 not compared: owners, extended attributes, old versions
 `},
 	{"a directory that a device ignores, and a file that can't be read", 2, func(folder *finding.Folder) {
-		ignored := []finding.Reason{{Member: 0, Kind: part.Ignored, Why: "it knows that another device ignores it"},
-			{Member: 1, Kind: part.Ignored, Why: "it is ignored there by .stignore"}}
+		ignored := []finding.Reason{{Device: folder.Members[0].Head.Device, Kind: part.Ignored, Why: "it knows that another device ignores it"},
+			{Device: folder.Members[1].Head.Device, Kind: part.Ignored, Why: "it is ignored there by .stignore"}}
 		for next := 0; next < mostLeft+40; next++ {
 			folder.LeftOut = append(folder.LeftOut, &finding.LeftOut{Name: "a", Names: 1, Bytes: 1000, Why: ignored})
 		}
 		folder.LeftOut = append(folder.LeftOut, &finding.LeftOut{Name: "z", Names: 1, Bytes: 5, Why: []finding.Reason{
-			{Member: 0, Kind: part.Unreadable, Why: "it can't be read"}, {Member: 1, Kind: part.Unreadable, Why: "it can't be read"}}})
+			{Device: folder.Members[0].Head.Device, Kind: part.Unreadable, Why: "it can't be read"}, {Device: folder.Members[1].Head.Device, Kind: part.Unreadable, Why: "it can't be read"}}})
 	}, `docs (Documents): in step and firm as far as audited; 1,204 names (4 deleted), 335.2 MB hashed on laptop, server
 
 left out of docs: 46 names, 45.0 kB

@@ -1,8 +1,6 @@
 package summary
 
 import (
-	"strings"
-
 	"syncthing-audit/choice"
 	"syncthing-audit/print"
 	"syncthing-audit/shell"
@@ -53,18 +51,18 @@ func (s *Summary) ofAll(asked choice.Names) string {
 
 // notAsked prints which folders of the devices weren't audited, or that this isn't known.
 func (p *printer) notAsked(s *Summary) {
-	folders, words := print.Places{}, []string{}
+	folders := print.Places{}
 	for _, notAsked := range s.NotAsked {
 		folders.Add(shell.Folder(notAsked.Folder, notAsked.Label), notAsked.Device)
 	}
-	folders.Each(p.Called, func(folder, devices string) { words = append(words, folder+" on "+devices) })
-	count := counted(int64(len(words)), "folder", "folders")
+	count := counted(folders.Count(), "folder", "folders")
+	words := folders.Joined(p.Called, func(folder, devices string) string { return folder + " on " + devices })
 	switch {
-	case len(words) == 0:
+	case words == "":
 	case s.isByName:
-		p.Line("not asked for: %s: %s", count, strings.Join(words, "; "))
+		p.Line("not asked for: %s: %s", count, words)
 	default:
-		p.Line("not audited: %s that these devices share and no part has: %s", count, strings.Join(words, "; "))
+		p.Line("not audited: %s that these devices share and no part has: %s", count, words)
 		p.advice([]string{"make the parts without --folder, or with it for each of these folders; or name with --folder which ones to audit"})
 	}
 	p.notTold(s)

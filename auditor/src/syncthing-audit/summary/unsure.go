@@ -2,6 +2,7 @@ package summary
 
 import (
 	"syncthing-audit/finding"
+	"syncthing-audit/lists"
 	"syncthing-audit/print"
 	"syncthing-audit/shell"
 )
@@ -16,11 +17,9 @@ type Unsure struct {
 
 // unsureOf gives what may change a folder in step.
 func unsureOf(from *finding.Folder) []Unsure {
-	things := []Unsure{}
-	for _, unsure := range from.Unsure() {
-		things = append(things, Unsure{from.Members[unsure.Member].Head.Device, unsure.Kind, whyUnsure(unsure), unsure.Names})
-	}
-	return things
+	return lists.Each(from.Unsure(), func(unsure finding.Unsure) Unsure {
+		return Unsure{from.Members[unsure.Member].Head.Device, unsure.Kind, whyUnsure(unsure), unsure.Names}
+	})
 }
 
 // whyUnsure says in words what may change a folder.

@@ -15,7 +15,7 @@ import (
 // answerOverWire gives an answer on a folder of two devices in step, which were asked over the wire.
 func answerOverWire(isOfRecords bool) *finding.Answer {
 	folder := &finding.Folder{ID: "docs", Names: 5, Rows: map[string]*join.Row{}, Firmness: finding.Firmness{Asked: true}}
-	answer := &finding.Answer{Folders: []*finding.Folder{folder}, IsByName: true, HasRest: true}
+	answer := &finding.Answer{Folders: []*finding.Folder{folder}, IsByName: true}
 	for place := byte(1); place <= 2; place++ {
 		id := protocol.DeviceID{7: place}.String()
 		head := &part.Head{Device: id, Name: string('a' + rune(place) - 1), Wire: part.NewWire(protocol.DeviceID{7: 9}.String(), isOfRecords)}
