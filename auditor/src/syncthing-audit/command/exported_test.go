@@ -35,7 +35,7 @@ func TestWhatAnExportLeft(t *testing.T) {
 	}{
 		{"as it was", func(text string) string { return text }, exit.Done, ""},
 		{"nothing", func(string) string { return "" }, exit.Refused, "isn't what 'export' writes: EOF"},
-		{"no answer", func(string) string { return "{}\n" }, exit.Refused, "isn't what 'export' writes: it has no answer"},
+		{"no answer", func(string) string { return "{}\n" }, exit.Refused, "isn't what 'export' writes: a program of 0.17 or before made it"},
 		{"no JSON", func(text string) string { return text[1:] }, exit.Refused, "isn't what 'export' writes: "},
 		{"the first line alone", func(text string) string { return strings.SplitAfter(text, "\n")[0] }, exit.Refused, "unexpected EOF"},
 	} {
@@ -60,7 +60,7 @@ func TestWhatAnExportLeft(t *testing.T) {
 	}
 }
 
-// What was exported of one slice is summed up as far as that goes. 
+// What was exported of one slice is summed up as far as that goes.
 func TestAnExportOfASlice(t *testing.T) {
 	room := t.TempDir()
 	slice := aPartOf(t, choice.Names{Slice: 3, Slices: 7})

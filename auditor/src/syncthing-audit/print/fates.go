@@ -117,6 +117,5 @@ func WhyUnknown(o *outlook.Outlook, name *outlook.Name, called Names) string {
 	if place < 0 {
 		return "more names differ than are listed"
 	}
-	group := &o.Unknown[place]
-	return wordsOfUnknown[group.Why] + inBrackets(called.All(group.Devices)) + toKnow(group.Why)
+	return whyUnknown(&o.Unknown[place], called.All(o.Unknown[place].Devices))
 }

@@ -69,13 +69,13 @@ func TestWhatBecomesOfAName(t *testing.T) {
 // Why a name isn't known is told by its own reason or, of one that isn't listed, by the first one: with all devices of that, and what makes it known.
 func TestWhyANameIsNotKnown(t *testing.T) {
 	of := &outlook.Outlook{Unknown: []outlook.Group{{Why: "paused", Devices: at(2, 0)}, {Why: "budget"}, {Why: "damaged", Devices: at(1)}}}
-	paused := wordsOfUnknown["paused"] + " (laptop, phone); to know it, " + wordsOfKnowing["paused"]
+	paused := unknowns["paused"].why + " (laptop, phone); to know it, " + unknowns["paused"].toKnow
 	for _, row := range []struct {
 		name *outlook.Name
 		told string
 	}{
-		{nil, paused}, {&outlook.Name{Why: "paused"}, paused}, {&outlook.Name{Why: "budget"}, wordsOfUnknown["budget"]},
-		{&outlook.Name{Why: read.Why("damaged")}, wordsOfUnknown["damaged"] + " (server); to know it, " + wordsOfKnowing["damaged"]},
+		{nil, paused}, {&outlook.Name{Why: "paused"}, paused}, {&outlook.Name{Why: "budget"}, unknowns["budget"].why},
+		{&outlook.Name{Why: read.Why("damaged")}, unknowns["damaged"].why + " (server); to know it, " + unknowns["damaged"].toKnow},
 	} {
 		if told := WhyUnknown(of, row.name, strings.ToLower); told != row.told {
 			t.Errorf("%+v: %s, not %s", row.name, told, row.told)

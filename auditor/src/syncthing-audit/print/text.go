@@ -44,25 +44,24 @@ func (p *Person) When(at time.Time) string { return at.In(p.Zone).Format("2006-0
 
 // right tells of names of which nothing is lost, and that end alike everywhere.
 func (p *Person) right(o *outlook.Outlook) {
-	if o.Right > 0 {
-		p.Line("  %s right by %s, and %s nothing but what a recorded change replaced", Counted(o.Right, "name comes", "names come"),
-			oneOf(o.Right, "itself", "themselves"), oneOf(o.Right, "loses", "lose"))
+	if p.count(o.Right, "name comes right by itself, and loses", "names come right by themselves, and lose", "nothing but what a recorded change replaced") {
 		p.Line("    if not, see whether a device or the folder is paused, whether they are connected, whether a disk is full, and whether Syncthing's page lists 'Failed Items'")
 	}
-	if o.Deleted > 0 {
-		p.Line("  %s deleted on all devices, as is recorded", Counted(o.Deleted, "name is", "names are"))
+	p.count(o.Deleted, "name is", "names are", "deleted on all devices, as is recorded")
+	p.count(o.Changed, "name takes", "names take", "a change that no scan has seen yet; what it replaces is on no device then")
+}
+
+// count says of how many names something is so, if of any.
+func (p *Person) count(count int64, one, many, what string) bool {
+	if count > 0 {
+		p.Line("  %s %s", Counted(count, one, many), what)
 	}
-	if o.Changed > 0 {
-		p.Line("  %s a change that no scan has seen yet; what it replaces is on no device then", Counted(o.Changed, "name takes", "names take"))
-	}
+	return count > 0
 }
 
 // lost tells of names that lose something, the first ones by name.
 func (p *Person) lost(o *outlook.Outlook) {
-	if o.Lost == 0 {
-		return
-	}
-	p.Line("  %s something that stands on a disk now:", Counted(o.Lost, "name loses", "names lose"))
+	p.count(o.Lost, "name loses", "names lose", "something that stands on a disk now:")
 	p.named(o, outlook.Lost, o.Lost, func(name *outlook.Name) {
 		for _, thing := range name.Loses {
 			p.Line("    %s: %s; then on no device%s", shell.Path(string(name.Name)), p.where(thing), some(name))
@@ -123,10 +122,7 @@ func what(thing outlook.Thing) string {
 
 // several tells of names with several ends.
 func (p *Person) several(o *outlook.Outlook) {
-	if o.Depends == 0 {
-		return
-	}
-	p.Line("  %s to one of several ends, by the order of what happens; nothing is lost:", Counted(o.Depends, "name comes", "names come"))
+	p.count(o.Depends, "name comes", "names come", "to one of several ends, by the order of what happens; nothing is lost:")
 	p.named(o, outlook.Depends, o.Depends, func(name *outlook.Name) {
 		p.Line("    %s: %s", shell.Path(string(name.Name)), Counted(int64(len(name.Ends)), "end", "ends"))
 	})
@@ -134,10 +130,7 @@ func (p *Person) several(o *outlook.Outlook) {
 
 // stays tells of names that stay wrong, and why.
 func (p *Person) stays(o *outlook.Outlook) {
-	if o.Stays == 0 {
-		return
-	}
-	p.Line("  %s wrong:", Counted(o.Stays, "name stays", "names stay"))
+	p.count(o.Stays, "name stays", "names stay", "wrong:")
 	for _, why := range o.Kept {
 		p.Line("    %s on %s: %s", Counted(why.Names, "name", "names"), p.Called.AsTheyStand(why.Devices), wordsOfKept[forecast.Why(why.Why)])
 	}
@@ -166,61 +159,43 @@ func (p *Person) notKnown(o *outlook.Outlook) {
 		return
 	}
 	p.Line("  of %s it isn't known what becomes of %s:", Counted(o.NotKnown, "name", "names"), itOrThem(o.NotKnown))
-	for _, why := range o.Unknown {
-		p.Line("    %s: %s%s%s", Counted(why.Names, "name", "names"), wordsOfUnknown[why.Why], inBrackets(p.Called.AsTheyStand(why.Devices)), toKnow(why.Why))
+	for place := range o.Unknown {
+		why := &o.Unknown[place]
+		p.Line("    %s: %s", Counted(why.Names, "name", "names"), whyUnknown(why, p.Called.AsTheyStand(why.Devices)))
 	}
 }
 
-// toKnow says what makes known what becomes of a name.
-func toKnow(why string) string {
-	if told := wordsOfKnowing[why]; told != "" {
-		return "; to know it, " + told
+// whyUnknown says why it isn't known what becomes of names, on which devices, and what makes it known.
+func whyUnknown(of *outlook.Group, devices string) string {
+	told := unknowns[of.Why].why
+	if devices != "" {
+		told += " (" + devices + ")"
 	}
-	return ""
-}
-
-// wordsOfKnowing say what is to be done for it to be known. Of what is left out nobody can say that.
-var wordsOfKnowing = map[string]string{
-	"device-left-out":  "audit that device, too",
-	"not-linked":       "audit those who share the folder with both",
-	"over-the-wire":    "make a part on the device",
-	"options-not-told": "make the part anew with this version",
-	"paused":           "resume it, let it finish, and audit again",
-	"another-index":    "start Syncthing on these devices once what no scan has seen is saved, let them finish, and audit again",
-	"names-not-asked":  "audit the whole folder",
-	"left-out":         "audit without leaving it out",
-	"in-motion":        "audit again once it is at rest",
-	"damaged":          "see what the disk still gives, and audit again",
-	"too-many":         "audit some of the names alone (--names), or mend the first ones and audit again",
-}
-
-// wordsOfUnknown say why it isn't known what becomes of a name.
-var wordsOfUnknown = map[string]string{
-	"device-left-out":  "the folder is shared with a device that isn't audited",
-	"not-linked":       "no way leads from one device to all others by those who share the folder with one another",
-	"over-the-wire":    "a device was seen over the wire, which doesn't show the times, modes and directories of its disk",
-	"untried-version":  "this version of Syncthing wasn't compared with the forecast",
-	"options-not-told": "the part doesn't say which options the folder has; make it anew with this version, or with --config where disks were walked",
-	"paused":           "the folder or a device is paused",
-	"attributes":       "owners or extended attributes are scanned, which the forecast leaves out",
-	"writers":          "something else of Syncthing writes into the directory",
-	"another-index":    "another index is known elsewhere, or the index is to be repaired",
-	"names-not-asked":  "not all names of the folder were asked for",
-	"left-out":         "something of the name or of a directory above isn't audited",
-	"in-motion":        "it changed while it was looked at, or between two parts, or waits for a scan",
-	"damaged":          "a disk fails to give what it has",
-	"never-told":       "a device may never tell a change of it",
-	"conflict-copies":  "it may come to have more conflict copies than are kept",
-	"same-bytes":       "a device may take its bytes from another name that has the same",
-	"too-many":         "more names differ than are looked at",
-	"budget":           "there are too many orders to try",
-	"no-end":           "in some orders that were tried it came to no end",
-}
-
-// inBrackets puts the names of devices behind a reason, if there are any.
-func inBrackets(devices string) string {
-	if devices == "" {
-		return ""
+	if toKnow := unknowns[of.Why].toKnow; toKnow != "" {
+		told += "; to know it, " + toKnow
 	}
-	return " (" + devices + ")"
+	return told
+}
+
+// unknowns say why it isn't known what becomes of a name, and what is to be done for it to be known. Of what is left out nobody can say that.
+var unknowns = map[string]struct{ why, toKnow string }{
+	"device-left-out":  {"the folder is shared with a device that isn't audited", "audit that device, too"},
+	"not-linked":       {"no way leads from one device to all others by those who share the folder with one another", "audit those who share the folder with both"},
+	"over-the-wire":    {"a device was seen over the wire, which doesn't show the times, modes and directories of its disk", "make a part on the device"},
+	"untried-version":  {"this version of Syncthing wasn't compared with the forecast", ""},
+	"options-not-told": {"the part doesn't say which options the folder has; make it anew with this version, or with --config where disks were walked", "make the part anew with this version"},
+	"paused":           {"the folder or a device is paused", "resume it, let it finish, and audit again"},
+	"attributes":       {"owners or extended attributes are scanned, which the forecast leaves out", ""},
+	"writers":          {"something else of Syncthing writes into the directory", ""},
+	"another-index":    {"another index is known elsewhere, or the index is to be repaired", "start Syncthing on these devices once what no scan has seen is saved, let them finish, and audit again"},
+	"names-not-asked":  {"not all names of the folder were asked for", "audit the whole folder"},
+	"left-out":         {"something of the name or of a directory above isn't audited", "audit without leaving it out"},
+	"in-motion":        {"it changed while it was looked at, or between two parts, or waits for a scan", "audit again once it is at rest"},
+	"damaged":          {"a disk fails to give what it has", "see what the disk still gives, and audit again"},
+	"never-told":       {"a device may never tell a change of it", ""},
+	"conflict-copies":  {"it may come to have more conflict copies than are kept", ""},
+	"same-bytes":       {"a device may take its bytes from another name that has the same", ""},
+	"too-many":         {"more names differ than are looked at", "audit some of the names alone (--names), or mend the first ones and audit again"},
+	"budget":           {"there are too many orders to try", ""},
+	"no-end":           {"in some orders that were tried it came to no end", ""},
 }

@@ -206,11 +206,11 @@ func TestAllReasonsHaveWords(t *testing.T) {
 		}
 	}
 	for _, why := range read.AllWhys {
-		if wordsOfUnknown[string(why)] == "" {
+		if unknowns[string(why)].why == "" {
 			t.Errorf("%s has no words", why)
 		}
 	}
-	if len(read.AllWhys) != len(wordsOfUnknown) || len(forecast.AllWhys) != len(wordsOfKept) {
+	if len(read.AllWhys) != len(unknowns) || len(forecast.AllWhys) != len(wordsOfKept) {
 		t.Error("there are words for what is no reason")
 	}
 }

@@ -82,7 +82,7 @@ func (f *File) toSave(named print.Names) []string {
 		on = append(on, named.Rising(f.Have)[0])
 	}
 	for _, fault := range f.Faults {
-		isHolding := !fault.isOfDisk() && fault.Recorded != nil && !fault.Recorded.Deleted && !f.hasAt(fault.Device, Missing)
+		isHolding := !kinds[fault.Cause].isOfDisk && fault.Recorded != nil && !fault.Recorded.Deleted && !f.hasAt(fault.Device, Missing)
 		if fault.Found != nil || fault.Cause == Differs || fault.Cause == Damaged || isHolding {
 			on = print.AddOnce(on, fault.Device)
 		}
@@ -130,15 +130,6 @@ func (f *File) withoutCopy(named print.Names) []string {
 		told += ", the most on " + named(most.Device)
 	}
 	return []string{told}
-}
-
-// isOfDisk says whether what stands on the disk isn't as recorded.
-func (f *Fault) isOfDisk() bool {
-	switch f.Cause {
-	case OtherBytes, Changed, Missing, Back, OtherTime, NotScanned, Damaged, Differs:
-		return true
-	}
-	return false
 }
 
 // adviceOfFault says what a fault asks for by itself.

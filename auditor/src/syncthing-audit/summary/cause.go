@@ -6,6 +6,7 @@ import (
 	"github.com/syncthing/syncthing/lib/protocol"
 	"golang.org/x/exp/slices"
 	"syncthing-audit/damage"
+	"syncthing-audit/lists"
 	"syncthing-audit/part"
 )
 
@@ -31,6 +32,30 @@ const (
 	Damaged       Cause = "damaged"         // the disk itself fails to give what it has
 	Differs       Cause = "differs"         // details weren't kept
 )
+
+// kinds say of each cause how a person reads it, and what is so of all such faults.
+var kinds = map[Cause]struct {
+	words    string
+	isOfDisk bool // what stands on the disk isn't as recorded
+	isDated  bool // a file on the disk tells the time
+	canFold  bool // it asks for the same everywhere. What else is wrong is to be looked at file by file
+}{
+	OtherBytes:    {words: "other bytes on the disk; size and time are as recorded", isOfDisk: true},
+	Changed:       {words: "changed on the disk since the last scan", isOfDisk: true, isDated: true},
+	Missing:       {words: "missing on the disk", isOfDisk: true, canFold: true},
+	Back:          {words: "on the disk, though it is deleted", isOfDisk: true, isDated: true},
+	Behind:        {words: "behind: hasn't taken what is newest", canFold: true},
+	Conflicting:   {words: "in conflict: has one change of it, and lacks another"},
+	OtherBlocks:   {words: "the same bytes, recorded in blocks of another size", canFold: true},
+	LocalChange:   {words: "changed on this receive-only device"},
+	LocalAddition: {words: "added on this receive-only device; no other has it", isDated: true},
+	NotScanned:    {words: "on the disk, and no scan has seen it", isOfDisk: true, isDated: true, canFold: true},
+	OnlySeen:      {words: "known from another device, which doesn't have it"},
+	OtherTime:     {words: "the recorded bytes with another time than recorded", isOfDisk: true, isDated: true, canFold: true},
+	NewerKnown:    {words: "knows of another version that it could still take", canFold: true},
+	Damaged:       {words: "the disk fails to give what it has; it may be lost there", isOfDisk: true, canFold: true},
+	Differs:       {words: "differs; details weren't kept", isOfDisk: true, canFold: true},
+}
 
 // Fault is what is wrong on a device.
 type Fault struct {
@@ -174,7 +199,7 @@ func isCutOtherwise(at *part.Name, winner *part.Record) bool {
 }
 
 // has says whether this is so of some fault.
-func (f *File) has(is func(fault *Fault) bool) bool { return slices.IndexFunc(f.Faults, is) >= 0 }
+func (f *File) has(is func(fault *Fault) bool) bool { return lists.Has(f.Faults, is) }
 
 // hasAt says whether a device has a fault of one of these causes; of any cause without them.
 func (f *File) hasAt(device string, causes ...Cause) bool {

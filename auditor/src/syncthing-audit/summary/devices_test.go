@@ -96,7 +96,7 @@ func TestTimesThatAreNear(t *testing.T) {
 		folder.Members[0].About.TimeWindow = 2
 		folder.Members[1].About.TimeWindow, folder.Members[1].Near = 2, 3
 	})
-	const told = "times taken for the same: 3 files of docs (Documents) on server: the time on the disk isn't the recorded one, by less than 2 seconds. No scan there sees that"
+	const told = "times taken for the same: in docs (Documents) 3 files, by less than 2 seconds, on server: the time on the disk isn't the recorded one, and no scan there sees that"
 	if text := printed(answer); !strings.Contains(text, told) || strings.Count(text, "times taken") != 1 {
 		t.Error(text)
 	}

@@ -33,17 +33,11 @@ type Group struct {
 	isFolded bool    // whether programs are told of them as one, too
 }
 
-// canFold are the causes that ask for the same everywhere. What else is wrong is to be looked at file by file.
-var canFold = map[Cause]bool{Behind: true, Missing: true, NotScanned: true, OtherTime: true, NewerKnown: true, OtherBlocks: true, Damaged: true, Differs: true}
-
 // canBeTold says whether a name may be told with others: where all that is wrong with it asks for the same everywhere.
 func (f *File) canBeTold() bool {
-	for _, fault := range f.Faults {
-		if fault.Cause != f.Faults[0].Cause || !canFold[fault.Cause] || fault.isTied || len(f.Permissions) > 0 {
-			return false
-		}
-	}
-	return true
+	return !f.has(func(fault *Fault) bool {
+		return fault.Cause != f.Faults[0].Cause || !kinds[fault.Cause].canFold || fault.isTied || len(f.Permissions) > 0
+	})
 }
 
 // keyOf is the same for all names of which the very same is told, their advice too. So whatever advice comes to depend on, an entry of many says of each of

@@ -20,13 +20,11 @@ func (p *printer) rest(s *Summary) {
 		p.unsure(folder)
 		p.copies(folder)
 		p.leftOut(folder)
-		p.temporary(folder)
 		if len(folder.Devices) < 2 && !folder.Own {
 			p.Line("alone: %s is audited on one device, so there is nothing to compare it with", folder.ID)
 		}
 	}
 	p.members(s)
-	p.nearTimes(s)
 	for _, left := range s.LeftOut {
 		p.Line("left out: %s: %s", left.called(), left.Why)
 	}
@@ -71,24 +69,28 @@ func (p *printer) ofMembers(s *Summary, format string, tell func(folder *Folder,
 
 // folderIf names a folder of which something is so.
 func folderIf(is bool, folder *Folder, more string) []string {
-	return textIf(is, shell.Folder(folder.ID, folder.Label)+more)
-}
-
-func textIf(is bool, text string) []string {
 	if !is {
 		return nil
 	}
-	return []string{text}
+	return []string{shell.Folder(folder.ID, folder.Label) + more}
 }
 
-// members prints which folders are shared with nobody: no other device was asked about these. It prints which folders and devices are paused where, what
-// Syncthing says there, and where Syncthing itself writes into a folder's directory, so that a scan finds changes that nobody made.
+// members prints what is so of folders on devices: how many names Syncthing takes for its temporary files, some of which may be a user's own. Which folders are
+// shared with nobody: no other device was asked about these. Which folders and devices are paused where, what Syncthing says there, and where Syncthing itself
+// writes into a folder's directory, so that a scan finds changes that nobody made. And of how many files it takes another time for the recorded one.
 func (p *printer) members(s *Summary) {
+	p.ofMembers(s, "outside %s on %s, which Syncthing takes for its temporary files ('.syncthing.*', '~syncthing~*'): it never sends such names, "+
+		"and its scans delete such files once they are a day old, or as 'keepTemporariesH' says", func(folder *Folder, member *Member) []string {
+		if member.Temporary == nil {
+			return nil
+		}
+		return []string{folder.ID + ": " + counted(member.Temporary.Names, "name", "names") + ", " + size(member.Temporary.Bytes)}
+	})
 	p.ofMembers(s, "shared with no device: %s on %s: what stands on the disk was compared with the device's own index alone",
 		func(folder *Folder, _ *Member) []string { return folderIf(folder.Own && !folder.isApart, folder, "") })
 	p.ofMembers(s, "not shared with one another: %s on %s: each has a folder of this id, and shares it with no device. What stands on its disk was "+
 		"compared with its own index alone, and not with what the others have",
-		func(folder *Folder, _ *Member) []string { return textIf(folder.isApart, folder.ID) })
+		func(folder *Folder, _ *Member) []string { return folderIf(folder.isApart, folder, "") })
 	p.ofMembers(s, "paused: folder %s on %s", func(folder *Folder, member *Member) []string { return folderIf(member.Paused, folder, "") })
 	p.ofMembers(s, "paused: device %s on %s", func(_ *Folder, member *Member) []string { return p.Called.Each(member.PausedDevices) })
 	p.stopped(s)
@@ -96,6 +98,10 @@ func (p *printer) members(s *Summary) {
 	p.ofMembers(s, "written by others: %s on %s: Syncthing writes and deletes in its directory for these, too. So it may not stay in step, nor firm",
 		func(folder *Folder, member *Member) []string {
 			return folderIf(len(member.Writers) > 0, folder, " by "+strings.Join(member.Writers, ", "))
+		})
+	p.ofMembers(s, "times taken for the same: in %s on %s: the time on the disk isn't the recorded one, and no scan there sees that (modTimeWindowS)",
+		func(folder *Folder, member *Member) []string {
+			return folderIf(member.Near > 0, folder, " "+counted(member.Near, "file", "files")+", by less than "+counted(member.Window, "second", "seconds")+",")
 		})
 }
 
@@ -110,17 +116,6 @@ func (p *printer) ofDevices(s *Summary, format string, tell func(device *Device)
 	if len(told) > 0 {
 		p.Line(format, append([]interface{}{strings.Join(told, ", ")}, more...)...)
 	}
-}
-
-// nearTimes prints of how many files the time isn't as recorded, and Syncthing takes it for the same: no scan finds them changed.
-func (p *printer) nearTimes(s *Summary) {
-	s.eachMember(func(folder *Folder, member *Member) {
-		if member.Near > 0 {
-			p.Line("times taken for the same: %s of %s on %s: the time on the disk isn't the recorded one, by less than %s. No scan there sees that "+
-				"(modTimeWindowS)", counted(member.Near, "file", "files"), shell.Folder(folder.ID, folder.Label), p.Called(member.Device),
-				counted(member.Window, "second", "seconds"))
-		}
-	})
 }
 
 // mostAge is how long ago a device may have been read without that being told.
@@ -215,17 +210,6 @@ func (p *printer) leftOut(folder *Folder) {
 	}
 }
 
-// temporary prints how many names Syncthing takes for its temporary files. Some may be a user's own.
-func (p *printer) temporary(folder *Folder) {
-	for _, member := range folder.Devices {
-		if member.Temporary != nil {
-			p.Line("outside %s: %s, %s on %s, which Syncthing takes for its temporary files ('.syncthing.*', '~syncthing~*'): it never sends such names, "+
-				"and its scans delete such files once they are a day old, or as 'keepTemporariesH' says", folder.ID,
-				counted(member.Temporary.Names, "name", "names"), size(member.Temporary.Bytes), p.Called(member.Device))
-		}
-	}
-}
-
 // mostLeft is how many names that were left out for the same on the same devices are told one by one.
 const mostLeft = 5
 
@@ -285,27 +269,16 @@ func (p *printer) left(names *finding.LeftOut) {
 
 // unsigned tells whose parts anybody may have made who could write them.
 func (p *printer) unsigned(s *Summary) {
-	count := int64(0)
-	for _, device := range s.Devices {
-		if device.IsUnsigned {
-			count++
-		}
-	}
-	p.ofDevices(s, "not signed: "+counted(count, "part", "parts")+" of %s. No signature was checked, so whoever could write a part may have said this for its device (--allowed-signers FILE checks)",
+	unsigned := lists.Where(s.Devices, func(device Device) bool { return device.IsUnsigned })
+	p.ofDevices(s, "not signed: "+counted(int64(len(unsigned)), "part", "parts")+" of %s. No signature was checked, so whoever could write a part may have said this for its device (--allowed-signers FILE checks)",
 		func(device *Device) (string, bool) { return "", device.IsUnsigned })
 }
 
 // stopped prints on which devices, of those that were looked at twice, no Syncthing ran.
 func (p *printer) stopped(s *Summary) {
-	told := map[string][]string{}
-	s.eachMember(func(folder *Folder, member *Member) {
-		if member.Rest == part.RestStopped {
-			told[member.Device] = print.AddOnce(told[member.Device], folder.ID)
-		}
+	p.ofDevices(s, "not running: Syncthing on %s", func(device *Device) (string, bool) {
+		isStopped := func(member Member) bool { return member.Device == device.ID && member.Rest == part.RestStopped }
+		folders := lists.Where(s.Folders, func(folder *Folder) bool { return lists.Has(folder.Devices, isStopped) })
+		return " (" + print.Joined(folders, ", ", func(folder *Folder) string { return folder.ID }) + ")", len(folders) > 0
 	})
-	for _, device := range s.Devices {
-		if len(told[device.ID]) > 0 {
-			p.Line("not running: Syncthing on %s (%s)", p.Called(device.ID), strings.Join(told[device.ID], ", "))
-		}
-	}
 }

@@ -6,7 +6,6 @@ import (
 	"strconv"
 	"time"
 
-	"golang.org/x/exp/slices"
 	"syncthing-audit/damage"
 	"syncthing-audit/finding"
 	"syncthing-audit/lists"
@@ -82,25 +81,6 @@ func (p *printer) folder(folder *Folder) {
 	p.Line("%s: %s; %s (%s), %s hashed on %s%s", shell.Folder(folder.ID, folder.Label), verdict, names, deleted, size(folder.Bytes), p.Called.All(devicesIn(folder)), moving)
 }
 
-// wordsOf say what is wrong.
-var wordsOf = map[Cause]string{
-	OtherBytes:    "other bytes on the disk; size and time are as recorded",
-	Changed:       "changed on the disk since the last scan",
-	Missing:       "missing on the disk",
-	Back:          "on the disk, though it is deleted",
-	Behind:        "behind: hasn't taken what is newest",
-	Conflicting:   "in conflict: has one change of it, and lacks another",
-	OtherBlocks:   "the same bytes, recorded in blocks of another size",
-	LocalChange:   "changed on this receive-only device",
-	LocalAddition: "added on this receive-only device; no other has it",
-	NotScanned:    "on the disk, and no scan has seen it",
-	OnlySeen:      "known from another device, which doesn't have it",
-	OtherTime:     "the recorded bytes with another time than recorded",
-	NewerKnown:    "knows of another version that it could still take",
-	Damaged:       "the disk fails to give what it has; it may be lost there",
-	Differs:       "differs; details weren't kept",
-}
-
 // wordsOfFaults say what is wrong with a name on a device, or with several names whose faults are alike.
 func wordsOfFaults(faults []*Fault, isMany bool) string {
 	fault, it := faults[0], "it"
@@ -129,9 +109,9 @@ func wordsOfFaults(faults []*Fault, isMany bool) string {
 	case fault.Cause == Changed && fault.isFileForFile():
 		return wordsOfChanged(faults)
 	case fault.Cause == OtherBytes:
-		return wordsOf[OtherBytes] + fault.ofDamage()
+		return kinds[OtherBytes].words + fault.ofDamage()
 	}
-	return wordsOf[fault.Cause]
+	return kinds[fault.Cause].words
 }
 
 // wordsOfDamage say why what stands on a disk looks like damage.
@@ -150,7 +130,7 @@ func wordsOfChanged(faults []*Fault) string {
 	for _, fault := range faults {
 		recorded, found = recorded+fault.Recorded.Size, found+fault.Found.Size
 	}
-	words := wordsOf[Changed]
+	words := kinds[Changed].words
 	why := faults[0].Damage
 	if why != damage.None && !why.MayBeOfRecord() {
 		words = "looks damaged"
@@ -192,14 +172,11 @@ func (f *Fault) dated() (string, *State) {
 		return "since ", f.Due
 	case f.Cause == Behind:
 		return "modified ", f.Due
-	case f.Found != nil && f.Found.Type == "file" && slices.Contains(datedByDisk, f.Cause):
+	case f.Found != nil && f.Found.Type == "file" && kinds[f.Cause].isDated:
 		return "modified ", f.Found
 	}
 	return "", nil
 }
-
-// datedByDisk are the causes of which a file on the disk tells the time.
-var datedByDisk = []Cause{Changed, NotScanned, OtherTime, Back, LocalAddition}
 
 // mostRanges is how many ranges of blocks a person reads of; how many blocks more differ is said behind them.
 const mostRanges = 8

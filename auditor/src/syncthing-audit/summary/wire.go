@@ -3,17 +3,17 @@ package summary
 import (
 	"strings"
 
-	"golang.org/x/exp/slices"
 	"syncthing-audit/damage"
 	"syncthing-audit/finding"
 	"syncthing-audit/join"
+	"syncthing-audit/lists"
 	"syncthing-audit/print"
 	"syncthing-audit/shell"
 )
 
 // isOverWire says whether some device of a folder was asked over the wire.
 func (f *Folder) isOverWire() bool {
-	return slices.IndexFunc(f.Devices, func(member Member) bool { return member.OverWire != nil && !member.OverWire.hasDisks }) >= 0
+	return lists.Has(f.Devices, func(member Member) bool { return member.OverWire != nil && !member.OverWire.hasDisks })
 }
 
 // OverWire is what isn't seen of a device that was asked over the wire.
