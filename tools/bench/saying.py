@@ -12,6 +12,8 @@ SOURCES = "auditor/src/syncthing-audit"
 # The revision before the model came, and where its sources stood. A shallow clone doesn't have it: then the number is the one that was counted.
 BEFORE, SOURCES_THEN, COUNTED_THEN = "e70e441a^", "export/src/syncthing-audit", {"choice": 164, "summary": 4915}
 PACKAGES = ("summary", "outlook", "print", "advice", "choice", "lists")
+# Files of other packages that have what these had.
+MOVED = ("finding/state.go",)
 # What the answers of then didn't say, and what says it.
 NEW = {
     "what becomes of each name, and the numbered steps": ("outlook/", "advice/", "print/choices.go", "print/converging.go", "print/fates.go", "print/plans.go",
@@ -25,8 +27,8 @@ NEW = {
 
 def lines_now():
     """The lines of each file."""
-    return {str(path.relative_to(TOP / SOURCES)): len(path.read_text().splitlines())
-            for package in PACKAGES for path in sorted((TOP / SOURCES / package).glob("*.go")) if not path.name.endswith("_test.go")}
+    paths = [path for package in PACKAGES for path in sorted((TOP / SOURCES / package).glob("*.go")) if not path.name.endswith("_test.go")]
+    return {str(path.relative_to(TOP / SOURCES)): len(path.read_text().splitlines()) for path in paths + [TOP / SOURCES / path for path in MOVED]}
 
 
 def lines_then(revision):
@@ -44,8 +46,8 @@ def lines_then(revision):
 
 def main():
     now, then = lines_now(), lines_then(sys.argv[1] if len(sys.argv) > 1 else BEFORE)
-    for package in PACKAGES:
-        print(f"{package}: {then.get(package, 0)} lines then, {sum(lines for path, lines in now.items() if path.startswith(package + '/'))} now")
+    for package in PACKAGES + MOVED:
+        print(f"{package}: {then.get(package, 0)} lines then, {sum(lines for path, lines in now.items() if (path + '/').startswith(package + '/'))} now")
     before, whole, new = sum(then.values()), sum(now.values()), 0
     for what, where in NEW.items():
         lines = sum(count for path, count in now.items() if path.startswith(where))

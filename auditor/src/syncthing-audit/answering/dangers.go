@@ -32,7 +32,7 @@ func dangersOf(answer *finding.Answer, told *summary.Summary) *report.Dangers {
 			continue
 		}
 		for _, moving := range folder.Live.Names {
-			for _, at := range moving.Devices {
+			for _, at := range moving.At {
 				if at.Waits != "" && at.Waits != finding.WaitsNew {
 					dangers.Disks = append(dangers.Disks, diskOf(folder.ID, string(moving.Name), numbers[at.Device], at.Waits, at.Recorded, at.Found))
 				}

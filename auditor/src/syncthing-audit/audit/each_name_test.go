@@ -8,6 +8,7 @@ import (
 	"testing"
 
 	"github.com/syncthing/syncthing/lib/protocol"
+	"golang.org/x/exp/slices"
 	"syncthing-audit/document"
 	"syncthing-audit/finding"
 	"syncthing-audit/join"
@@ -142,7 +143,7 @@ func digest(answer *finding.Answer, names int) string {
 	if folder.Live != nil {
 		for _, one := range folder.Live.Names {
 			for _, at := range one.At {
-				add("moves %d %q from %v", at.Member, at.Waits, at.Have)
+				add("moves %d %q from %v", placesOf(folder, at.Device)[0], at.Waits, placesOf(folder, at.Have...))
 			}
 		}
 	}
@@ -151,6 +152,15 @@ func digest(answer *finding.Answer, names int) string {
 	}
 	sortWords(told)
 	return strings.Join(told, "; ")
+}
+
+// placesOf gives the places of devices in a folder.
+func placesOf(folder *finding.Folder, devices ...string) []int {
+	places := []int{}
+	for _, device := range devices {
+		places = append(places, slices.IndexFunc(folder.Members, func(member join.Member) bool { return member.Head.Device == device }))
+	}
+	return places
 }
 
 func sortWords(words []string) {

@@ -14,7 +14,7 @@ const overListed = 3
 // namesOf gives what goes through a folder of two devices, strictly, with these kinds left out.
 func namesOf(leaveOut ...string) *names {
 	options := Options{Consent: Of(leaveOut...)}
-	members := []join.Member{{Device: &join.Device{Head: &part.Head{}}, About: &part.Folder{}}, {Device: &join.Device{Head: &part.Head{}}, About: &part.Folder{}}}
+	members := []join.Member{{Device: &join.Device{Head: &part.Head{Device: "A"}}, About: &part.Folder{}}, {Device: &join.Device{Head: &part.Head{Device: "B"}}, About: &part.Folder{}}}
 	return &names{collector: &collector{options: options, answer: &finding.Answer{}}, found: &finding.Folder{Members: members, Rows: map[string]*join.Row{}}}
 }
 

@@ -17,12 +17,11 @@ func liveOf(folder *join.Folder) *finding.Live {
 	if !folder.IsLive() && folder.IsOfOneMoment() {
 		return nil
 	}
+	live := finding.NewLive()
 	if !folder.IsLive() {
-		return &finding.Live{OfParts: true}
-	}
-	live := &finding.Live{}
-	if spent, err := folder.Still(); err == nil {
-		live.Seconds, live.Timed = spent.Seconds(), true
+		live.OfParts = true
+	} else if spent, err := folder.Still(); err == nil {
+		live.SetStill(spent)
 	}
 	return live
 }
@@ -32,13 +31,15 @@ func (n *names) addMoving(row *join.Row) {
 	moving := finding.Moving{Name: part.Bytes(row.Name)}
 	for member, name := range row.At {
 		if name != nil && len(name.Moved) > 0 {
-			moving.At = append(moving.At, movedOf(row, member))
+			moving.At = append(moving.At, n.movedOf(row, member))
 		} else if slices.Contains(row.Later, member) {
-			moving.At = append(moving.At, finding.Moved{Member: member, Why: []string{part.MovedLater}})
+			moving.At = append(moving.At, finding.Moved{Device: n.idOf(member), Why: []string{part.MovedLater}})
 		}
 	}
 	n.found.Live.AddMoving(moving)
 }
+
+func (n *names) idOf(member int) string { return n.found.Members[member].Head.Device }
 
 // addUnheard counts a still name whose record a device hadn't heard of from another one.
 func (n *names) addUnheard(row *join.Row) {
@@ -48,7 +49,7 @@ func (n *names) addUnheard(row *join.Row) {
 	for knower := range row.At {
 		for of := range row.At {
 			if n.folder.IsUnheard(row, knower, of) {
-				n.found.Live.AddUnheard(knower, of)
+				n.found.Live.AddUnheard(n.idOf(knower), n.idOf(of))
 			}
 		}
 	}
@@ -83,8 +84,8 @@ func kindsOf(waits *finding.Waiting) string {
 // sourcesOf says which other devices have what is recorded.
 func sourcesOf(waits *finding.Waiting, folder *finding.Folder) string {
 	words := []string{}
-	for place, member := range folder.Members {
-		if count := waits.From[place]; count > 0 {
+	for _, member := range folder.Members {
+		if count := waits.From[member.Head.Device]; count > 0 {
 			words = append(words, fmt.Sprintf("%d on %s", count, member.Called()))
 		}
 	}

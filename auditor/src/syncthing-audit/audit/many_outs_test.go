@@ -19,7 +19,7 @@ func TestManyReasonsForOneName(t *testing.T) {
 	}
 	one.Out = append(one.Out, one.Out...)
 	began := time.Now()
-	made := namesOfTwo().reasonsOf(&join.Row{Name: "a", At: []*part.Name{one, nil}})
+	made := namesOf().reasonsOf(&join.Row{Name: "a", At: []*part.Name{one, nil}})
 	if spent := time.Since(began); len(made) != many || spent > 30*time.Second {
 		t.Errorf("%d reasons in %v", len(made), spent)
 	}

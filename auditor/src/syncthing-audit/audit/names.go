@@ -167,7 +167,7 @@ func (n *names) reasonsOf(row *join.Row) []finding.Reason {
 	seen := map[finding.Reason]bool{}
 	for member, name := range row.At {
 		for _, out := range outsOf(name) {
-			if next := (finding.Reason{Device: n.found.Members[member].Head.Device, Kind: out.Kind, Why: out.Why}); !seen[next] {
+			if next := (finding.Reason{Device: n.idOf(member), Kind: out.Kind, Why: out.Why}); !seen[next] {
 				seen[next] = true
 				reasons = append(reasons, next)
 			}

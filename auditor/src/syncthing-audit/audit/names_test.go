@@ -87,17 +87,11 @@ func TestOutside(t *testing.T) {
 	}
 }
 
-// namesOfTwo goes through the names of a folder of two devices.
-func namesOfTwo() *names {
-	member := func(id string) join.Member { return join.Member{Device: &join.Device{Head: &part.Head{Device: id}}} }
-	return &names{found: &finding.Folder{Members: []join.Member{member("A"), member("B")}}}
-}
-
 // What a device's record and its disk both say is one reason.
 func TestReasonsOnce(t *testing.T) {
 	ignored, odd := part.LeftOut{Kind: part.Ignored, Why: "ignored"}, part.LeftOut{Kind: part.Special, Why: "a pipe"}
 	twice := &part.Name{Out: []part.LeftOut{ignored, odd, ignored}}
-	if reasons := namesOfTwo().reasonsOf(rowOf(twice, twice)); len(reasons) != 4 || reasons[0].Device != "A" || reasons[3].Device != "B" {
+	if reasons := namesOf().reasonsOf(rowOf(twice, twice)); len(reasons) != 4 || reasons[0].Device != "A" || reasons[3].Device != "B" {
 		t.Errorf("%v", reasons)
 	}
 }

@@ -139,7 +139,7 @@ func TestWhatIsNotHeardOf(t *testing.T) {
 		t.Fatal(err)
 	}
 	folder := answer.Folders[0]
-	if !reflect.DeepEqual(folder.Live.Unheard, []finding.Unheard{{Member: 0, Of: 1, Names: 1}, {Member: 1, Of: 0, Names: 1}}) || folder.Rows["b"] == nil || folder.Rows["b"].At[0].Disk.Size != 5 {
+	if !reflect.DeepEqual(folder.Live.Unheard, []finding.Unheard{{Device: idOf(1), Of: idOf(2), Names: 1}, {Device: idOf(2), Of: idOf(1), Names: 1}}) || folder.Rows["b"] == nil || folder.Rows["b"].At[0].Disk.Size != 5 {
 		t.Errorf("%+v, %v", folder.Live.Unheard, folder.Rows)
 	}
 }
@@ -169,8 +169,8 @@ func TestTheOrderOfDevicesWithDamage(t *testing.T) {
 func TestSourcesOfWhatWaits(t *testing.T) {
 	folder := &finding.Folder{Members: planOf(t, nil, nil).Folders[0].Members}
 	for told, waits := range map[string]*finding.Waiting{
-		"": {}, "1 on laptop (AAAAAAA)": {From: map[int]int64{1: 1}}, "1 on no audited device": {Nowhere: 1},
-		"3 on laptop (AAAAAAA), 2 on laptop (AAAAAAA), 4 on no audited device": {From: map[int]int64{0: 3, 1: 2}, Nowhere: 4},
+		"": {}, "1 on laptop (AAAAAAA)": {From: map[string]int64{idOf(2): 1}}, "1 on no audited device": {Nowhere: 1},
+		"3 on laptop (AAAAAAA), 2 on laptop (AAAAAAA), 4 on no audited device": {From: map[string]int64{idOf(1): 3, idOf(2): 2}, Nowhere: 4},
 	} {
 		if is := sourcesOf(waits, folder); is != told {
 			t.Errorf("%q, not %q", is, told)

@@ -8,33 +8,26 @@ import (
 )
 
 // movedOf says what changed at a member, or how its disk isn't as recorded where the name waits for a scan.
-func movedOf(row *join.Row, member int) finding.Moved {
+func (n *names) movedOf(row *join.Row, member int) finding.Moved {
 	name := row.At[member]
-	moved := finding.Moved{Member: member, Why: name.Moved}
+	moved := finding.Moved{Device: n.idOf(member), Why: name.Moved}
 	if !slices.Contains(name.Moved, part.MovedUnscanned) && name.Waits == nil {
 		return moved
 	}
-	moved.Waits, moved.As = finding.KindOfWaiting(name.Waits), withoutContents(name.Waits)
-	if name.Waits == nil || name.Waits.Own == nil || name.Waits.Own.Deleted {
+	moved.Waits = finding.KindOfWaiting(name.Waits)
+	if name.Waits == nil {
+		return moved
+	}
+	moved.Recorded, moved.Found = finding.Recorded(name.Waits.Own), finding.Found(name.Waits.Disk)
+	if name.Waits.Own == nil || name.Waits.Own.Deleted {
 		return moved
 	}
 	for other, at := range row.At {
 		if other != member && hasRecorded(at, name.Waits.Own) {
-			moved.Have = append(moved.Have, other)
+			moved.Have = append(moved.Have, n.idOf(other))
 		}
 	}
 	return moved
-}
-
-// withoutContents gives what is told of a name that waits.
-func withoutContents(name *part.Name) *part.Name {
-	if name == nil || name.Disk == nil {
-		return name
-	}
-	copied, disk := *name, *name.Disk
-	disk.Contents = nil
-	copied.Disk = &disk
-	return &copied
 }
 
 // hasRecorded says whether what a record says stands on a member's disk, and is recorded there.

@@ -4,6 +4,7 @@ import (
 	"testing"
 
 	"golang.org/x/exp/slices"
+	"syncthing-audit/finding"
 	"syncthing-audit/join"
 	"syncthing-audit/part"
 )
@@ -26,22 +27,26 @@ func TestFromWhereWhatIsRecordedCanBeCopied(t *testing.T) {
 		{Moved: []string{part.MovedDisk}},
 		nil,
 	}}
-	made := movedOf(row, 0)
-	if !slices.Equal(made.Have, []int{1}) || made.Waits != "missing" || made.As != waits.Waits {
+	next := &names{found: &finding.Folder{}}
+	for number := range row.At {
+		next.found.Members = append(next.found.Members, join.Member{Device: &join.Device{Head: &part.Head{Device: idOf(byte(number))}}})
+	}
+	made := next.movedOf(row, 0)
+	if !slices.Equal(made.Have, []string{idOf(1)}) || made.Waits != "missing" || made.Recorded == nil || made.Recorded.Size != 300000 || made.Found != nil {
 		t.Errorf("%+v", made)
 	}
-	if other := movedOf(row, 6); other.Waits != "" || other.As != nil || len(other.Have) > 0 {
+	if other := next.movedOf(row, 6); other.Waits != "" || other.Recorded != nil || len(other.Have) > 0 {
 		t.Errorf("%+v", other)
 	}
 }
 
-// What waits is told without its contents, and stays as it was where it is kept.
-func TestWhatWaitsIsToldWithoutContents(t *testing.T) {
-	content := part.Content{Size: 5, BlockSize: 131072, Hash: part.Hash{1}}
-	waits := &part.Name{Name: "a", Disk: &part.Node{Size: 5, Contents: []part.Content{content}}}
-	made := movedOf(&join.Row{Name: "a", At: []*part.Name{{Moved: []string{part.MovedUnscanned}, Waits: waits}}}, 0)
-	if made.As == nil || made.As.Disk.Size != 5 || made.As.Disk.Contents != nil || len(waits.Disk.Contents) != 1 {
-		t.Errorf("%+v, %+v", made.As, waits.Disk)
+// What waits is told by what stands on the disk, be it in no record; where no details were kept nothing is told of it.
+func TestWhatStandsOnTheDiskOfWhatWaits(t *testing.T) {
+	for _, waits := range []*part.Name{{Name: "a", Disk: &part.Node{Size: 5}}, nil} {
+		made := namesOf().movedOf(&join.Row{Name: "a", At: []*part.Name{{Moved: []string{part.MovedUnscanned}, Waits: waits}}}, 0)
+		if made.Recorded != nil || (made.Found == nil) != (waits == nil) || waits != nil && (made.Found.Size != 5 || made.Waits != finding.WaitsNew) {
+			t.Errorf("%+v", made)
+		}
 	}
 }
 

@@ -1,39 +1,53 @@
 package finding
 
-import "syncthing-audit/part"
+import (
+	"time"
+
+	"syncthing-audit/part"
+)
 
 // Live is what two looks at running devices say of a folder beside what is still. Of parts of different moments it says which names changed between.
 type Live struct {
-	OfParts bool    `json:",omitempty"` // whether the devices were stopped, and no look was made
-	Seconds float64 // between the last first look and the first second one
-	Timed   bool    // whether the seconds are known: devices' clocks may differ by more
-	Moving  int64   // names that changed between the looks at a device, and aren't audited
-	Names   []Moving
-	Waits   int64 // of these names, those that wait for a scan
-	Unheard []Unheard
-	Waiting map[int]*Waiting // by member: what waits for a scan there, of all these names
+	OfParts bool                `json:"of_parts,omitempty"` // whether the devices were stopped, and no look was made
+	Seconds *float64            `json:"still_seconds"`      // between the last first look and the first second one; none where clocks differ by more
+	Moving  int64               `json:"names_in_motion"`    // that changed between the looks at a device, and aren't audited
+	Names   []Moving            `json:"in_motion"`          // the first MostListed
+	Unheard []Unheard           `json:"not_heard_of"`
+	Waits   int64               `json:"names_waiting,omitempty"` // of all names in motion, those that wait for a scan
+	Waiting map[string]*Waiting `json:"waiting,omitempty"`       // by device: what waits for a scan there, of all these names
 }
 
 // Moving is a name that changed at a device while it was looked at, or waits there.
 type Moving struct {
-	Name part.Bytes
-	At   []Moved
+	Name part.Bytes `json:"name"`
+	At   []Moved    `json:"devices"`
 }
 
 // Moved says what changed at a device.
 type Moved struct {
-	Member int
-	Why    []string
-	Waits  string     // of what waits for a scan: how
-	As     *part.Name // its record and its disk, where details were kept
-	Have   []int      // the other members on whose disks what it records stands, and is recorded
+	Device   string   `json:"device"`
+	Why      []string `json:"why"`
+	Waits    string   `json:"waits,omitempty"` // of what waits for a scan: how
+	Recorded *State   `json:"recorded,omitempty"`
+	Found    *State   `json:"found,omitempty"`
+	Have     []string `json:"have_recorded,omitempty"` // the other devices on whose disks what it records stands, and is recorded
 }
 
 // Unheard counts the still names whose record one device hadn't heard of from another one: it is on its way, or they aren't
 // connected.
 type Unheard struct {
-	Member, Of int
-	Names      int64
+	Device string `json:"device"`
+	Of     string `json:"of"`
+	Names  int64  `json:"names"`
+}
+
+// NewLive gives what is told where nothing was in motion.
+func NewLive() *Live { return &Live{Names: []Moving{}, Unheard: []Unheard{}} }
+
+// SetStill sets for how long the names were still, in milliseconds.
+func (l *Live) SetStill(spent time.Duration) {
+	seconds := float64(spent.Round(time.Millisecond)) / 1e9
+	l.Seconds = &seconds
 }
 
 // isMoving says whether names of a folder that was audited while its devices ran weren't audited.
@@ -59,12 +73,12 @@ func (l *Live) AddMoving(moving Moving) {
 }
 
 // AddUnheard adds a name of which a device hadn't heard.
-func (l *Live) AddUnheard(member, of int) {
+func (l *Live) AddUnheard(device, of string) {
 	for place := range l.Unheard {
-		if l.Unheard[place].Member == member && l.Unheard[place].Of == of {
+		if l.Unheard[place].Device == device && l.Unheard[place].Of == of {
 			l.Unheard[place].Names++
 			return
 		}
 	}
-	l.Unheard = append(l.Unheard, Unheard{member, of, 1})
+	l.Unheard = append(l.Unheard, Unheard{device, of, 1})
 }

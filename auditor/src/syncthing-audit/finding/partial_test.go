@@ -19,7 +19,7 @@ import (
 func wholeAnswer() *Answer {
 	folder := &Folder{ID: "docs", Live: &Live{}, Firmness: Firmness{Asked: true}}
 	for number := uint64(1); number <= 2; number++ {
-		folder.Members = append(folder.Members, join.Member{Device: &join.Device{Number: number, Head: &part.Head{}}, About: &part.Folder{}, Linked: &part.Count{}})
+		folder.Members = append(folder.Members, join.Member{Device: &join.Device{Number: number, Head: &part.Head{Device: fmt.Sprint(number)}}, About: &part.Folder{}, Linked: &part.Count{}})
 	}
 	return &Answer{Devices: []Device{{}, {}}, Folders: []*Folder{folder}}
 }
@@ -27,7 +27,7 @@ func wholeAnswer() *Answer {
 // Each thing by itself that wasn't audited, or may change a folder without a record, makes an answer partial. What a person chose doesn't.
 func TestEachThingThatMakesAnAnswerPartial(t *testing.T) {
 	waiting := func(kind string) func(*Answer) {
-		return func(a *Answer) { a.Folders[0].Live.addWaiting(Moved{Member: 1, Waits: kind}) }
+		return func(a *Answer) { a.Folders[0].Live.addWaiting(Moved{Device: "2", Waits: kind}) }
 	}
 	for _, row := range []struct {
 		why                        string
@@ -46,7 +46,7 @@ func TestEachThingThatMakesAnAnswerPartial(t *testing.T) {
 		{"two devices, each with its own of one id", func(a *Answer) { ownFolders(a, "docs") }, true, true, true, IsFirm, ""},
 		{"two devices, each with its own of the id by chance", func(a *Answer) { ownFolders(a, join.ByChance) }, false, false, true, IsFirm, ""},
 		{"a name in motion", func(a *Answer) { a.Folders[0].Live.Moving = 1 }, true, true, false, IsFirm, ""},
-		{"a record on its way", func(a *Answer) { a.Folders[0].Live.AddUnheard(0, 1) }, true, true, true, IsFirm, ""},
+		{"a record on its way", func(a *Answer) { a.Folders[0].Live.AddUnheard("1", "2") }, true, true, true, IsFirm, ""},
 		{"some names, chosen by a part", func(a *Answer) { askedFor(a, choice.Names{Slice: 1, Slices: 3}) }, true, true, false, IsFirm, ""},
 		{"some names, chosen by a person", func(a *Answer) { askedFor(a, choice.Names{Prefix: "a"}); a.ByNames = true }, false, false, false, IsFirm, ""},
 		{"a folder that nobody asked for", func(a *Answer) { a.Devices[1].Unasked = []Unasked{{}} }, true, false, true, IsFirm, ""},
@@ -126,23 +126,23 @@ func TestTheWorstOfSeveralFolders(t *testing.T) {
 func TestWhatIsCountedOfRunningDevices(t *testing.T) {
 	live := &Live{}
 	for _, moved := range [][]Moved{
-		{{Member: 0}, {Member: 1, Waits: WaitsMissing, Have: []int{0, 2}}}, {{Member: 1, Waits: WaitsMissing}}, {{Member: 1, Waits: WaitsNew}, {Member: 2, Waits: WaitsBack}}, {{Member: 0}},
-		{{Member: 1, Waits: string(damage.Kinds[0]), Have: []int{2}}},
+		{{Device: "A"}, {Device: "B", Waits: WaitsMissing, Have: []string{"A", "C"}}}, {{Device: "B", Waits: WaitsMissing}}, {{Device: "B", Waits: WaitsNew}, {Device: "C", Waits: WaitsBack}}, {{Device: "A"}},
+		{{Device: "B", Waits: string(damage.Kinds[0]), Have: []string{"C"}}},
 	} {
 		live.AddMoving(Moving{At: moved})
 	}
-	expected := map[int]*Waiting{1: {Names: map[string]int64{WaitsMissing: 2, WaitsNew: 1, string(damage.Kinds[0]): 1}, From: map[int]int64{0: 1, 2: 2}, Nowhere: 1},
-		2: {Names: map[string]int64{WaitsBack: 1}, From: map[int]int64{}}}
+	expected := map[string]*Waiting{"B": {Names: map[string]int64{WaitsMissing: 2, WaitsNew: 1, string(damage.Kinds[0]): 1}, From: map[string]int64{"A": 1, "C": 2}, Nowhere: 1},
+		"C": {Names: map[string]int64{WaitsBack: 1}, From: map[string]int64{}}}
 	if live.Moving != 5 || live.Waits != 4 || len(live.Names) != 5 || !reflect.DeepEqual(live.Waiting, expected) {
-		t.Errorf("%+v, %+v, %+v", live, live.Waiting[1], live.Waiting[2])
+		t.Errorf("%+v, %+v, %+v", live, live.Waiting["B"], live.Waiting["C"])
 	}
-	if waits := live.Waiting[1]; waits.Losing() != 3 || waits.Sent() != 3 || live.Waiting[2].Losing() != 0 || live.Waiting[2].Sent() != 1 {
+	if waits := live.Waiting["B"]; waits.Losing() != 3 || waits.Sent() != 3 || live.Waiting["C"].Losing() != 0 || live.Waiting["C"].Sent() != 1 {
 		t.Errorf("%d lose, %d are sent", waits.Losing(), waits.Sent())
 	}
-	for _, pair := range [][2]int{{0, 1}, {1, 0}, {0, 1}, {0, 2}, {0, 1}} {
+	for _, pair := range [][2]string{{"A", "B"}, {"B", "A"}, {"A", "B"}, {"A", "C"}, {"A", "B"}} {
 		live.AddUnheard(pair[0], pair[1])
 	}
-	if !reflect.DeepEqual(live.Unheard, []Unheard{{0, 1, 3}, {1, 0, 1}, {0, 2, 1}}) {
+	if !reflect.DeepEqual(live.Unheard, []Unheard{{"A", "B", 3}, {"B", "A", 1}, {"A", "C", 1}}) {
 		t.Errorf("%v", live.Unheard)
 	}
 	for len(live.Names) < MostListed {
@@ -152,8 +152,11 @@ func TestWhatIsCountedOfRunningDevices(t *testing.T) {
 	if len(live.Names) != MostListed || live.Moving != MostListed+1 {
 		t.Errorf("%d of %d are listed", len(live.Names), live.Moving)
 	}
-	folder := &Folder{Members: make([]join.Member, 3), Live: live}
-	if folder.SendsAfterScan(0) != nil || folder.SendsAfterScan(1) != live.Waiting[1] || (&Folder{Members: make([]join.Member, 1)}).SendsAfterScan(0) != nil {
+	folder := &Folder{Live: live}
+	for _, id := range []string{"A", "B"} {
+		folder.Members = append(folder.Members, join.Member{Device: &join.Device{Head: &part.Head{Device: id}}})
+	}
+	if folder.SendsAfterScan(0) != nil || folder.SendsAfterScan(1) != live.Waiting["B"] || (&Folder{Members: make([]join.Member, 1)}).SendsAfterScan(0) != nil {
 		t.Error("what waits is that of another member")
 	}
 }

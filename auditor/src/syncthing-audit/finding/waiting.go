@@ -27,9 +27,9 @@ func kindsOfWaiting() []string {
 
 // Waiting counts the names that wait for a scan on a device.
 type Waiting struct {
-	Names   map[string]int64 // by how they wait
-	From    map[int]int64    // how many of them stand as recorded on the disks of other members
-	Nowhere int64            // how many have recorded bytes that stand on no other member's disk
+	Names   map[string]int64 `json:"names"`   // by how they wait
+	From    map[string]int64 `json:"from"`    // how many of them stand as recorded on the disks of other devices
+	Nowhere int64            `json:"nowhere"` // how many have recorded bytes that stand on no other device's disk
 }
 
 // KindOfWaiting says how the disk isn't as the record says.
@@ -59,12 +59,12 @@ func (l *Live) addWaiting(moved Moved) {
 		return
 	}
 	if l.Waiting == nil {
-		l.Waiting = map[int]*Waiting{}
+		l.Waiting = map[string]*Waiting{}
 	}
-	to := l.Waiting[moved.Member]
+	to := l.Waiting[moved.Device]
 	if to == nil {
-		to = &Waiting{Names: map[string]int64{}, From: map[int]int64{}}
-		l.Waiting[moved.Member] = to
+		to = NewWaiting()
+		l.Waiting[moved.Device] = to
 	}
 	to.Names[moved.Waits]++
 	for _, other := range moved.Have {
@@ -73,6 +73,20 @@ func (l *Live) addWaiting(moved Moved) {
 	if len(moved.Have) == 0 && LosesRecorded(moved.Waits) {
 		to.Nowhere++
 	}
+}
+
+// NewWaiting counts nothing yet.
+func NewWaiting() *Waiting { return &Waiting{Names: map[string]int64{}, From: map[string]int64{}} }
+
+// Add adds what waits elsewhere.
+func (w *Waiting) Add(other *Waiting) {
+	for kind, count := range other.Names {
+		w.Names[kind] += count
+	}
+	for device, count := range other.From {
+		w.From[device] += count
+	}
+	w.Nowhere += other.Nowhere
 }
 
 // Losing counts the names of which a scan takes something else than what is recorded: what is new, or back, takes nothing away.
@@ -97,7 +111,7 @@ func (f *Folder) SendsAfterScan(member int) *Waiting {
 	if f.Live == nil {
 		return nil
 	}
-	waits, about := f.Live.Waiting[member], f.Members[member].About
+	waits, about := f.Live.Waiting[f.Members[member].Head.Device], f.Members[member].About
 	if waits == nil || about != nil && about.Kind == receiveOnly || waits.Sent() == 0 {
 		return nil
 	}

@@ -87,7 +87,7 @@ func (o *observing) answer(program ask.Program, files map[string]string, output 
 	}
 	for _, folder := range answer.Folders {
 		if folder.Live != nil {
-			folder.Live.Seconds, folder.Live.Timed = o.second.Sub(o.first).Seconds(), true
+			folder.Live.SetStill(o.second.Sub(o.first))
 		}
 	}
 	status, err := kept.Tell(output, o.log, read, answer)

@@ -179,7 +179,7 @@ func TestTheGridOfAnAnswer(t *testing.T) {
 		Earlier: []summary.LeftOut{{Folder: "music", Device: "B", Why: "change 9"}},
 		Since:   &history.Since{Read: []history.Read{{Folder: "docs", Device: "A", Files: 5, Bytes: 7, Oldest: at, OldestName: "a\x1b"}, {Folder: "pics", Device: "A", Files: 1}}},
 		Folders: []*summary.Folder{
-			{ID: "docs", Label: "Documents", Verdict: summary.NotInStep, Names: 9, Wrong: 4, Live: &summary.Live{Moving: 3}, Devices: []summary.Member{{Device: "A"}},
+			{ID: "docs", Label: "Documents", Verdict: summary.NotInStep, Names: 9, Wrong: 4, Live: &finding.Live{Moving: 3}, Devices: []summary.Member{{Device: "A"}},
 				Files:  []*summary.File{{Faults: []*summary.Fault{{Device: "A"}, {Device: "A"}}}, {}, {}},
 				Groups: []*summary.Group{{Devices: []string{"A", "B"}, Names: 2}}},
 			{ID: "music", Verdict: summary.AsFar, Devices: []summary.Member{{Device: "A"}, {Device: "B"}}},

@@ -314,7 +314,7 @@ func (r *running) answer(program ask.Program, output io.Writer) (int, error) {
 func (r *running) time(answer *finding.Answer) {
 	for _, folder := range answer.Folders {
 		if folder.Live != nil {
-			folder.Live.Seconds, folder.Live.Timed = r.began.Sub(r.lastLook()).Seconds(), true
+			folder.Live.SetStill(r.began.Sub(r.lastLook()))
 		}
 	}
 }

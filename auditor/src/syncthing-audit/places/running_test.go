@@ -94,8 +94,8 @@ func TestHowLongItWasStill(t *testing.T) {
 		if last := run.lastLook(); !last.Equal(at.Add(2 * time.Second)) {
 			t.Errorf("%v: %v", order, last)
 		}
-		answer := &finding.Answer{Folders: []*finding.Folder{{Live: &finding.Live{Seconds: 77}}, {}}}
-		if run.time(answer); answer.Folders[0].Live.Seconds != 7 || !answer.Folders[0].Live.Timed || answer.Folders[1].Live != nil {
+		answer := &finding.Answer{Folders: []*finding.Folder{{Live: finding.NewLive()}, {}}}
+		if run.time(answer); *answer.Folders[0].Live.Seconds != 7 || answer.Folders[1].Live != nil {
 			t.Errorf("%+v", answer.Folders[0].Live)
 		}
 	}

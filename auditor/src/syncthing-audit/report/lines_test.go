@@ -212,9 +212,11 @@ func TestLinesOfOtherNames(t *testing.T) {
 // What was in motion while running devices were looked at isn't called settled.
 func TestLinesOfRunningDevices(t *testing.T) {
 	folder := folderOf("docs", 2)
-	folder.Live = &finding.Live{Seconds: 312.5, Timed: true, Moving: 2, Names: []finding.Moving{{Name: "a b", At: []finding.Moved{
-		{Member: 0, Why: []string{part.MovedRecord, part.MovedDisk}}, {Member: 1, Why: []string{part.MovedViews}}}}},
-		Unheard: []finding.Unheard{{Member: 1, Of: 0, Names: 4}}}
+	ids := []string{folder.Members[0].Head.Device, folder.Members[1].Head.Device}
+	folder.Live = &finding.Live{Moving: 2, Names: []finding.Moving{{Name: "a b", At: []finding.Moved{
+		{Device: ids[0], Why: []string{part.MovedRecord, part.MovedDisk}}, {Device: ids[1], Why: []string{part.MovedViews}}}}},
+		Unheard: []finding.Unheard{{Device: ids[1], Of: ids[0], Names: 4}}}
+	folder.Live.SetStill(312500 * time.Millisecond)
 	var written strings.Builder
 	Lines(&written, &finding.Answer{Folders: []*finding.Folder{folder}}, nil)
 	const expected = `settled as far as audited

@@ -80,7 +80,7 @@ func TestLinesOfWhatElseIsSo(t *testing.T) {
 	folder := folderOf("docs", 2)
 	folder.Damaged.Add(finding.Damaged{Name: "a b", At: []finding.DamagedAt{{Member: 0, Why: "it fails"}, {Member: 1, Why: "other bytes", IsRot: true}}})
 	folder.Outside = finding.Count{}
-	folder.Live = &finding.Live{OfParts: true, Timed: true, Moving: 1, Names: []finding.Moving{{Name: "m", At: []finding.Moved{{Member: 1, Why: []string{"disk"}}}}}}
+	folder.Live = &finding.Live{OfParts: true, Moving: 1, Names: []finding.Moving{{Name: "m", At: []finding.Moved{{Device: folder.Members[1].Head.Device, Why: []string{"disk"}}}}}}
 	answer := &finding.Answer{Folders: []*finding.Folder{folder},
 		LeftOut:   []finding.Refusal{{Folder: "docs", Device: "nas", Why: "off"}, {Folder: "pics", Why: "odd"}, {Device: "phone:", Why: "no route"}, {Why: "all"}},
 		Earlier:   []finding.Refusal{{Folder: "docs", Device: "1", Why: "change 9"}},

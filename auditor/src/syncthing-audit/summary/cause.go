@@ -1,11 +1,9 @@
 package summary
 
 import (
-	"time"
-
-	"github.com/syncthing/syncthing/lib/protocol"
 	"golang.org/x/exp/slices"
 	"syncthing-audit/damage"
+	"syncthing-audit/finding"
 	"syncthing-audit/lists"
 	"syncthing-audit/part"
 )
@@ -80,14 +78,7 @@ type Fault struct {
 }
 
 // State is what a record or a disk says of a name.
-type State struct {
-	Type     string     `json:"type"`
-	Deleted  bool       `json:"deleted,omitempty"`
-	Size     int64      `json:"size"`
-	Modified *time.Time `json:"modified,omitempty"` // nothing for a record of a symlink, in which Syncthing stores no time
-	Target   string     `json:"target,omitempty"`
-	Unread   int64      `json:"unread,omitempty"` // of Found: bytes at the end that weren't hashed
-}
+type State = finding.State
 
 // Blocks are those of a file that differ from what is recorded, counted from 0.
 type Blocks struct {
@@ -98,44 +89,6 @@ type Blocks struct {
 	Unlisted int64      `json:"unlisted"` // how many of them stand in no range
 	Recorded string     `json:"recorded_sha256,omitempty"`
 	Found    string     `json:"found_sha256,omitempty"`
-}
-
-func typeOf(number int) string {
-	switch protocol.FileInfoType(number) {
-	case protocol.FileInfoTypeDirectory:
-		return "directory"
-	case protocol.FileInfoTypeFile:
-		return "file"
-	}
-	return "symlink"
-}
-
-// recorded gives the state that a record says.
-func recorded(record *part.Record) *State {
-	if record == nil {
-		return nil
-	}
-	state := &State{Type: typeOf(record.Type), Deleted: record.Deleted, Target: record.Target}
-	if record.Deleted || record.Type != int(protocol.FileInfoTypeSymlink) {
-		state.Modified = timeOf(record.ModifiedS, record.ModifiedNs)
-	}
-	if record.Content != nil {
-		state.Size = record.Content.Size
-	}
-	return state
-}
-
-// found gives the state on a disk.
-func found(node *part.Node) *State {
-	if node == nil {
-		return nil
-	}
-	return &State{Type: typeOf(node.Type), Size: node.Size, Modified: timeOf(node.ModifiedS, node.ModifiedNs), Target: node.Target, Unread: node.Unread}
-}
-
-func timeOf(seconds int64, nanoseconds int) *time.Time {
-	at := time.Unix(seconds, int64(nanoseconds))
-	return &at
 }
 
 // onDisk gives how a device's disk differs from its own record; nothing where it doesn't.

@@ -245,9 +245,9 @@ func (r *reader) addFaults(member int) {
 // add adds a fault with what is known of it.
 func (r *reader) add(member int, cause Cause) {
 	of, at := r.folder.Members[member], r.at(member)
-	fault := &Fault{Device: of.Head.Device, Cause: cause, Kind: kindOf(of), Due: recorded(r.winner), Reasons: r.reasons[member], at: at, due: r.winner, isOverWire: of.Head.IsOverWireAlone()}
+	fault := &Fault{Device: of.Head.Device, Cause: cause, Kind: kindOf(of), Due: finding.Recorded(r.winner), Reasons: r.reasons[member], at: at, due: r.winner, isOverWire: of.Head.IsOverWireAlone()}
 	if at != nil {
-		fault.Recorded, fault.Found = recorded(at.Own), found(at.Disk)
+		fault.Recorded, fault.Found = finding.Recorded(at.Own), finding.Found(at.Disk)
 		if cause == OtherBytes || cause == Changed {
 			fault.Blocks, fault.Damage = blocksOf(at), damage.Of(at.Own, at.Disk)
 		}

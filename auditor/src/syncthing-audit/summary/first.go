@@ -115,5 +115,5 @@ func (p *printer) first(s *Summary) {
 
 // isLive says whether the devices were looked at while they ran, and so scan as they did.
 func (s *Summary) isLive() bool {
-	return len(s.Folders) > 0 && s.Folders[0].Live != nil && !s.Folders[0].Live.isOfParts
+	return len(s.Folders) > 0 && s.Folders[0].Live != nil && !s.Folders[0].Live.OfParts
 }

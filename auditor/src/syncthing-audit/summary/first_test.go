@@ -96,7 +96,7 @@ func TestWhatIsNotKnownBeforeAStart(t *testing.T) {
 		told      bool
 	}{
 		{choice.Names{}, true, nil, false}, {choice.Names{Prefix: "a"}, true, nil, true}, {choice.Names{Slice: 3, Slices: 7}, true, nil, true},
-		{choice.Names{Slice: 3, Slices: 7}, false, nil, false}, {choice.Names{Slice: 3, Slices: 7}, true, &finding.Live{}, false},
+		{choice.Names{Slice: 3, Slices: 7}, false, nil, false}, {choice.Names{Slice: 3, Slices: 7}, true, finding.NewLive(), false},
 	} {
 		answer := answerOf(2, func(folder *finding.Folder) {
 			for _, member := range folder.Members {

@@ -14,54 +14,70 @@ import (
 func inMotion(count int) []finding.Moving {
 	moving := []finding.Moving{}
 	for next := 0; next < count; next++ {
-		moving = append(moving, finding.Moving{Name: part.Bytes(fmt.Sprint("n", next)), At: []finding.Moved{{Member: 1, Why: []string{part.MovedDisk}}}})
+		moving = append(moving, finding.Moving{Name: part.Bytes(fmt.Sprint("n", next)), At: []finding.Moved{{Device: server, Why: []string{part.MovedDisk}}}})
 	}
 	return moving
 }
 
+// stillFor gives what two looks say that were so long apart, in seconds, with names in motion.
+func stillFor(seconds float64, names ...finding.Moving) *finding.Live {
+	live := finding.NewLive()
+	live.SetStill(time.Duration(seconds * 1e9))
+	live.Moving, live.Names = int64(len(names)), append(live.Names, names...)
+	return live
+}
+
 // What waits for a scan is never told to come to rest by itself.
 func TestAdviceForWhatWaitsForAScan(t *testing.T) {
-	moved := func(why ...string) Moving {
-		return Moving{Devices: []Moved{{Device: "a", Why: []string{part.MovedViews}}, {Device: "b", Why: why}}}
-	}
-	cases := []struct {
-		live   Live
-		advice string
+	for _, row := range []struct {
+		moving, waits int64
+		advice        string
 	}{
-		{Live{Moving: 1, Names: []Moving{moved(part.MovedDisk)}}, "audit again"},
-		{Live{Moving: 1, Names: []Moving{moved(part.MovedUnscanned)}}, "audit again after a scan by Syncthing, as with --rescan"},
-		{Live{Moving: 2, Names: []Moving{moved(part.MovedDisk), moved(part.MovedRecord, part.MovedUnscanned)}},
-			"audit again, and for what waits for a scan after one by Syncthing, as with --rescan"},
-		{Live{Moving: 2, Names: []Moving{moved(part.MovedUnscanned)}}, "audit again, and for what waits for a scan after one by Syncthing, as with --rescan"},
-	}
-	for _, row := range cases {
-		if told := row.live.advice(); told != row.advice {
-			t.Errorf("%+v: %s", row.live, told)
+		{1, 0, "audit again"},
+		{1, 1, "audit again after a scan by Syncthing, as with --rescan"},
+		{2, 1, "audit again, and for what waits for a scan after one by Syncthing, as with --rescan"},
+		{2, 2, "audit again after a scan by Syncthing, as with --rescan"},
+	} {
+		if told := toRest(&finding.Live{Moving: row.moving, Waits: row.waits}); told != row.advice {
+			t.Errorf("%d of %d: %s", row.waits, row.moving, told)
 		}
 	}
+}
+
+// waitingAlone gives a name that waits for a scan, and of which no details were kept.
+func waitingAlone() *finding.Live {
+	live := stillFor(0, finding.Moving{Name: "c", At: []finding.Moved{{Device: server, Why: []string{part.MovedUnscanned}}}})
+	live.Waits = 1
+	return live
+}
+
+// moreThanListed gives twelve names in motion, of which eleven are listed.
+func moreThanListed() *finding.Live {
+	live := stillFor(0, inMotion(11)...)
+	live.Moving = 12
+	return live
 }
 
 // textsOfRunningDevices are what a person reads of devices that ran.
 var textsOfRunningDevices = []struct {
 	why  string
-	live finding.Live
+	live *finding.Live
 	text string
 }{
-	{"all still", finding.Live{Timed: true, Seconds: 312.9},
+	{"all still", stillFor(312.9),
 		`docs (Documents): in step and firm; still for 312 s: 1,204 names (4 deleted), 335.2 MB hashed on laptop, server; in motion: 0
 
 ` + strings.TrimPrefix(lastLine, "\n")},
-	{"two in motion", finding.Live{Timed: true, Seconds: 1312, Moving: 2, Names: []finding.Moving{
-		{Name: "a b", At: []finding.Moved{{Member: 0, Why: []string{part.MovedRecord, part.MovedDisk}}, {Member: 1, Why: []string{part.MovedViews}}}},
-		{Name: "c", At: []finding.Moved{{Member: 1, Why: []string{part.MovedReceiving}}}}}},
+	{"two in motion", stillFor(1312,
+		finding.Moving{Name: "a b", At: []finding.Moved{{Device: laptop, Why: []string{part.MovedRecord, part.MovedDisk}}, {Device: server, Why: []string{part.MovedViews}}}},
+		finding.Moving{Name: "c", At: []finding.Moved{{Device: server, Why: []string{part.MovedReceiving}}}}),
 		`docs (Documents): in step and firm as far as audited; still for 1,312 s: 1,204 names (4 deleted), 335.2 MB hashed on laptop, server; in motion: 2
 
 in motion in docs: 2 names, not audited: audit again
   'a b': laptop: its record changed, what stands on the disk changed; server: what it knows of others' records changed
   c: server: it is being received
 ` + strings.TrimPrefix(lastLine, "\n")},
-	{"one waits for a scan", finding.Live{Timed: true, Moving: 1, Names: []finding.Moving{
-		{Name: "c", At: []finding.Moved{{Member: 1, Why: []string{part.MovedUnscanned}}}}}},
+	{"one waits for a scan", waitingAlone(),
 		`docs (Documents): in step and firm as far as audited; still for 0 s: 1,204 names (4 deleted), 335.2 MB hashed on laptop, server; in motion: 1
 
 in motion in docs: 1 name, not audited
@@ -70,13 +86,13 @@ in motion in docs: 1 name, not audited
   c: server: the disk isn't as recorded: it waits for a scan by Syncthing
   then: audit again after a scan by Syncthing, as with --rescan
 ` + strings.TrimPrefix(lastLine, "\n")},
-	{"more than are told", finding.Live{Timed: true, Moving: 12, Names: inMotion(11)},
+	{"more than are told", moreThanListed(),
 		`docs (Documents): in step and firm as far as audited; still for 0 s: 1,204 names (4 deleted), 335.2 MB hashed on laptop, server; in motion: 12
 
 in motion in docs: 12 names, not audited: audit again
 ` + firstTen + `  and 2 more (--json has 11)
 ` + strings.TrimPrefix(lastLine, "\n")},
-	{"clocks that differ, and what wasn't heard of", finding.Live{Unheard: []finding.Unheard{{Member: 1, Of: 0, Names: 3}}},
+	{"clocks that differ, and what wasn't heard of", &finding.Live{Names: []finding.Moving{}, Unheard: []finding.Unheard{{Device: server, Of: laptop, Names: 3}}},
 		`docs (Documents): in step and firm as far as audited; still: 1,204 names (4 deleted), 335.2 MB hashed on laptop, server; in motion: 0
 
 for how long docs was still isn't known: the devices' clocks differ by more than that
@@ -89,8 +105,7 @@ func TestTextOfRunningDevices(t *testing.T) {
 	var documents strings.Builder
 	for _, row := range textsOfRunningDevices {
 		var written strings.Builder
-		live := row.live
-		answer := answerOf(2, func(folder *finding.Folder) { folder.Live = &live })
+		answer := answerOf(2, func(folder *finding.Folder) { folder.Live = row.live })
 		Of(answer).Print(&written, time.UTC, time.Time{})
 		if written.String() != row.text {
 			t.Errorf("%s:\n%s\nnot\n%s", row.why, written.String(), row.text)

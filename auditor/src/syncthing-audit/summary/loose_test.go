@@ -39,7 +39,8 @@ func TestWhatAPersonReadsOfFirmness(t *testing.T) {
 				folder.Loose.Add(finding.Loose{Name: fmt.Sprintf("%04d", next), At: []finding.LooseAt{{Member: 0, Reason: finding.VersionDiffers}}})
 			}
 			folder.Firmness.First = &finding.Failure{Reason: finding.VersionDiffers, Name: "0000", Device: 1}
-			folder.Live = &finding.Live{Moving: 1}
+			folder.Live = finding.NewLive()
+			folder.Live.Moving = 1
 		}, "docs (Documents): in step as far as audited, not firm; still: 1,204 names (4 deleted), 335.2 MB hashed on laptop, phone, server; in motion: 1\n" + `
 1,244 names keep docs from being firm
 ` + linesOf(mostOfList, "  %04d: laptop has it under a concurrent version\n") + "  and 1,234 more (--lines has all)\n" + meaning},

@@ -102,7 +102,8 @@ type Folder struct {
 	Own     bool               `json:"not_shared,omitempty"` // its one device shares it with nobody: it was compared with that one's own index
 	modes   int64              // names of which the permissions alone differ, which don't count for the verdict
 	isApart bool               // whether other devices have theirs of this id, which they share with nobody, too
-	Live    *Live              `json:"live,omitempty"` // of devices that were looked at while they ran
+	Live    *finding.Live      `json:"live,omitempty"` // of devices that were looked at while they ran, or whose parts are of different moments
+	unseen  *finding.Waiting   // what waits for a scan at devices that send what it finds
 	Firm    Firm               `json:"firm"`
 	Loose   int64              `json:"names_not_firm"`           // that keep a folder in step from being firm
 	NotFirm []Loose            `json:"not_firm"`                 // the first of these names
@@ -273,7 +274,7 @@ func folderOf(answer *finding.Answer, from *finding.Folder, all *folding) *Folde
 	})
 	folder.Wrong, folder.modes = all.wrong, all.modes
 	all.to.noteWaiting(from)
-	folder.Live = liveOf(from)
+	folder.Live, folder.unseen = from.Live, unseenIn(from)
 	folder.Firm = from.HowFirm()
 	folder.Loose, folder.NotFirm = looseOf(from)
 	folder.Unsure = unsureOf(from)

@@ -72,7 +72,7 @@ func (p *printer) folder(folder *Folder) {
 	verdict := p.verdict(folder)
 	names, moving := counted(folder.Names, "name", "names"), ""
 	if folder.Live != nil {
-		names, moving = still(folder)+names, folder.Live.inMotion()
+		names, moving = still(folder)+names, folder.inMotion()
 	}
 	deleted := thousands(folder.Deleted) + " deleted"
 	if folder.Going > 0 {

@@ -54,7 +54,7 @@ func TestWhatMayChangeAFirmFolder(t *testing.T) {
 	}
 	calm := answerOf(2, func(folder *finding.Folder) {
 		folder.Firmness = finding.Firmness{Asked: true}
-		folder.Live, folder.Members[0].About.Kind = &finding.Live{Timed: true}, receiveOnly
+		folder.Live, folder.Members[0].About.Kind = stillFor(0), receiveOnly
 		waits(folder, "b", 0, []int{1}, noBytes)                                    // it sends nothing
 		waits(folder, "c", 1, nil, func(row *part.Name) { row.Own = nil })          // it takes nothing away
 		waits(folder, "d", 1, nil, func(row *part.Name) { row.Own.Deleted = true }) // nor does this

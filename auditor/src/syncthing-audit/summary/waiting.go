@@ -12,31 +12,21 @@ import (
 
 // waiting counts the names that wait for a scan on a device that sends what a scan finds, in all folders.
 type waiting struct {
-	finding.Waiting                  // but for the devices from which what is recorded can be copied:
-	from            map[string]int64 // by their ids
-	folders         []string
+	*finding.Waiting
+	folders []string
 }
 
 // noteWaiting notes what waits for a scan. A start of Syncthing makes one.
 func (a *actions) noteWaiting(folder *finding.Folder) {
 	for place, member := range folder.Members {
-		found := folder.SendsAfterScan(place)
-		if found == nil {
-			continue
+		if found := folder.SendsAfterScan(place); found != nil {
+			if a.waits[member.Head.Device] == nil {
+				a.waits[member.Head.Device] = &waiting{Waiting: finding.NewWaiting()}
+			}
+			to := a.waits[member.Head.Device]
+			to.Add(found)
+			to.folders = append(to.folders, folder.ID)
 		}
-		to := a.waits[member.Head.Device]
-		if to == nil {
-			to = &waiting{Waiting: finding.Waiting{Names: map[string]int64{}}, from: map[string]int64{}}
-			a.waits[member.Head.Device] = to
-		}
-		for kind, count := range found.Names {
-			to.Names[kind] += count
-		}
-		for other, count := range found.From {
-			to.from[folder.Members[other].Head.Device] += count
-		}
-		to.Nowhere += found.Nowhere
-		to.folders = append(to.folders, folder.ID)
 	}
 }
 
@@ -68,12 +58,12 @@ func countsOfWaiting(names map[string]int64) string {
 // sources says from which devices what is recorded can be copied.
 func (w *waiting) sources(named print.Names) string {
 	ids, words := []string{}, []string{}
-	for id := range w.from {
+	for id := range w.From {
 		ids = append(ids, id)
 	}
 	sort.Strings(ids)
 	for _, id := range named.Rising(ids) {
-		words = append(words, thousands(w.from[id])+" on "+named(id))
+		words = append(words, thousands(w.From[id])+" on "+named(id))
 	}
 	if w.Nowhere > 0 {
 		words = append(words, thousands(w.Nowhere)+" on no audited device (look among old versions and backups)")
@@ -107,9 +97,9 @@ func (w *waiting) keep() string {
 }
 
 // rankOf gives the place of the first of a name's kinds of waiting: what looks most like damage is told first.
-func (m *Moving) rankOf() int {
+func rankOf(moving finding.Moving) int {
 	rank := len(finding.KindsOfWaiting)
-	for _, at := range m.Devices {
+	for _, at := range moving.At {
 		if place := slices.Index(finding.KindsOfWaiting, at.Waits); place >= 0 && place < rank {
 			rank = place
 		}
@@ -117,27 +107,22 @@ func (m *Moving) rankOf() int {
 	return rank
 }
 
-// worst gives the names in motion, those that look most like damage first.
-func (l *Live) worst() []Moving {
-	names := append([]Moving{}, l.Names...)
-	sort.SliceStable(names, func(one, other int) bool { return names[one].rankOf() < names[other].rankOf() })
+// worstOf gives the names in motion, those that look most like damage first.
+func worstOf(live *finding.Live) []finding.Moving {
+	names := append([]finding.Moving{}, live.Names...)
+	sort.SliceStable(names, func(one, other int) bool { return rankOf(names[one]) < rankOf(names[other]) })
 	return names
 }
 
 // causesOfWaiting are the faults as which names wait for a scan; all other ones are changed, and look damaged.
 var causesOfWaiting = map[string]Cause{finding.WaitsMissing: Missing, finding.WaitsBack: Back, finding.WaitsNew: NotScanned, finding.WaitsUnknown: Differs, finding.WaitsChanged: Changed}
 
-// asFault gives how a name waits as the fault that it would be if it were still.
-func (m *Moved) asFault() *Fault {
-	if cause, is := causesOfWaiting[m.Waits]; is {
-		return &Fault{Device: m.Device, Cause: cause, Recorded: m.Recorded, Found: m.Found, isOverWire: m.isOverWire}
+// wordsOfWaiting says how a name waits for a scan on a device, as the fault that it would be if it were still, and where what is recorded stands.
+func (p *printer) wordsOfWaiting(folder *Folder, at finding.Moved) string {
+	fault := &Fault{Device: at.Device, Cause: Changed, Damage: damage.Kind(at.Waits), Recorded: at.Recorded, Found: at.Found, isOverWire: folder.isOverWire(at.Device)}
+	if cause, is := causesOfWaiting[at.Waits]; is {
+		fault.Cause, fault.Damage = cause, damage.None
 	}
-	return &Fault{Device: m.Device, Cause: Changed, Damage: damage.Kind(m.Waits), Recorded: m.Recorded, Found: m.Found, isOverWire: m.isOverWire}
-}
-
-// wordsOfWaiting says how a name waits for a scan on a device, and where what is recorded stands.
-func (p *printer) wordsOfWaiting(at Moved) string {
-	fault := at.asFault()
 	told := wordsOfFaults([]*Fault{fault}, false) + p.since(fault)
 	switch {
 	case !finding.LosesRecorded(at.Waits) || at.Waits == finding.WaitsUnknown:

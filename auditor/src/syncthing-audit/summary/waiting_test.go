@@ -12,10 +12,13 @@ import (
 func waits(folder *finding.Folder, name string, member int, have []int, change func(*part.Name)) {
 	at := with(file(1, 1), change)
 	if folder.Live == nil {
-		folder.Live = &finding.Live{}
+		folder.Live = finding.NewLive()
 	}
-	folder.Live.AddMoving(finding.Moving{Name: part.Bytes(name), At: []finding.Moved{{Member: member, Why: []string{part.MovedUnscanned},
-		Waits: finding.KindOfWaiting(at), As: at, Have: have}}})
+	moved := finding.Moved{Device: ids[member], Why: []string{part.MovedUnscanned}, Waits: finding.KindOfWaiting(at), Recorded: finding.Recorded(at.Own), Found: finding.Found(at.Disk)}
+	for _, other := range have {
+		moved.Have = append(moved.Have, ids[other])
+	}
+	folder.Live.AddMoving(finding.Moving{Name: part.Bytes(name), At: []finding.Moved{moved}})
 }
 
 func noBytes(at *part.Name)  { at.Disk.Size = 0 }
@@ -85,16 +88,16 @@ func TestMoreWaitsThanIsListed(t *testing.T) {
 
 func waitingMore(live *finding.Live) *finding.Live {
 	if live == nil {
-		live = &finding.Live{}
+		live = finding.NewLive()
 	}
-	live.AddMoving(finding.Moving{Name: "z", At: []finding.Moved{{Member: 0, Why: []string{part.MovedDisk}}}})
+	live.AddMoving(finding.Moving{Name: "z", At: []finding.Moved{{Device: ids[0], Why: []string{part.MovedDisk}}}})
 	return live
 }
 
 // The line of a folder says what no scan has seen, and doesn't call it firm.
 func TestTheHeadTellsWhatNoScanHasSeen(t *testing.T) {
 	text := printed(answerOf(3, func(folder *finding.Folder) {
-		folder.Live = &finding.Live{Timed: true, Seconds: 10}
+		folder.Live = stillFor(10)
 		waits(folder, "b", 1, []int{0, 2}, noBytes)
 		waits(folder, "c", 2, []int{0, 1}, absent)
 	}))

@@ -3,6 +3,7 @@ package summary
 import (
 	"strings"
 
+	"golang.org/x/exp/slices"
 	"syncthing-audit/damage"
 	"syncthing-audit/finding"
 	"syncthing-audit/join"
@@ -11,9 +12,11 @@ import (
 	"syncthing-audit/shell"
 )
 
-// isOverWire says whether some device of a folder was asked over the wire.
-func (f *Folder) isOverWire() bool {
-	return lists.Has(f.Devices, func(member Member) bool { return member.OverWire != nil && !member.OverWire.hasDisks })
+// isOverWire says whether one of these devices of a folder, or some device of it without any, was asked over the wire.
+func (f *Folder) isOverWire(devices ...string) bool {
+	return lists.Has(f.Devices, func(member Member) bool {
+		return member.OverWire != nil && !member.OverWire.hasDisks && (len(devices) == 0 || slices.Contains(devices, member.Device))
+	})
 }
 
 // OverWire is what isn't seen of a device that was asked over the wire.
