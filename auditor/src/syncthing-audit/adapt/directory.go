@@ -17,6 +17,13 @@ type synced struct{ fs.Filesystem }
 
 // Lstat says what stands under a name.
 func (s synced) Lstat(name string) (directory.Info, error) {
+	if beneath, is := s.Filesystem.(*Beneath); is { // of these Syncthing sees what the system says
+		about, err := beneath.Info(name)
+		if err != nil {
+			return nil, err
+		}
+		return directory.InfoOf(about), nil
+	}
 	info, err := s.Filesystem.Lstat(name)
 	if err != nil {
 		return nil, err

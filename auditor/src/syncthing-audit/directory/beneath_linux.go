@@ -77,7 +77,7 @@ func (b *Beneath) About(name string) (about os.FileInfo, err error) {
 		if base == "." {
 			about, err = opened.Stat()
 		} else {
-			about, err = os.Lstat(filepath.Join(Proc(opened), base))
+			about, err = aboutIn(opened, base)
 		}
 		return err
 	})

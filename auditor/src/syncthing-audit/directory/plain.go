@@ -44,8 +44,11 @@ func (p *Plain) Lstat(name string) (Info, error) {
 	if err != nil {
 		return nil, err
 	}
-	return plainInfo{about}, nil
+	return InfoOf(about), nil
 }
+
+// InfoOf gives what stands under a name of which the system said this.
+func InfoOf(about os.FileInfo) Info { return plainInfo{about} }
 
 type plainInfo struct{ about os.FileInfo }
 
