@@ -3,16 +3,9 @@
 package main
 
 import (
-	"hash"
-
-	"github.com/syncthing/syncthing/lib/sha256"
+	"github.com/minio/sha256-simd"
 	"syncthing-audit/disk"
 )
 
-// Before Go 1.21, Syncthing's own package has the fastest SHA-256.
-func init() {
-	disk.Fastest = func() func() hash.Hash {
-		sha256.SelectAlgo()
-		return sha256.New
-	}
-}
+// Before Go 1.21, the package that Syncthing's own takes uses a processor's instructions for SHA-256, where it has some.
+func init() { disk.NewSum = sha256.New }

@@ -46,7 +46,6 @@ type Pool struct {
 	hashing chan struct{} // one for each that hashes at this moment
 	hashed  atomic.Int64
 	skips   atomic.Bool
-	sums    chooser
 }
 
 // NewPool starts a pool in which so many hash at once. Twice as many read, so that there is always something to hash.
@@ -165,7 +164,7 @@ func (p *Pool) hash(job *Job, piece piece) error {
 	letGo(file, piece.offset, piece.length)
 	cuts := make([]*cutter, len(job.file.BlockSizes))
 	for place, size := range job.file.BlockSizes {
-		cuts[place] = &cutter{sum: p.sums.new(piece.length), size: size, hashes: piece.hashes[place]}
+		cuts[place] = &cutter{sum: NewSum(), size: size, hashes: piece.hashes[place]}
 	}
 	if err := p.read(file, job, piece.offset, piece.length, cuts); err != nil {
 		return err

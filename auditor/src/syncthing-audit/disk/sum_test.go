@@ -1,42 +1,37 @@
 package disk
 
 import (
-	standard "crypto/sha256"
+	"crypto/sha256"
 	"hash"
-	"hash/crc32"
-	"runtime"
+	"os"
+	"path/filepath"
 	"sync/atomic"
 	"testing"
 	"time"
+
+	"github.com/syncthing/syncthing/lib/fs"
+	"syncthing-audit/adapt"
 )
 
-// The fastest SHA-256 is measured once, behind the bytes before which that doesn't pay, and taken from then on.
-func TestTheFastestIsChosenOnce(t *testing.T) {
-	defer func() { Fastest = nil }()
+// A pool sums up files by the SHA-256 that was set.
+func TestTheSumThatIsSet(t *testing.T) {
+	standard := NewSum
+	defer func() { NewSum = standard }()
 	var asked atomic.Int64
-	Fastest = func() func() hash.Hash {
+	NewSum = func() hash.Hash {
 		asked.Add(1)
-		return func() hash.Hash { return crc32.NewIEEE() }
+		return standard()
 	}
-	sums := &chooser{}
-	for _, bytes := range []int64{1, bytesBeforeChoice - 2, 1} {
-		if sum := sums.new(bytes); sum.Size() != standard.Size || sums.chosen.Load() != nil {
-			t.Fatalf("another one is chosen at %d bytes", sums.hashed.Load())
-		}
+	path := filepath.Join(t.TempDir(), "file")
+	if err := os.WriteFile(path, []byte("hello"), 0o600); err != nil {
+		t.Fatal(err)
 	}
-	runtime.Gosched()
-	if asked.Load() != 0 {
-		t.Errorf("it is measured at %d bytes", sums.hashed.Load())
-	}
-	for until := time.Now().Add(10 * time.Second); sums.chosen.Load() == nil; time.Sleep(time.Millisecond) {
-		if sums.new(1); time.Now().After(until) {
-			t.Fatal("none is chosen")
-		}
-	}
-	for turn := 0; turn < 3; turn++ {
-		if sum := sums.new(bytesBeforeChoice); sum.Size() != crc32.Size || asked.Load() != 1 {
-			t.Errorf("%d times, a sum of %d bytes", asked.Load(), sum.Size())
-		}
+	pool := NewPool(1)
+	defer pool.Close()
+	file := File{Disk: adapt.Directory(fs.NewFilesystem(fs.FilesystemTypeBasic, filepath.Dir(path))), Name: "file", Stamp: Stamp(path), Node: nodeAt(t, path), BlockSizes: []int64{readBytes, 2 * readBytes}}
+	contents, _, _, err := pool.Begin(file).Wait()
+	if err != nil || contents[0].Hash != HashOf([][32]byte{sha256.Sum256([]byte("hello"))}) || contents[1].Hash != contents[0].Hash || asked.Load() != 2 {
+		t.Errorf("%v, %v, asked %d times", contents, err, asked.Load())
 	}
 }
 
