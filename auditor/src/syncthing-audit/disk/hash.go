@@ -169,9 +169,6 @@ func (p *Pool) hash(job *Job, piece piece) error {
 	if err := p.read(file, job, piece.offset, piece.length, cuts); err != nil {
 		return err
 	}
-	if err := job.file.checkOpened(file); err != nil {
-		return err
-	}
 	for _, cut := range cuts {
 		cut.end()
 	}
@@ -186,37 +183,30 @@ func pathOf(in directory.Directory, name string) string {
 	return strings.TrimSuffix(in.URI(), string(filepath.Separator)) + string(filepath.Separator) + filepath.FromSlash(name)
 }
 
-// open opens the very file that was found. Where a directory above it was renamed, its path leads to another one, which may
-// have the same size and time.
-func (f *File) open() (*os.File, error) {
-	file, err := openFile(f.path())
+// open opens the very file that was found, as it was then. Where a directory above it was renamed, its path leads to another one, which may have the
+// same size and time. Whether it stays as it is until it was read is looked at in the end (check).
+func (f *File) open() (file opened, err error) {
+	file, err = openFile(f.path())
 	switch {
 	case errors.Is(err, os.ErrNotExist) || errors.Is(err, syscall.ENOTDIR) || errors.Is(err, syscall.ELOOP):
-		return nil, ErrChanged
+		return file, ErrChanged
 	case err != nil:
-		return nil, unread(err)
+		return file, unread(err)
 	}
-	if err := f.checkOpened(file); err != nil {
+	about, err := file.Stat()
+	if err != nil {
+		err = unread(err)
+	} else if !hasStamp(about, f.Stamp) || !about.Mode().IsRegular() {
+		err = ErrChanged
+	}
+	if err != nil {
 		file.Close()
-		return nil, err
 	}
-	return file, nil
+	return file, err
 }
 
 // unread says why a file can't be read.
 func unread(err error) error { return fmt.Errorf("it can't be read: %w", err) }
-
-// checkOpened says whether an opened file is the one that was found, as it was then.
-func (f *File) checkOpened(file *os.File) error {
-	about, err := file.Stat()
-	if err != nil {
-		return unread(err)
-	}
-	if stampOf(about) != f.Stamp || !about.Mode().IsRegular() {
-		return ErrChanged
-	}
-	return nil
-}
 
 // read reads a piece of a file, and gives its bytes to all cutters.
 func (p *Pool) read(file io.ReaderAt, job *Job, offset, length int64, cuts []*cutter) error {
@@ -276,14 +266,14 @@ func (j *Job) Wait() ([]part.Content, *part.Differ, []byte, error) {
 	return contents, differ, j.data, nil
 }
 
-// check says whether the file that was found is at its path still, with its size and time.
+// check says whether the file that was found is at its path still, as it was then: so nothing was written to it while it was read.
 func (j *Job) check() error {
 	after, err := j.file.Disk.Lstat(j.file.Name)
 	if IsDamage(err) {
 		return unread(err)
 	}
 	if err != nil || !after.IsRegular() || after.Size() != j.file.Node.Size ||
-		after.ModTime().Unix() != j.file.Node.ModifiedS || after.ModTime().Nanosecond() != j.file.Node.ModifiedNs || stampOf(after.About()) != j.file.Stamp {
+		after.ModTime().Unix() != j.file.Node.ModifiedS || after.ModTime().Nanosecond() != j.file.Node.ModifiedNs || !hasStamp(after.About(), j.file.Stamp) {
 		return ErrChanged
 	}
 	return nil

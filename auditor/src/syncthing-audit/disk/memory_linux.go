@@ -1,14 +1,10 @@
 package disk
 
-import (
-	"os"
-
-	"golang.org/x/sys/unix"
-)
+import "golang.org/x/sys/unix"
 
 // letGo asks the system to let go of what it has of a part of a file in memory, so that this part is read from the disk:
 // what was read some time ago may be right in memory still while the disk has other bytes by now. What isn't written to the
 // disk yet stays, as does what a program has mapped. A file system that has a cache of its own may not heed it.
-func letGo(file *os.File, offset, length int64) {
-	_ = unix.Fadvise(int(file.Fd()), offset, length, unix.FADV_DONTNEED) // without it, the file is read all the same
+func letGo(file opened, offset, length int64) {
+	_ = unix.Fadvise(int(file), offset, length, unix.FADV_DONTNEED) // without it, the file is read all the same
 }

@@ -26,18 +26,29 @@ func appendTime(to []byte, at time.Time) []byte {
 }
 
 // stampOf gives the stamp of what was found, by its path or by a descriptor.
-func stampOf(about os.FileInfo) string {
+func stampOf(about os.FileInfo) string { return string(appendStamp(make([]byte, 0, mostStamp), about)) }
+
+// hasStamp says whether what was found has this stamp.
+func hasStamp(about os.FileInfo, stamp string) bool {
+	var room [mostStamp]byte
+	return string(appendStamp(room[:0], about)) == stamp
+}
+
+// mostStamp is how long most stamps are at most.
+const mostStamp = 112
+
+// appendStamp appends the stamp of what was found.
+func appendStamp(to []byte, about os.FileInfo) []byte {
 	file, changed, is := fileOf(about)
 	if !is {
-		return ""
+		return to
 	}
-	stamp := make([]byte, 0, 96)
-	stamp = append(strconv.AppendUint(stamp, file.device, 10), ' ')
-	stamp = strconv.AppendUint(stamp, file.number, 10)
+	to = append(strconv.AppendUint(to, file.device, 10), ' ')
+	to = strconv.AppendUint(to, file.number, 10)
 	if !about.IsDir() {
-		stamp = appendTime(append(stamp, ' '), changed)
-		stamp = appendTime(append(stamp, ' '), about.ModTime())
-		stamp = strconv.AppendInt(append(stamp, ' '), about.Size(), 10)
+		to = appendTime(append(to, ' '), changed)
+		to = appendTime(append(to, ' '), about.ModTime())
+		to = strconv.AppendInt(append(to, ' '), about.Size(), 10)
 	}
-	return string(stamp)
+	return to
 }
