@@ -9,6 +9,7 @@ import (
 	"path/filepath"
 	"reflect"
 	"testing"
+	"time"
 
 	"github.com/syncthing/syncthing/lib/fs"
 	"github.com/syncthing/syncthing/lib/protocol"
@@ -75,6 +76,36 @@ func TestContents(t *testing.T) {
 			if found[place] != expected {
 				t.Errorf("%d bytes in blocks of %d: %v", one.bytes, size, found[place])
 			}
+		}
+	}
+}
+
+// What is written to a file once its bytes were taken is seen, also where its size and time are put back.
+func TestAFileThatIsWrittenMeanwhile(t *testing.T) {
+	room := t.TempDir()
+	path := filepath.Join(room, "file")
+	for _, bytes := range []int{100, pieceBytes + 100} {
+		for isWritten, text := range map[bool]string{false: "", true: "other"} {
+			if err := os.WriteFile(path, make([]byte, bytes), 0o600); err != nil {
+				t.Fatal(err)
+			}
+			pool, node := NewPool(1), nodeAt(t, path)
+			job := pool.Begin(File{Disk: adapt.Directory(fs.NewFilesystem(fs.FilesystemTypeBasic, room)), Name: "file", Stamp: Stamp(path), Node: node, BlockSizes: []int64{protocol.MinBlockSize}})
+			for pool.Hashed() < int64(bytes) {
+				time.Sleep(time.Millisecond)
+			}
+			file, err := os.OpenFile(path, os.O_WRONLY, 0)
+			if err == nil && isWritten {
+				_, err = file.WriteAt([]byte(text), 1)
+				os.Chtimes(path, time.Unix(node.ModifiedS, int64(node.ModifiedNs)), time.Unix(node.ModifiedS, int64(node.ModifiedNs)))
+			}
+			if err != nil || file.Close() != nil {
+				t.Fatal(err)
+			}
+			if _, _, _, err := job.Wait(); errors.Is(err, ErrChanged) != isWritten {
+				t.Errorf("%d bytes, written %v: %v", bytes, isWritten, err)
+			}
+			pool.Close()
 		}
 	}
 }

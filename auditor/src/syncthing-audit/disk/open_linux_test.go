@@ -1,0 +1,56 @@
+package disk
+
+import (
+	"errors"
+	"io"
+	"os"
+	"path/filepath"
+	"testing"
+
+	"golang.org/x/sys/unix"
+	"syncthing-audit/fixture"
+)
+
+// As many bytes are read as are asked for, or it is said why not; a call that is interrupted is made again.
+func TestWhatIsReadOfAnOpenFile(t *testing.T) {
+	path := filepath.Join(t.TempDir(), "file")
+	if err := os.WriteFile(path, []byte("hello"), 0o600); err != nil {
+		t.Fatal(err)
+	}
+	file, err := openFile(path)
+	if err != nil {
+		t.Fatal(err)
+	}
+	for _, row := range []struct {
+		offset int64
+		length int
+		text   string
+		err    error
+	}{{0, 5, "hello", nil}, {1, 3, "ell", nil}, {4, 0, "", nil}, {3, 4, "lo", io.EOF}, {5, 1, "", io.EOF}, {-1, 1, "", unix.EINVAL}} {
+		to := make([]byte, row.length)
+		if count, err := file.ReadAt(to, row.offset); string(to[:count]) != row.text || !errors.Is(err, row.err) {
+			t.Errorf("from %d: %q, %v", row.offset, to[:count], err)
+		}
+	}
+	about, err := file.Stat()
+	if err != nil || about.Size() != 5 || !hasStamp(about, Stamp(path)) || hasStamp(about, "another") {
+		t.Errorf("%v, %v", about, err)
+	}
+	is := func(opened string) bool { return opened == path }
+	if fixture.CountOpened(t, is) != 1 || file.Close() != nil || fixture.CountOpened(t, is) != 0 {
+		t.Error("it isn't closed")
+	}
+	calls := 0
+	result, err := uninterrupted(func() (int, error) {
+		if calls++; calls < 3 {
+			return -1, unix.EINTR
+		}
+		return 7, unix.EIO
+	})
+	if calls != 3 || result != 7 || err != unix.EIO {
+		t.Errorf("%d calls, %d, %v", calls, result, err)
+	}
+	if _, err := openFile(path + "x"); !errors.Is(err, os.ErrNotExist) || err.Error() != "open "+path+"x: no such file or directory" {
+		t.Error(err)
+	}
+}
