@@ -5,8 +5,8 @@
 
 'hash' audits two devices with 3.2 GB in 800 files, beside `sha256sum` of all of them on as many cores. 'small' makes the
 part of a device with 100,000 files of 1 KB, beside `sha256sum` of them, from memory and from the disk. 'join' audits
-three devices with 10,000, 30,000 and 100,000 names by their parts, and says what 1,000,000 would take. 'wrong' audits
-three devices by their parts: 100,000 and 300,000 names, each of which is rotten on one of them, and 60,000 names of 1,012
+three devices with 100,000, 300,000 and 1,000,000 names by their parts, and says what 10,000,000 would take. 'wrong'
+audits three devices by their parts: 100,000 and 300,000 names, each of which is rotten on one of them, and 60,000 names of 1,012
 bytes with rot in 150 blocks each. It says whether memory stays under 300 MB. 'export' writes the documents of three
 devices with 120,000, 240,000 and 480,000 names. 'sum' exports three devices with 300,000 names, each of which has one and
 the same fault, has the documents answered, and sums the answers up. It says whether both stay under 300 MB. Without a
@@ -22,13 +22,14 @@ import tempfile
 import time
 from concurrent.futures import ThreadPoolExecutor
 from pathlib import Path
+from statistics import linear_regression
 
 TOP = Path(__file__).resolve().parents[2]
 PROGRAM = "syncthing-audit"
 RELEASE = TOP / "tools/release/syncaudit"
 DEVICES, FILES, BYTES = 2, 400, 4_000_000
-SIZES = (10_000, 30_000, 100_000)
-ESTIMATED = 1_000_000
+SIZES = (100_000, 300_000, 1_000_000)
+ESTIMATED = 10_000_000
 WRONG = (100_000, 300_000)
 EXPORTED = (120_000, 240_000, 480_000)
 FAULTS = ("unscanned", "permissions", "concurrent", "rotten")
@@ -36,7 +37,7 @@ FORMS = ("summary", "--lines", "--json")
 SUMMED = 300_000
 LONG, BYTES_OF_LONG = 60_000, 40_000_000
 MOST_MEMORY = 300
-MOST_SECONDS = 90  # of the audit of the last of SIZES
+MOST_SECONDS = 12  # of the audit of the last of SIZES
 MOST_TIMES = 1.3  # of the seconds of sha256sum
 SMALL, BYTES_OF_SMALL = 100_000, 1024
 MOST_TIMES_OF_SMALL = 2  # of the processor seconds of sha256sum
@@ -144,23 +145,22 @@ def processor_of(figures):
 
 
 def on_line(values, size):
-    """What a straight line through the first and the last of these values, one for each of SIZES, has at another size."""
-    slope = (values[-1] - values[0]) / (SIZES[-1] - SIZES[0])
-    return values[0] + slope * (size - SIZES[0])
+    """What the straight line that is nearest to these values, one for each of SIZES, has at another size: by least squares."""
+    line = linear_regression(SIZES, values)
+    return line.intercept + line.slope * size
 
 
 def measure_joining(room, asked):
     """Three devices by their parts, of three sizes."""
-    seconds, processor = [], []
+    measured_of = []
     for names in SIZES:
         parts = sample_parts(room, str(names), names)
-        figures = best(asked.runs, [room / PROGRAM, "check", *parts, "--syncaudit", asked.auditor])
-        tell(f"join and audit of {names:,} names on 3 devices", figures)
-        seconds.append(figures[0])
-        processor.append(figures[1])
-    tell_goal(f"seconds of {SIZES[-1]:,} names", seconds[-1], MOST_SECONDS)
-    print(f"{ESTIMATED:,} names by these: {on_line(seconds, ESTIMATED):.0f} s, {on_line(processor, ESTIMATED):.0f} processor seconds")
-    print(f"of {SIZES[1]:,} names that line has {on_line(seconds, SIZES[1]):.2f} s, {on_line(processor, SIZES[1]):.2f} processor seconds")
+        measured_of.append(best(asked.runs, [room / PROGRAM, "check", *parts, "--syncaudit", asked.auditor]))
+        tell(f"join and audit of {names:,} names on 3 devices", measured_of[-1])
+        shutil.rmtree(room / str(names))
+    for names in (*SIZES, ESTIMATED):
+        tell(f"{names:,} names by a straight line", [on_line(values, names) for values in zip(*measured_of)])
+    tell_goal(f"seconds of {SIZES[-1]:,} names", measured_of[-1][0], MOST_SECONDS)
 
 
 def in_form(form):
