@@ -14,13 +14,19 @@ type about struct {
 	said syscall.Stat_t
 }
 
+// Uninterrupted calls the system again where a signal interrupted the call, as it may where a program gives what a directory has.
+func Uninterrupted(call func() error) error {
+	for {
+		if err := call(); err != unix.EINTR {
+			return err
+		}
+	}
+}
+
 // aboutIn asks what the system says of a name in an open directory.
 func aboutIn(directory *os.File, base string) (os.FileInfo, error) {
 	var said unix.Stat_t
-	err := unix.Fstatat(int(directory.Fd()), base, &said, unix.AT_SYMLINK_NOFOLLOW)
-	for err == unix.EINTR {
-		err = unix.Fstatat(int(directory.Fd()), base, &said, unix.AT_SYMLINK_NOFOLLOW)
-	}
+	err := Uninterrupted(func() error { return unix.Fstatat(int(directory.Fd()), base, &said, unix.AT_SYMLINK_NOFOLLOW) })
 	if err != nil {
 		return nil, &os.PathError{Op: "lstat", Path: base, Err: err}
 	}
@@ -30,10 +36,7 @@ func aboutIn(directory *os.File, base string) (os.FileInfo, error) {
 // AboutFile asks what the system says of an open file.
 func AboutFile(number int) (os.FileInfo, error) {
 	var said unix.Stat_t
-	err := unix.Fstat(number, &said)
-	for err == unix.EINTR {
-		err = unix.Fstat(number, &said)
-	}
+	err := Uninterrupted(func() error { return unix.Fstat(number, &said) })
 	if err != nil {
 		return nil, os.NewSyscallError("fstat", err)
 	}

@@ -44,6 +44,22 @@ func TestWhatTheSystemSays(t *testing.T) {
 	checkAbout(t, "/dev", 3) // with devices of both kinds, mostly
 }
 
+// A call that is interrupted is made again, and no other one.
+func TestCallsThatAreInterrupted(t *testing.T) {
+	for _, due := range []error{nil, unix.EIO, unix.EAGAIN} {
+		calls := 0
+		err := Uninterrupted(func() error {
+			if calls++; calls < 3 {
+				return unix.EINTR
+			}
+			return due
+		})
+		if calls != 3 || err != due {
+			t.Errorf("%d calls, %v", calls, err)
+		}
+	}
+}
+
 // checkAbout checks what is told of all names in a directory, of which there are as many at least.
 func checkAbout(t *testing.T, path string, least int) {
 	beneath := NewBeneath(path)

@@ -14,12 +14,9 @@ type opened int
 // openFile opens a file to be read, and no symlink. A pipe in its place would block.
 func openFile(path string) (opened, error) {
 	const flags = unix.O_RDONLY | unix.O_NOFOLLOW | unix.O_CLOEXEC
-	open := func(flags int) func() (int, error) {
-		return func() (int, error) { return unix.Open(path, flags, 0) }
-	}
-	number, err := uninterrupted(open(flags | unix.O_NONBLOCK))
+	number, err := open(path, flags|unix.O_NONBLOCK)
 	if err == unix.EWOULDBLOCK { // a file's lease, as Samba may have one, is given back meanwhile
-		number, err = uninterrupted(open(flags))
+		number, err = open(path, flags)
 	}
 	if err != nil {
 		return -1, &os.PathError{Op: "open", Path: path, Err: err}
@@ -27,13 +24,12 @@ func openFile(path string) (opened, error) {
 	return opened(number), nil
 }
 
-// uninterrupted calls the system again where a signal interrupted the call, as it may where a program gives what a directory has.
-func uninterrupted(call func() (int, error)) (int, error) {
-	for {
-		if result, err := call(); err != unix.EINTR {
-			return result, err
-		}
-	}
+func open(path string, flags int) (number int, err error) {
+	err = directory.Uninterrupted(func() error {
+		number, err = unix.Open(path, flags, 0)
+		return err
+	})
+	return number, err
 }
 
 // Stat gives what the system says of it.
@@ -41,18 +37,22 @@ func (o opened) Stat() (os.FileInfo, error) { return directory.AboutFile(int(o))
 
 // ReadAt reads as many bytes, or says why there are fewer.
 func (o opened) ReadAt(to []byte, offset int64) (int, error) {
-	done := 0
-	for done < len(to) {
-		count, err := uninterrupted(func() (int, error) { return unix.Pread(int(o), to[done:], offset+int64(done)) })
+	for done := 0; ; {
+		count := 0
+		err := directory.Uninterrupted(func() (err error) {
+			count, err = unix.Pread(int(o), to[done:], offset+int64(done))
+			return err
+		})
 		if err != nil {
 			return done, os.NewSyscallError("read", err)
+		}
+		if done += count; done == len(to) {
+			return done, nil
 		}
 		if count == 0 {
 			return done, io.EOF
 		}
-		done += count
 	}
-	return done, nil
 }
 
 // Close closes it.

@@ -11,7 +11,7 @@ import (
 	"syncthing-audit/fixture"
 )
 
-// As many bytes are read as are asked for, or it is said why not; a call that is interrupted is made again.
+// As many bytes are read as are asked for, or it is said why not.
 func TestWhatIsReadOfAnOpenFile(t *testing.T) {
 	path := filepath.Join(t.TempDir(), "file")
 	if err := os.WriteFile(path, []byte("hello"), 0o600); err != nil {
@@ -39,16 +39,6 @@ func TestWhatIsReadOfAnOpenFile(t *testing.T) {
 	is := func(opened string) bool { return opened == path }
 	if fixture.CountOpened(t, is) != 1 || file.Close() != nil || fixture.CountOpened(t, is) != 0 {
 		t.Error("it isn't closed")
-	}
-	calls := 0
-	result, err := uninterrupted(func() (int, error) {
-		if calls++; calls < 3 {
-			return -1, unix.EINTR
-		}
-		return 7, unix.EIO
-	})
-	if calls != 3 || result != 7 || err != unix.EIO {
-		t.Errorf("%d calls, %d, %v", calls, result, err)
 	}
 	if _, err := openFile(path + "x"); !errors.Is(err, os.ErrNotExist) || err.Error() != "open "+path+"x: no such file or directory" {
 		t.Error(err)
