@@ -7,12 +7,12 @@ import (
 )
 
 // Act is what a step does.
-type Act uint8
+type Act string
 
 const (
-	Touch  Act = iota + 1 // gives the present time to what is there
-	Copy                  // copies from another device, with the time and the mode: a directory with all below it
-	Delete                // with all below it
+	Touch  Act = "touch"  // gives the present time to what is there
+	Copy   Act = "copy"   // copies from another device, with the time and the mode: a directory with all below it
+	Delete Act = "delete" // with all below it
 )
 
 // Step is one step on one device's disk.

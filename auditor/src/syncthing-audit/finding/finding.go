@@ -147,12 +147,12 @@ type Reason struct {
 
 // Refusal is why a name, a device or a folder isn't audited.
 type Refusal struct {
-	Kind   string // that --leave-out names; none where it can't be left out
-	Folder string
-	Label  string // of the folder
-	Device string // as a person knows it
-	Name   string
-	Why    string
+	Folder string `json:"folder"`
+	Label  string `json:"label,omitempty"` // of the folder
+	Device string `json:"device"`          // as a person knows it
+	Name   string `json:"name,omitempty"`
+	Kind   string `json:"kind"` // that --leave-out names; none where it can't be left out
+	Why    string `json:"why"`
 }
 
 // Reasons are why a folder isn't settled, in the order in which they are told.

@@ -52,25 +52,25 @@ func TestEachThingThatMakesAnAnswerPartial(t *testing.T) {
 		{"a folder that nobody asked for", func(a *Answer) { a.Devices[1].Unasked = []Unasked{{}} }, true, false, true, IsFirm, ""},
 		{"a folder that a person didn't choose", func(a *Answer) { a.Devices[1].Unasked, a.IsByName = []Unasked{{}}, true }, false, false, true, IsFirm, ""},
 		{"a device that doesn't say what it has", func(a *Answer) { a.Devices[1].IsSilent = true }, true, false, true, IsFirm, ""},
-		{"what is changed waits", waiting(WaitsChanged), true, true, true, NotKnown, "1 not-scanned: 1 names"},
-		{"what is missing waits", waiting(WaitsMissing), true, true, true, NotKnown, "1 not-scanned: 1 names"},
+		{"what is changed waits", waiting(WaitsChanged), true, true, true, NotKnown, "2 not-scanned: 1 names"},
+		{"what is missing waits", waiting(WaitsMissing), true, true, true, NotKnown, "2 not-scanned: 1 names"},
 		{"what is back waits", waiting(WaitsBack), false, false, true, IsFirm, ""},
 		{"what is new waits", waiting(WaitsNew), false, false, true, IsFirm, ""},
 		{"what is changed waits where nothing is sent", func(a *Answer) { waiting(WaitsChanged)(a); a.Folders[0].Members[1].About.Kind = "receive-only" }, false, false, true, IsFirm, ""},
-		{"a busy device", func(a *Answer) { busy(a) }, true, true, true, NotKnown, "0 busy: Syncthing was never seen idle between the looks: it was 'scanning'"},
-		{"what is to be ignored", func(a *Answer) { a.Folders[0].Members[1].ToIgnore = 1 }, true, true, true, NotKnown, "1 to-ignore: 1 names"},
-		{"links elsewhere", func(a *Answer) { a.Folders[0].Members[0].Linked.Names = 1 }, true, true, true, NotKnown, "0 linked: 1 names"},
+		{"a busy device", func(a *Answer) { busy(a) }, true, true, true, NotKnown, "1 busy: Syncthing was never seen idle between the looks: it was 'scanning'"},
+		{"what is to be ignored", func(a *Answer) { a.Folders[0].Members[1].ToIgnore = 1 }, true, true, true, NotKnown, "2 to-ignore: 1 names"},
+		{"links elsewhere", func(a *Answer) { a.Folders[0].Members[0].Linked.Names = 1 }, true, true, true, NotKnown, "1 linked: 1 names"},
 		{"an older program that counts no links", func(a *Answer) { a.Folders[0].Members[0].Linked = nil }, false, false, true, IsFirm, ""},
 		{"a device over the wire", func(a *Answer) {
 			a.Folders[0].Members[1].Head.Wire, a.Folders[0].Members[1].Unseen = &part.Wire{}, join.Unseen{Standing: 3, Unread: 4}
-		}, true, true, true, NotKnown, "1 over-the-wire: 3 directories and symlinks not seen, 4 files not read"},
+		}, true, true, true, NotKnown, "2 over-the-wire: 3 directories and symlinks not seen, 4 files not read"},
 	} {
 		answer := wholeAnswer()
 		row.change(answer)
 		folder := answer.Folders[0]
 		var unsure []string
 		for _, one := range folder.Unsure() {
-			unsure = append(unsure, fmt.Sprint(one.Member, " ", one.Words()))
+			unsure = append(unsure, fmt.Sprint(one.Device, " ", one.Words()))
 		}
 		if answer.IsPartial() != row.isPartial || answer.IsPart(folder) != row.isPart || answer.IsWhole(folder) != row.isWhole ||
 			folder.HowFirm() != row.isNotFirm || answer.HowFirm() != row.isNotFirm || strings.Join(unsure, ", ") != row.unsure {

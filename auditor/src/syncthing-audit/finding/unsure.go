@@ -5,13 +5,13 @@ import "fmt"
 // Unsure is something at a device that may change a folder which is in step under one version, and that no document says. So the folder isn't known
 // to be firm.
 type Unsure struct {
-	Member int
-	Kind   string
-	Why    string   // in words, of Busy and Wanted
-	Names  int64    // of the others: at how many names
-	Unread int64    // of OverWire: how many files' bytes weren't asked for
-	Asked  bool     // of OverWire: whether Syncthing itself said what kind of folder it is, and what it does there
-	Waits  *Waiting // of what waits for a scan: how
+	Device string   `json:"device"`
+	Kind   string   `json:"kind"`
+	Why    string   `json:"why"`             // in words, of Busy and Wanted
+	Names  int64    `json:"names,omitempty"` // of the others: at how many names
+	Unread int64    `json:"-"`               // of OverWire: how many files' bytes weren't asked for
+	Asked  bool     `json:"-"`               // of OverWire: whether Syncthing itself said what kind of folder it is, and what it does there
+	Waits  *Waiting `json:"-"`               // of what waits for a scan: how
 }
 
 // What makes a folder unsure.
@@ -53,23 +53,24 @@ func (f *Folder) Unsure() []Unsure {
 		if at.Device == nil || at.About == nil {
 			continue
 		}
+		device := at.Head.Device
 		if waits := f.SendsAfterScan(member); waits != nil && waits.Losing() > 0 {
-			unsure = append(unsure, Unsure{Member: member, Kind: Waits, Names: waits.Losing(), Waits: waits})
+			unsure = append(unsure, Unsure{Device: device, Kind: Waits, Names: waits.Losing(), Waits: waits})
 		}
 		if why := at.Head.WhyBusy(at.About); why != "" {
-			unsure = append(unsure, Unsure{Member: member, Kind: Busy, Why: why})
+			unsure = append(unsure, Unsure{Device: device, Kind: Busy, Why: why})
 		}
 		if why := at.About.Rest.WhyWanted(); why != "" {
-			unsure = append(unsure, Unsure{Member: member, Kind: Wanted, Why: why, Names: at.About.Rest.Wanted.Most()})
+			unsure = append(unsure, Unsure{Device: device, Kind: Wanted, Why: why, Names: at.About.Rest.Wanted.Most()})
 		}
 		if at.ToIgnore > 0 {
-			unsure = append(unsure, Unsure{Member: member, Kind: ToIgnore, Names: at.ToIgnore})
+			unsure = append(unsure, Unsure{Device: device, Kind: ToIgnore, Names: at.ToIgnore})
 		}
 		if at.Linked != nil && at.Linked.Names > 0 {
-			unsure = append(unsure, Unsure{Member: member, Kind: Linked, Names: at.Linked.Names})
+			unsure = append(unsure, Unsure{Device: device, Kind: Linked, Names: at.Linked.Names})
 		}
 		if at.Head.IsOverWireAlone() {
-			unsure = append(unsure, Unsure{Member: member, Kind: OverWire, Names: at.Unseen.Standing, Unread: at.Unseen.Unread, Asked: at.About.Rest != nil})
+			unsure = append(unsure, Unsure{Device: device, Kind: OverWire, Names: at.Unseen.Standing, Unread: at.Unseen.Unread, Asked: at.About.Rest != nil})
 		}
 	}
 	return unsure

@@ -111,9 +111,7 @@ func cannot(world *forecast.World, name string, step Step) string {
 
 // take takes a step of a name.
 func take(world *forecast.World, name string, step Step) {
-	for act, told := range acts {
-		if told == step.Act {
-			advice.Step{Act: act, Device: memberOf(step.Device), From: memberOf(step.From), Name: name}.On(world, presentOfPlans)
-		}
+	if step.Act != Save {
+		advice.Step{Act: step.Act, Device: memberOf(step.Device), From: memberOf(step.From), Name: name}.On(world, presentOfPlans)
 	}
 }

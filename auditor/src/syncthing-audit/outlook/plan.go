@@ -23,15 +23,15 @@ type Step struct {
 	Over   bool   `json:"over,omitempty"` // whether a copy takes the place of what stands there now
 }
 
-// Act is what a step does.
-type Act string
+// Act is what a step does, or what is chosen for a folder.
+type Act = advice.Act
 
-// What steps do.
+// What steps do: those that are searched for, and one that copies what stands there to somewhere else.
 const (
-	Save   Act = "save"   // copies what stands there to somewhere else
-	Touch  Act = "touch"  // gives the present time to what stands there
-	Copy   Act = "copy"   // copies it from another device, with its time and its mode
-	Delete Act = "delete" // with all below it
+	Touch  = advice.Touch
+	Copy   = advice.Copy
+	Delete = advice.Delete
+	Save   = Act("save")
 )
 
 // Plan is what to do about names, while Syncthing is stopped on all devices of the folder. It is followed from the top.
@@ -258,8 +258,6 @@ func savesOf(devices []forecast.Device, name *forecast.Name, things []Thing, kin
 	return steps
 }
 
-var acts = map[advice.Act]Act{advice.Touch: Touch, advice.Copy: Copy, advice.Delete: Delete}
-
 // planOf gives a plan of a name in which what is lost on the way is saved first.
 func planOf(group *forecast.World, hand hand, found *advice.Plan, damaged map[string][]damage.Kind) *Plan {
 	name, plan, judge := &group.Names[hand.place], &Plan{IsAll: found.Answer.IsAll}, newJudge(group, &found.Answer, damaged)
@@ -274,7 +272,7 @@ func planOf(group *forecast.World, hand hand, found *advice.Plan, damaged map[st
 	}
 	plan.Steps = savesOf(group.Devices, name, judge.goesBy(name, byNothing, byUnscanned), nil)
 	for _, step := range found.Steps {
-		next := Step{Act: acts[step.Act], Device: group.Devices[step.Device].ID}
+		next := Step{Act: step.Act, Device: group.Devices[step.Device].ID}
 		if next.Act != Touch && !plan.does(Save, next.Device) && hasBelow(group, step.Device, name.Name) {
 			plan.Steps = append([]Step{{Act: Save, Device: next.Device}}, plan.Steps...)
 		}

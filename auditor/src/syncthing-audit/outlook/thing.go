@@ -35,6 +35,8 @@ type thingAsJSON struct {
 // WordsOfTypes name what things are.
 var WordsOfTypes = map[forecast.Type]string{forecast.File: "file", forecast.Directory: "directory", forecast.Symlink: "symlink"}
 
+var typesOf = map[string]forecast.Type{"file": forecast.File, "directory": forecast.Directory, "symlink": forecast.Symlink}
+
 func (t Thing) MarshalJSON() ([]byte, error) {
 	told := thingAsJSON{Devices: t.Devices, Type: WordsOfTypes[t.Type], Copy: t.IsCopy}
 	switch t.Type {
@@ -51,12 +53,7 @@ func (t *Thing) UnmarshalJSON(text []byte) error {
 	if err := json.Unmarshal(text, &told); err != nil {
 		return err
 	}
-	*t = Thing{Devices: told.Devices, Content: forecast.Content{Hash: told.Content}, Time: forecast.Now, IsCopy: told.Copy}
-	for kind, word := range WordsOfTypes {
-		if word == told.Type {
-			t.Type = kind
-		}
-	}
+	*t = Thing{Devices: told.Devices, Type: typesOf[told.Type], Content: forecast.Content{Hash: told.Content}, Time: forecast.Now, IsCopy: told.Copy}
 	if told.Size != nil {
 		t.Content.Size = *told.Size
 	}

@@ -29,6 +29,11 @@ func (n Names) All(devices []string) string { return n.AsTheyStand(n.Rising(devi
 // AsTheyStand gives several names in the order of the devices.
 func (n Names) AsTheyStand(devices []string) string { return strings.Join(n.Each(devices), ", ") }
 
+// have says that devices have something.
+func (n Names) have(devices []string) string {
+	return n.AsTheyStand(devices) + " " + oneOf(int64(len(devices)), "has", "have")
+}
+
 // Places are devices by what is told of them, in the order in which it comes first.
 type Places struct {
 	told    []string

@@ -50,15 +50,18 @@ func (p *Person) plan(plan *outlook.Plan, number int64) int64 {
 		number++
 		p.Line("    %s. on %s: %s", Thousands(number), p.Called(step.Device), p.step(&step, it, plan))
 	}
-	if plan.Goal != nil {
-		p.Line("    then all devices have what %s now%s%s%s", p.have(plan.Goal.Devices), p.timeOf(plan), p.copies(plan), tried(plan.IsAll))
+	if plan.Goal == nil {
+		return number
 	}
+	told := "then all devices have what " + p.Called.have(plan.Goal.Devices) + " now"
+	if plan.Count == 1 {
+		told += p.modified(*plan.Goal)
+	}
+	if len(plan.Copies) > 0 {
+		told += "; what " + p.Called.have(plan.Copies) + " now is kept as a conflict copy"
+	}
+	p.Line("    %s%s", told, tried(plan.IsAll))
 	return number
-}
-
-// have says that devices have something.
-func (p *Person) have(devices []string) string {
-	return p.Called.AsTheyStand(devices) + " " + oneOf(int64(len(devices)), "has", "have")
 }
 
 // firstOf gives the first of so many names, and how many more there are.
@@ -115,20 +118,6 @@ func howToCopy(step *outlook.Step, it string, plan *outlook.Plan) string {
 	return told
 }
 
-func (p *Person) timeOf(plan *outlook.Plan) string {
-	if plan.Count > 1 {
-		return ""
-	}
-	return p.modified(*plan.Goal)
-}
-
-func (p *Person) copies(plan *outlook.Plan) string {
-	if len(plan.Copies) == 0 {
-		return ""
-	}
-	return "; what " + p.have(plan.Copies) + " now is kept as a conflict copy"
-}
-
 // tried says whether something holds in those orders that were tried.
 func tried(allOrders bool) string {
 	if allOrders {
@@ -161,5 +150,5 @@ func Leads(plan *outlook.Plan, called Names) string {
 	if plan.Goal == nil {
 		return ""
 	}
-	return "all devices then have what " + called.AsTheyStand(plan.Goal.Devices) + " " + oneOf(int64(len(plan.Goal.Devices)), "has", "have") + " now"
+	return "all devices then have what " + called.have(plan.Goal.Devices) + " now"
 }

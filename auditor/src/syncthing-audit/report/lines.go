@@ -69,7 +69,7 @@ func firm(to io.Writer, folder *finding.Folder) {
 		folder.EachLoose(func(failure *finding.Failure) { outside.Printf(to, "not firm: %s\n", ask.Line(folder.ID, failure)) })
 	}
 	for _, unsure := range folder.Unsure() {
-		outside.Printf(to, "%s: %s on %d: %s\n", folder.HowFirm().CallUnsure(), folder.ID, folder.Members[unsure.Member].Number, unsure.Words())
+		outside.Printf(to, "%s: %s on %d: %s\n", folder.HowFirm().CallUnsure(), folder.ID, part.Number(unsure.Device), unsure.Words())
 	}
 }
 

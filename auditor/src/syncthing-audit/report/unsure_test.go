@@ -4,6 +4,7 @@ import (
 	"strings"
 	"testing"
 
+	"github.com/syncthing/syncthing/lib/protocol"
 	"syncthing-audit/finding"
 	"syncthing-audit/join"
 	"syncthing-audit/part"
@@ -13,7 +14,7 @@ import (
 func TestLinesOfWhatMayChangeAFolder(t *testing.T) {
 	loose := &finding.Failure{Reason: finding.VersionDiffers, Name: "a", Device: 1}
 	for told, first := range map[string]*finding.Failure{"not known to be firm": nil, "may change by itself": loose} {
-		device := &join.Device{Number: 2, Head: &part.Head{Look: &part.Look{}}}
+		device := &join.Device{Number: 2, Head: &part.Head{Device: protocol.DeviceID{7: 2}.String(), Look: &part.Look{}}}
 		about := &part.Folder{Rest: &part.Rest{State: "scanning"}}
 		folder := &finding.Folder{ID: "docs", Firmness: finding.Firmness{Asked: true, First: first},
 			Members: []join.Member{{Device: device, About: about, ToIgnore: 3, Linked: &part.Count{Names: 4}}}}

@@ -1,6 +1,8 @@
 package summary
 
 import (
+	"fmt"
+
 	"syncthing-audit/lists"
 	"syncthing-audit/print"
 	"syncthing-audit/shell"
@@ -45,10 +47,22 @@ func (p *printer) file(folder *Folder, file *File) {
 		p.fault(fault)
 	}
 	p.renamed(file)
-	p.same(file)
+	p.entry(file, "")
+}
+
+// entry prints what is so of a name or of each of many, of which the first are told.
+func (p *printer) entry(file *File, first string) {
+	for _, same := range file.Same {
+		p.Line("  the same other bytes on: %s", p.Called.All(same))
+	}
 	p.modes(file.Permissions)
+	if first != "" {
+		p.Line("  the first: %s", first)
+	}
 	p.have(file)
-	p.foretold(file.Foretold)
+	if file.Foretold != "" {
+		p.running("  if nothing is done:", file.Foretold+".")
+	}
 	p.advice(file.Advice)
 }
 
@@ -63,13 +77,8 @@ func (p *printer) group(folder *Folder, group *Group) {
 		faults := lists.Each(group.files, func(file *File) *Fault { return file.Faults[place] })
 		p.Line("  %s: %s%s", p.Called(fault.Device), wordsOfFaults(faults, true), differingInAll(faults))
 	}
-	p.same(group.of)
-	p.modes(group.Modes)
 	first := print.Joined(group.First, " ", func(name Text) string { return shell.Path(string(name)) })
-	p.Line("  the first: %s, and %s more (--lines has all)", first, thousands(group.Names-int64(len(group.First))))
-	p.have(group.of)
-	p.foretold(group.Foretold)
-	p.advice(group.Advice)
+	p.entry(group.of, fmt.Sprintf("%s, and %s more (--lines has all)", first, thousands(group.Names-int64(len(group.First)))))
 }
 
 // differingInAll says how many blocks differ in all names, where these have other bytes on a disk.
@@ -100,13 +109,6 @@ func (p *printer) fault(fault *Fault) {
 		counted(fault.Blocks.Of, "block", "blocks"), fault.Blocks.Size>>10)
 	if fault.Blocks.Recorded != "" && fault.Blocks.Found != "" {
 		p.Line("    the first of them: SHA-256 %s.. recorded, %s.. on the disk", fault.Blocks.Recorded[:8], fault.Blocks.Found[:8])
-	}
-}
-
-// same prints which devices have the same bytes in place of those recorded.
-func (p *printer) same(file *File) {
-	for _, same := range file.Same {
-		p.Line("  the same other bytes on: %s", p.Called.All(same))
 	}
 }
 

@@ -143,8 +143,8 @@ func (f *folding) end() ([]*File, []*Group) {
 // tell gives what is told of these names as one.
 func (g *Group) tell(named print.Names) *Group {
 	many := g.files[0].asMany()
-	g.of, g.Cause, g.Have, g.Modes = many, Permissions, many.Have, many.Permissions
-	g.Foretold, g.Advice = many.tell(named), adviceOf(many, named)
+	many.Foretold, many.Advice = many.tell(named), adviceOf(many, named)
+	g.of, g.Cause, g.Have, g.Modes, g.Foretold, g.Advice = many, Permissions, many.Have, many.Permissions, many.Foretold, many.Advice
 	if len(many.Faults) > 0 {
 		g.Cause = many.Faults[0].Cause
 		g.Deleted = g.Cause == Behind && many.Faults[0].Deletion

@@ -4,7 +4,6 @@ import (
 	"strings"
 	"time"
 
-	"golang.org/x/exp/slices"
 	"syncthing-audit/finding"
 	"syncthing-audit/lists"
 	"syncthing-audit/part"
@@ -26,10 +25,10 @@ func (p *printer) rest(s *Summary) {
 	}
 	p.members(s)
 	for _, left := range s.LeftOut {
-		p.Line("left out: %s: %s", left.called(), left.Why)
+		p.Line("left out: %s: %s", called(left), left.Why)
 	}
 	for _, left := range s.Earlier {
-		p.Line("of another moment: %s of %s: %s", shell.Folder(left.Folder, left.label), left.Device, left.Why)
+		p.Line("of another moment: %s of %s: %s", shell.Folder(left.Folder, left.Label), left.Device, left.Why)
 	}
 	for _, observer := range s.Observers {
 		p.Line("not asked: %s, an observer: it shares %s, keeps no files of it, and sends no records", nameOfObserver(observer), observer.Folder)
@@ -41,9 +40,7 @@ func (p *printer) rest(s *Summary) {
 	}
 	p.doubts(s)
 	p.wentBack(s)
-	p.ages(s)
-	p.unsigned(s)
-	p.untried(s)
+	p.devices(s)
 	p.Line("not compared: %s", strings.Join(s.NotCompared, ", "))
 }
 
@@ -121,13 +118,23 @@ func (p *printer) ofDevices(s *Summary, format string, tell func(device *Device)
 // mostAge is how long ago a device may have been read without that being told.
 const mostAge = 24 * time.Hour
 
-// ages tells which devices were read long ago. Parts can be of one moment by all indexes while bytes on a disk have changed
-// since by themselves.
-func (p *printer) ages(s *Summary) {
+// devices tells which devices were read long ago: parts can be of one moment by all indexes while bytes on a disk have changed since by themselves. It tells
+// whose parts anybody may have made who could write them, and which devices have another version of Syncthing than those with which this program was tried.
+func (p *printer) devices(s *Summary) {
 	p.ofDevices(s, "read more than a day ago: %s; what changed on a disk since isn't seen", func(device *Device) (string, bool) {
 		return " " + p.When(device.Read), !device.Read.IsZero() && p.now.Sub(device.Read) > mostAge
 	})
+	unsigned := lists.Where(s.Devices, func(device Device) bool { return device.IsUnsigned })
+	p.ofDevices(s, "not signed: "+counted(int64(len(unsigned)), "part", "parts")+" of %s. No signature was checked, so whoever could write a part may have said this for its device (--allowed-signers FILE checks)",
+		func(device *Device) (string, bool) { return "", device.IsUnsigned })
+	p.ofDevices(s, "not tried with such a Syncthing: %s; it was with %s", func(device *Device) (string, bool) {
+		isTried := lists.Has(tried, func(version string) bool { return strings.HasPrefix(device.Runs, "v"+version+".") })
+		return " " + shell.Printable(device.Runs), device.Runs != "" && !isTried
+	}, strings.Join(tried, " and "))
 }
+
+// tried are the versions of Syncthing with which this program was tried.
+var tried = []string{"1.19", "1.29"}
 
 // doubts tells of which devices another index may have been read than Syncthing's present one, or one with a fault.
 func (p *printer) doubts(s *Summary) {
@@ -146,17 +153,6 @@ func (p *printer) doubts(s *Summary) {
 				"should there, whatever its page shows, and records may be missing here. Start it there, let it finish, and audit again", p.Called(device.ID))
 		}
 	}
-}
-
-// tried are the versions of Syncthing with which this program was tried.
-var tried = []string{"1.19", "1.29"}
-
-// untried tells which devices have another version of Syncthing than those.
-func (p *printer) untried(s *Summary) {
-	p.ofDevices(s, "not tried with such a Syncthing: %s; it was with %s", func(device *Device) (string, bool) {
-		isTried := slices.IndexFunc(tried, func(version string) bool { return strings.HasPrefix(device.Runs, "v"+version+".") }) >= 0
-		return " " + shell.Printable(device.Runs), device.Runs != "" && !isTried
-	}, strings.Join(tried, " and "))
 }
 
 // copies prints the conflict copies that lie about.
@@ -265,13 +261,6 @@ func (p *printer) left(names *finding.LeftOut) {
 		}
 		return why
 	}))
-}
-
-// unsigned tells whose parts anybody may have made who could write them.
-func (p *printer) unsigned(s *Summary) {
-	unsigned := lists.Where(s.Devices, func(device Device) bool { return device.IsUnsigned })
-	p.ofDevices(s, "not signed: "+counted(int64(len(unsigned)), "part", "parts")+" of %s. No signature was checked, so whoever could write a part may have said this for its device (--allowed-signers FILE checks)",
-		func(device *Device) (string, bool) { return "", device.IsUnsigned })
 }
 
 // stopped prints on which devices, of those that were looked at twice, no Syncthing ran.

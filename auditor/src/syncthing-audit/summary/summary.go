@@ -107,7 +107,7 @@ type Folder struct {
 	Firm    Firm               `json:"firm"`
 	Loose   int64              `json:"names_not_firm"`           // that keep a folder in step from being firm
 	NotFirm []Loose            `json:"not_firm"`                 // the first of these names
-	Unsure  []Unsure           `json:"not_known_firm,omitempty"` // what may change a folder in step that is otherwise firm
+	Unsure  []finding.Unsure   `json:"not_known_firm,omitempty"` // what may change a folder in step that is otherwise firm
 
 	Converging finding.Converging `json:"converging,omitempty"`     // of a folder not in step: whether its records lead to one end
 	Hindrance  *Hindrance         `json:"not_converging,omitempty"` // the first thing that hinders it, in syncaudit's words
@@ -156,24 +156,18 @@ func memberOf(member join.Member) Member {
 // Count is of names that aren't listed: of those that .stignore keeps out of the folder everywhere, or of further ones.
 type Count = part.Count
 
-// LeftOut is a device that was left out of a folder.
-type LeftOut struct {
-	Folder string `json:"folder"`
-	Device string `json:"device"`
-	Kind   string `json:"kind"`
-	Why    string `json:"why"`
-	label  string // of the folder
-}
+// LeftOut is a device that was left out of a folder, or a folder as a whole.
+type LeftOut = finding.Refusal
 
 // called names what was left out for a person: a device of a folder, a folder as a whole, or a device whose folders aren't known.
-func (l LeftOut) called() string {
+func called(left LeftOut) string {
 	switch {
-	case l.Folder == "":
-		return l.Device
-	case l.Device == "":
-		return shell.Folder(l.Folder, l.label)
+	case left.Folder == "":
+		return left.Device
+	case left.Device == "":
+		return shell.Folder(left.Folder, left.Label)
 	}
-	return shell.Folder(l.Folder, l.label) + " of " + l.Device
+	return shell.Folder(left.Folder, left.Label) + " of " + left.Device
 }
 
 // notCompared is what no audit compares.
@@ -181,7 +175,7 @@ var notCompared = []string{"owners", "extended attributes", "old versions"}
 
 // Of gives the summary of an answer.
 func Of(answer *finding.Answer) *Summary {
-	summary := &Summary{Version: Version, Verdict: verdictOf(answer), Firm: answer.HowFirm(), Devices: []Device{}, Folders: []*Folder{}, LeftOut: []LeftOut{},
+	summary := &Summary{Version: Version, Verdict: verdictOf(answer), Firm: answer.HowFirm(), Devices: []Device{}, Folders: []*Folder{}, LeftOut: append([]LeftOut{}, answer.LeftOut...), Earlier: answer.Earlier,
 		NotAsked: []NotAsked{}, NotTold: []string{}, NotCompared: notCompared, Observers: answer.Observers, isByName: answer.IsByName, byNames: answer.ByNames}
 	asked := askedOf(answer)
 	for _, device := range answer.Devices {
@@ -205,12 +199,6 @@ func Of(answer *finding.Answer) *Summary {
 		folder.Files, folder.Groups = names[place].end()
 	}
 	summary.First = summary.firstOf(named)
-	for _, refusal := range answer.LeftOut {
-		summary.LeftOut = append(summary.LeftOut, LeftOut{refusal.Folder, refusal.Device, refusal.Kind, refusal.Why, refusal.Label})
-	}
-	for _, refusal := range answer.Earlier {
-		summary.Earlier = append(summary.Earlier, LeftOut{refusal.Folder, refusal.Device, refusal.Kind, refusal.Why, refusal.Label})
-	}
 	return summary
 }
 

@@ -214,13 +214,6 @@ func (p *printer) modes(all []Mode) {
 	}))
 }
 
-// foretold prints what becomes of a name if nobody does anything.
-func (p *printer) foretold(told string) {
-	if told != "" {
-		p.running("  if nothing is done:", told+".")
-	}
-}
-
 // advice prints what to do, over as many lines as it takes.
 func (p *printer) advice(all []string) {
 	for _, word := range all {

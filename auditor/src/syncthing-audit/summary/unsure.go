@@ -7,18 +7,11 @@ import (
 	"syncthing-audit/shell"
 )
 
-// Unsure is something at a device that may change a folder in step, and that no record shows.
-type Unsure struct {
-	Device string `json:"device"`
-	Kind   string `json:"kind"`
-	Why    string `json:"why"`
-	Names  int64  `json:"names,omitempty"`
-}
-
-// unsureOf gives what may change a folder in step.
-func unsureOf(from *finding.Folder) []Unsure {
-	return lists.Each(from.Unsure(), func(unsure finding.Unsure) Unsure {
-		return Unsure{from.Members[unsure.Member].Head.Device, unsure.Kind, whyUnsure(unsure), unsure.Names}
+// unsureOf gives what may change a folder in step, and that no record shows, with words for each.
+func unsureOf(from *finding.Folder) []finding.Unsure {
+	return lists.Each(from.Unsure(), func(unsure finding.Unsure) finding.Unsure {
+		unsure.Why = whyUnsure(unsure)
+		return unsure
 	})
 }
 
