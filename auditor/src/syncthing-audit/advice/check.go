@@ -7,7 +7,7 @@ import (
 
 // Check gives the plan of these steps if each of its ends is the goal, and it is safe from the top; nothing if not.
 func (s Search) Check(world forecast.World, goal Goal, steps []Step) *Plan {
-	t := task{Search: s, world: world, goal: goal, before: onDisks(&world), unavoidable: contents{}}
+	t := task{Search: s, world: world, goal: goal, before: OnDisks(world.Names), unavoidable: Contents{}}
 	t.before.lostIn(s.answer(world).Ends, t.unavoidable)
 	for _, step := range steps {
 		if !t.mayTake(step) {
@@ -35,7 +35,7 @@ func (t *task) mayTake(step Step) bool {
 // Together gives the plan of these steps if each of its ends is all these goals, and it is safe from the top. Else it gives the goals that aren't
 // reached at some end; none where it is for another reason.
 func (s Search) Together(world forecast.World, goals []Goal, steps []Step) (*Plan, []Goal) {
-	t := task{Search: s, world: world, before: onDisks(&world), unavoidable: contents{}}
+	t := task{Search: s, world: world, before: OnDisks(world.Names), unavoidable: Contents{}}
 	plan := t.comesOf(steps)
 	if plan == nil {
 		return nil, nil

@@ -13,15 +13,15 @@ type plainly struct {
 	isThere  bool     // what each step touches or copies stands on a disk now, and has room
 	isKnown  bool     // all ends are known
 	missed   []Goal   // that some end isn't
-	lost     contents // at some end
-	anyway   contents // lost if nobody does anything
+	lost     Contents // at some end
+	anyway   Contents // lost if nobody does anything
 	isUnsafe bool     // whoever stops on the way loses more
 }
 
 // plainlyOf gives nothing where a step needs what a step before it took away: no list of steps is such.
 func plainlyOf(search Search, world forecast.World, goals []Goal, steps []Step) *plainly {
 	told, so := &plainly{isThere: true, anyway: lostPlainly(world, search.answer(world).Ends)}, world.Copied()
-	var onTheWay []contents
+	var onTheWay []Contents
 	for _, step := range steps {
 		from := map[Act]int{Touch: step.Device, Copy: step.From}
 		if place, needs := from[step.Act]; needs && world.At(place, step.Name) == nil {
@@ -57,8 +57,8 @@ func plainlyOf(search Search, world forecast.World, goals []Goal, steps []Step) 
 }
 
 // lostPlainly gives the bytes of a world's disks that some end has nowhere.
-func lostPlainly(world forecast.World, ends []forecast.End) contents {
-	lost := contents{}
+func lostPlainly(world forecast.World, ends []forecast.End) Contents {
+	lost := Contents{}
 	for _, name := range world.Names {
 		for _, what := range name.Disk {
 			for place := range ends {

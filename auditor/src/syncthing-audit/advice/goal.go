@@ -46,14 +46,14 @@ func isSame(a, b *forecast.Node) bool {
 	return a.Type == b.Type && a.Content == b.Content && a.Target == b.Target
 }
 
-// contents are sets of files' bytes.
-type contents map[forecast.Content]bool
+// Contents are sets of files' bytes.
+type Contents map[forecast.Content]bool
 
-// onDisks gives the bytes that a world has on disks.
-func onDisks(world *forecast.World) contents {
-	found := contents{}
-	for place := range world.Names {
-		for _, what := range world.Names[place].Disk {
+// OnDisks gives the bytes that some names have on disks.
+func OnDisks(names []forecast.Name) Contents {
+	found := Contents{}
+	for place := range names {
+		for _, what := range names[place].Disk {
 			if what != nil && what.Content.Size > 0 {
 				found[what.Content] = true
 			}
@@ -63,7 +63,7 @@ func onDisks(world *forecast.World) contents {
 }
 
 // lostIn adds the bytes that stand on no disk at some end.
-func (c contents) lostIn(ends []forecast.End, lost contents) {
+func (c Contents) lostIn(ends []forecast.End, lost Contents) {
 	for _, end := range ends {
 		left := end.Contents()
 		for content := range c {
@@ -75,9 +75,9 @@ func (c contents) lostIn(ends []forecast.End, lost contents) {
 }
 
 // isWithin says whether all of these are among others.
-func (c contents) isWithin(others ...contents) bool {
+func (c Contents) isWithin(others ...Contents) bool {
 	for content := range c {
-		if !lists.Has(others, func(other contents) bool { return other[content] }) {
+		if !lists.Has(others, func(other Contents) bool { return other[content] }) {
 			return false
 		}
 	}

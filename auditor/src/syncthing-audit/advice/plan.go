@@ -42,7 +42,7 @@ type Search struct {
 
 // Plans gives the shortest plans of a goal, the ones that lose least first: nothing if there is none. The world's names must hang together.
 func (s Search) Plans(world forecast.World, goal Goal) []Plan {
-	t := task{Search: s, world: world, goal: goal, before: onDisks(&world), unavoidable: contents{}}
+	t := task{Search: s, world: world, goal: goal, before: OnDisks(world.Names), unavoidable: Contents{}}
 	t.before.lostIn(s.answer(world).Ends, t.unavoidable)
 	for count := 0; count <= MostSteps; count++ {
 		var plans []Plan
@@ -63,8 +63,8 @@ type task struct {
 	Search
 	world       forecast.World
 	goal        Goal
-	before      contents // on disks now
-	unavoidable contents // what is lost if nobody does anything
+	before      Contents // on disks now
+	unavoidable Contents // what is lost if nobody does anything
 }
 
 func (s Search) answer(world forecast.World) forecast.Answer {
@@ -145,7 +145,7 @@ func (t *task) comesOf(steps []Step) *Plan {
 	if len(plan.Answer.Ends) == 0 || plan.Answer.Endless > 0 {
 		return nil
 	}
-	lost := contents{}
+	lost := Contents{}
 	t.before.lostIn(plan.Answer.Ends, lost)
 	for content := range lost {
 		plan.Lost = append(plan.Lost, content)
@@ -159,13 +159,13 @@ const mostStops = 8
 
 // isSafe says whether one may stop after each step: nothing is lost then but what the plan loses, or what is lost without it.
 func (t *task) isSafe(steps []Step, lost []forecast.Content) bool {
-	allowed := contents{}
+	allowed := Contents{}
 	for _, content := range lost {
 		allowed[content] = true
 	}
 	apart := 1 + (len(steps)-1)/(mostStops+1)
 	for count := 1; count < len(steps); count += apart {
-		onTheWay := contents{}
+		onTheWay := Contents{}
 		t.before.lostIn(t.answer(t.after(steps[:count])).Ends, onTheWay)
 		if !onTheWay.isWithin(allowed, t.unavoidable) {
 			return false

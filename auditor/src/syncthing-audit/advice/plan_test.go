@@ -115,18 +115,18 @@ func TestPlansAreSafeFromTheTop(t *testing.T) {
 
 // checkPlans looks at what is left after each step of each plan, and gives how many plans have more than one.
 func checkPlans(t *testing.T, search Search, of forecast.World, goal Goal) (long int) {
-	nothing := contents{}
-	onDisks(&of).lostIn(search.answer(of).Ends, nothing)
+	nothing := Contents{}
+	OnDisks(of.Names).lostIn(search.answer(of).Ends, nothing)
 	for _, plan := range search.Plans(of, goal) {
-		lost := contents{}
+		lost := Contents{}
 		for _, content := range plan.Lost {
 			lost[content] = true
 		}
 		so := of.Copied()
 		for place, step := range plan.Steps {
 			step.On(&so, present)
-			left := contents{}
-			onDisks(&of).lostIn(search.answer(so).Ends, left)
+			left := Contents{}
+			OnDisks(of.Names).lostIn(search.answer(so).Ends, left)
 			if !left.isWithin(lost, nothing) {
 				t.Errorf("%+v, step %d of %+v: lost %v", goal, place, plan.Steps, left)
 			}

@@ -157,11 +157,11 @@ func TestAFileIsCopiedOverADirectory(t *testing.T) {
 	below.Name = "a/b"
 	below.Disk[1].Content.Size = 1
 	made.Names = append(made.Names, below)
-	if bytes := onDisks(&made); len(bytes) != 2 || !bytes[below.Disk[1].Content] {
+	if bytes := OnDisks(made.Names); len(bytes) != 2 || !bytes[below.Disk[1].Content] {
 		t.Errorf("%+v", bytes)
 	}
 	Step{Copy, 1, 0, "a"}.On(&made, present)
-	if there := made.At(1, "a"); there == nil || *there != *file || made.At(1, "a/b") != nil || len(onDisks(&made)) != 1 {
+	if there := made.At(1, "a"); there == nil || *there != *file || made.At(1, "a/b") != nil || len(OnDisks(made.Names)) != 1 {
 		t.Errorf("%+v, %+v", there, made.At(1, "a/b"))
 	}
 }

@@ -33,3 +33,27 @@ func AtMost[Item any](most int, list []Item) []Item {
 	}
 	return list
 }
+
+// Grouped has groups by their keys, in the order in which these came first.
+type Grouped[Key comparable, Group any] struct {
+	Keys []Key
+	of   map[Key]*Group
+}
+
+// Has says whether a key has a group.
+func (g *Grouped[Key, Group]) Has(key Key) bool { return g.of[key] != nil }
+
+// Of gives the group of a key: an empty one where it had none.
+func (g *Grouped[Key, Group]) Of(key Key) *Group {
+	if g.of == nil {
+		g.of = map[Key]*Group{}
+	}
+	if g.of[key] == nil {
+		g.of[key] = new(Group)
+		g.Keys = append(g.Keys, key)
+	}
+	return g.of[key]
+}
+
+// All gives the groups.
+func (g *Grouped[Key, Group]) All() []*Group { return Each(g.Keys, g.Of) }

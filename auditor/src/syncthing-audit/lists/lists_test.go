@@ -23,3 +23,17 @@ func TestLists(t *testing.T) {
 		}
 	}
 }
+
+// Groups have the order of their first keys, and a key that was only looked for has none.
+func TestGroups(t *testing.T) {
+	groups := Grouped[string, int]{}
+	if groups.Has("b") || len(groups.All()) > 0 {
+		t.Error("there is a group of nothing")
+	}
+	for _, key := range []string{"b", "a", "b"} {
+		*groups.Of(key)++
+	}
+	if all := groups.All(); fmt.Sprint(groups.Keys) != "[b a]" || len(all) != 2 || *all[0] != 2 || *all[1] != 1 || !groups.Has("a") || groups.Has("c") {
+		t.Error(groups.Keys)
+	}
+}

@@ -41,8 +41,7 @@ type Loss struct {
 type choices struct {
 	forecaster *forecast.Forecaster
 	damage     map[string][]damage.Kind
-	found      map[chosen]*Choice
-	order      []chosen
+	all        lists.Grouped[chosen, Choice]
 }
 
 // chosen is what is chosen on a device.
@@ -52,7 +51,7 @@ type chosen struct {
 }
 
 func newChoices(forecaster *forecast.Forecaster, damaged map[string][]damage.Kind) *choices {
-	return &choices{forecaster: forecaster, damage: damaged, found: map[chosen]*Choice{}}
+	return &choices{forecaster: forecaster, damage: damaged}
 }
 
 // take takes a group with what becomes of its names if nobody does anything.
@@ -99,10 +98,9 @@ func keeps(told []Name, device string, why forecast.Why) bool {
 
 // add counts what a choice does to a group.
 func (c *choices) add(group *forecast.World, told []Name, before *judge, step chosen) {
-	choice := c.found[step]
-	if choice == nil {
-		choice = &Choice{Act: step.act, Device: group.Devices[step.member].ID, Loses: []Loss{}, IsAll: true}
-		c.found[step], c.order = choice, append(c.order, step)
+	choice := c.all.Of(step)
+	if choice.Act == "" {
+		*choice = Choice{Act: step.act, Device: group.Devices[step.member].ID, Loses: []Loss{}, IsAll: true}
 	}
 	answer := c.after(group, step)
 	if answer.IsOver || len(answer.Ends) == 0 || answer.Endless > 0 {
@@ -158,9 +156,8 @@ func note(listed *[]Loss, count *int64, name part.Bytes, goes []Thing) {
 	}
 }
 
-// all gives them in the order of their devices.
-func (c *choices) all() []*Choice {
-	sort.SliceStable(c.order, func(a, b int) bool { return c.order[a].member < c.order[b].member })
-	choices := lists.Each(c.order, func(step chosen) *Choice { return c.found[step] })
-	return lists.Where(choices, func(choice *Choice) bool { return choice.Names+choice.Unknown > 0 })
+// byDevices gives them in the order of their devices.
+func (c *choices) byDevices() []*Choice {
+	sort.SliceStable(c.all.Keys, func(a, b int) bool { return c.all.Keys[a].member < c.all.Keys[b].member })
+	return lists.Where(c.all.All(), func(choice *Choice) bool { return choice.Names+choice.Unknown > 0 })
 }

@@ -3,6 +3,7 @@ package outlook
 import (
 	"fmt"
 
+	"golang.org/x/exp/maps"
 	"golang.org/x/exp/slices"
 	"syncthing-audit/damage"
 	"syncthing-audit/forecast"
@@ -95,7 +96,7 @@ func (j *judge) keptOf(name *forecast.Name) []Kept {
 	found := map[int]forecast.Why{}
 	for place, end := range j.ends {
 		kept := j.kept[place][name.Name]
-		if isOne(end[name.Name], len(name.Disk)) && !isStuck(&j.answer.Ends[place], name.Name) && !hasUnseen(kept) {
+		if isOne(end[name.Name], len(name.Disk)) && !isStuck(&j.answer.Ends[place], name.Name) && !slices.Contains(maps.Values(kept), forecast.NotSeen) {
 			continue
 		}
 		for member, why := range kept {
@@ -117,15 +118,6 @@ func (j *judge) keptOf(name *forecast.Name) []Kept {
 		}
 	}
 	return all
-}
-
-func hasUnseen(kept map[int]forecast.Why) bool {
-	for _, why := range kept {
-		if why == forecast.NotSeen {
-			return true
-		}
-	}
-	return false
 }
 
 // isOne says whether one thing stands at a name on all devices, or nothing on each.

@@ -251,7 +251,7 @@ func (t *teller) end() *Outlook {
 		sort.Slice(groups, func(a, b int) bool { return groups[a].isBefore(&groups[b]) })
 	}
 	sort.SliceStable(outlook.Listed, func(a, b int) bool { return outlook.Listed[a].isBefore(&outlook.Listed[b]) })
-	outlook.Plans, outlook.Choices = plansOf(outlook.Listed), t.choices.all()
+	outlook.Plans, outlook.Choices = plansOf(outlook.Listed), t.choices.byDevices()
 	if len(outlook.Listed) > MostListed {
 		outlook.Listed = outlook.Listed[:MostListed]
 	}

@@ -311,7 +311,7 @@ func (j *judge) isCopyAtAll(name string, thing Thing) bool {
 // plansOf brings names with the same plan together, in their order. Directories come first, those above others before these: nothing is copied below one that
 // isn't there.
 func plansOf(listed []Name) []*Plan {
-	byKey, ofName, plans := map[string]*Plan{}, map[string]*Plan{}, []*Plan{}
+	byKey, ofName := lists.Grouped[string, Plan]{}, map[string]*Plan{}
 	for place := range listed {
 		plan := listed[place].Plan
 		if plan == nil || len(plan.Steps) == 0 {
@@ -321,11 +321,10 @@ func plansOf(listed []Name) []*Plan {
 		if plan.Goal != nil {
 			key += fmt.Sprint(plan.Goal.Devices)
 		}
-		all := byKey[key]
-		if all == nil {
-			first := *plan
-			all, first.Below = &first, 0
-			byKey[key], plans = all, append(plans, all)
+		all := byKey.Of(key)
+		if all.Count == 0 {
+			*all = *plan
+			all.Below = 0
 		}
 		all.Count++
 		all.Below += plan.Below
@@ -339,6 +338,7 @@ func plansOf(listed []Name) []*Plan {
 			ofName[plan.by].Below++
 		}
 	}
+	plans := byKey.All()
 	sort.SliceStable(plans, func(a, b int) bool { return plans[a].depthOf(plans[a].Names[0]) < plans[b].depthOf(plans[b].Names[0]) })
 	return plans
 }

@@ -64,12 +64,7 @@ func (r *repair) losesNothing(found *advice.Plan) bool {
 			}
 		}
 	}
-	for _, content := range found.Costs {
-		if !allowed[content] {
-			return false
-		}
-	}
-	return true
+	return !lists.Has(found.Costs, func(content forecast.Content) bool { return !allowed[content] })
 }
 
 // isRot says whether a file has other bytes than recorded under the recorded time.

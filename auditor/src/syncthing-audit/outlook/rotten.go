@@ -1,18 +1,15 @@
 package outlook
 
-import "syncthing-audit/forecast"
+import (
+	"syncthing-audit/advice"
+	"syncthing-audit/forecast"
+	"syncthing-audit/lists"
+)
 
 // losesOthers says whether a plan of these names loses bytes that stand under other names alone, and stay if nobody does anything; and under which names
 // other bytes than recorded stand, that no scan sees, of which that is so. These may go once they are saved.
 func losesOthers(group *forecast.World, hands []hand, taken []forecast.Content, lost map[forecast.Content]bool) (rotten []rottenAt, is bool) {
-	own := map[forecast.Content]bool{}
-	for _, hand := range hands {
-		for _, what := range group.Names[hand.place].Disk {
-			if what != nil {
-				own[what.Content] = true
-			}
-		}
-	}
+	own := advice.OnDisks(lists.Each(hands, func(hand hand) forecast.Name { return group.Names[hand.place] }))
 	for _, content := range taken {
 		if own[content] || lost[content] {
 			continue

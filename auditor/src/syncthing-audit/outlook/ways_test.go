@@ -7,6 +7,7 @@ import (
 	"syncthing-audit/damage"
 	"syncthing-audit/forecast"
 	"syncthing-audit/forecast/read"
+	"syncthing-audit/lists"
 	"syncthing-audit/part"
 )
 
@@ -261,16 +262,15 @@ func TestChoicesNobodyKnows(t *testing.T) {
 	choices.forecaster.OfGroup(world.Devices, world.Copied().Names)
 	choices.add(&world, []Name{{Name: "a"}}, nil, chosen{Revert, 1})
 	choices.add(&world, []Name{{Name: "b"}, {Name: "c"}}, nil, chosen{Revert, 1})
-	if all := choices.all(); len(all) != 1 || all[0].Unknown != 3 || all[0].Names != 0 || all[0].Device != idOf(1) {
+	if all := choices.byDevices(); len(all) != 1 || all[0].Unknown != 3 || all[0].Names != 0 || all[0].Device != idOf(1) {
 		t.Errorf("%+v", all)
 	}
-	choices.found, choices.order = map[chosen]*Choice{}, nil
+	choices.all = lists.Grouped[chosen, Choice]{}
 	for place, step := range []chosen{{Both, 31}, {Revert, 0}, {Override, 1}, {Both, 0}} {
-		choices.order = append(choices.order, step)
-		choices.found[step] = &Choice{Act: step.act, Device: idOf(step.member), Names: int64(place % 2), Unknown: int64(place % 3)}
+		*choices.all.Of(step) = Choice{Act: step.act, Device: idOf(step.member), Names: int64(place % 2), Unknown: int64(place % 3)}
 	}
 	var order []chosen
-	for _, choice := range choices.all() {
+	for _, choice := range choices.byDevices() {
 		order = append(order, chosen{choice.Act, memberOf(choice.Device)})
 	}
 	if due := []chosen{{Revert, 0}, {Both, 0}, {Override, 1}}; !reflect.DeepEqual(order, due) {

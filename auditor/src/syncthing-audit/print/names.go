@@ -36,34 +36,26 @@ func (n Names) have(devices []string) string {
 
 // Places are devices by what is told of them, in the order in which it comes first.
 type Places struct {
-	told    []string
-	devices map[string][]string
+	lists.Grouped[string, []string]
 }
 
 // Add adds a device of which something is told; no device where it is told of all.
 func (p *Places) Add(told, device string) {
-	if p.devices == nil {
-		p.devices = map[string][]string{}
-	}
-	p.told = AddOnce(p.told, told)
-	if device != "" {
-		p.devices[told] = AddOnce(p.devices[told], device)
+	if devices := p.Of(told); device != "" {
+		*devices = AddOnce(*devices, device)
 	}
 }
 
-// Count counts what is told.
-func (p *Places) Count() int64 { return int64(len(p.told)) }
-
 // Each says what is told, with the names of the devices, rising.
 func (p *Places) Each(named Names, say func(told, devices string)) {
-	for _, told := range p.told {
-		say(told, named.All(p.devices[told]))
+	for _, told := range p.Keys {
+		say(told, named.All(*p.Of(told)))
 	}
 }
 
 // Joined gives what is said so as one text.
 func (p *Places) Joined(named Names, say func(told, devices string) string) string {
-	return Joined(p.told, "; ", func(told string) string { return say(told, named.All(p.devices[told])) })
+	return Joined(p.Keys, "; ", func(told string) string { return say(told, named.All(*p.Of(told))) })
 }
 
 // AddOnce adds a text that isn't there yet.

@@ -10,19 +10,13 @@ import (
 // alone: so what one of them tells to do first counts for all others.
 type actions struct {
 	entries int
-	safe    map[string]bool         // the devices on which some entry tells to do something before Syncthing starts or scans there
-	wrong   map[wrongAt]*wrongNames // of which names that is told above all entries
-	waits   map[string]*waiting     // what no scan has seen there
+	safe    map[string]bool     // the devices on which some entry tells to do something before Syncthing starts or scans there
+	wrong   map[wrongAt]*First  // of which names that is told above all entries
+	waits   map[string]*waiting // what no scan has seen there
 }
 
 // wrongAt is why names on a device are told above all entries.
 type wrongAt struct{ why, device string }
-
-// wrongNames counts them.
-type wrongNames struct {
-	names   int64
-	folders []string
-}
 
 // note notes what the entry of a folder's name tells to do.
 func (a *actions) note(file *File, folder string) {
@@ -33,9 +27,9 @@ func (a *actions) note(file *File, folder string) {
 	for _, fault := range file.Faults {
 		at := wrongAt{file.whyFirst(fault), fault.Device}
 		if a.wrong[at] == nil {
-			a.wrong[at] = &wrongNames{}
+			a.wrong[at] = &First{Why: at.why, Devices: []string{at.device}}
 		}
-		a.wrong[at].names++
+		a.wrong[at].Names++
 		a.wrong[at].folders = print.AddOnce(a.wrong[at].folders, folder)
 	}
 }

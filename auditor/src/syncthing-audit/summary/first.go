@@ -13,6 +13,7 @@ type First struct {
 	Devices []string `json:"devices"`
 	Names   int64    `json:"names,omitempty"` // how many names it is about, where these are counted
 	Text    string   `json:"text"`
+	folders []string // that have these names
 }
 
 // Why something comes first, in the order in which it is told.
@@ -36,7 +37,8 @@ func (s *Summary) firstOf(named print.Names) []First {
 	for _, why := range []string{isLonger, isDamaged, isMissing} {
 		for _, device := range s.Devices {
 			if wrong := s.actions.wrong[wrongAt{why, device.ID}]; wrong != nil {
-				lines = append(lines, First{why, []string{device.ID}, wrong.names, "first, on " + named(device.ID) + ": " + wrong.words(why)})
+				wrong.Text = "first, on " + named(device.ID) + ": " + wrong.words()
+				lines = append(lines, *wrong)
 			}
 		}
 	}
@@ -44,15 +46,15 @@ func (s *Summary) firstOf(named print.Names) []First {
 }
 
 // words say what is to be done about them.
-func (w *wrongNames) words(why string) string {
-	switch why {
+func (f *First) words() string {
+	switch f.Why {
 	case isLonger:
-		return counted(w.names, "file has", "files have") + " more bytes than recorded, or other ones than recorded zeros, under the recorded time. " +
+		return counted(f.Names, "file has", "files have") + " more bytes than recorded, or other ones than recorded zeros, under the recorded time. " +
 			"Keep a copy outside the folder before Syncthing starts or scans there"
 	case isDamaged:
-		return counted(w.names, "file looks", "files look") + " damaged, not edited. Do what is said of that below before Syncthing starts or scans there"
+		return counted(f.Names, "file looks", "files look") + " damaged, not edited. Do what is said of that below before Syncthing starts or scans there"
 	}
-	return "see that the disk of " + strings.Join(w.folders, ", ") + " is mounted before Syncthing starts or scans there: " + counted(w.names, "name is", "names are") + " missing"
+	return "see that the disk of " + strings.Join(f.folders, ", ") + " is mounted before Syncthing starts or scans there: " + counted(f.Names, "name is", "names are") + " missing"
 }
 
 // firstScans tells on which devices a scan or a pull was under way: no later step keeps back what a scan found already.

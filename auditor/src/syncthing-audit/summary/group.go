@@ -75,13 +75,12 @@ const mostKinds = 1000
 // folding takes the names of a folder, rising. It tells many names with the same fault as one.
 type folding struct {
 	named print.Names
-	to    *actions          // of all entries
-	wrong int64             // names with faults
-	modes int64             // names of which the permissions alone differ
-	alike map[string]*Group // names of which the very same is told, by their keys
-	keys  []string          // in the order of their first names
-	kinds int               // how many of them may be told as one
-	name  string            // of the folder, for a person
+	to    *actions                     // of all entries
+	wrong int64                        // names with faults
+	modes int64                        // names of which the permissions alone differ
+	alike lists.Grouped[string, Group] // names of which the very same is told
+	kinds int                          // how many of these may be told as one
+	name  string                       // of the folder, for a person
 }
 
 // take takes the next name.
@@ -95,18 +94,14 @@ func (f *folding) take(file *File) {
 	file.Same = sameOtherBytes(file.Faults)
 	f.to.note(file, f.name)
 	isAlike, key := file.canBeTold(), f.keyOf(file)
-	if !file.hasDetails && (!isAlike || f.alike[key] == nil && f.kinds >= mostKinds) {
+	if !file.hasDetails && (!isAlike || !f.alike.Has(key) && f.kinds >= mostKinds) {
 		file.shorten()
 		isAlike, key = true, f.keyOf(file)
 	}
-	if f.alike[key] == nil {
-		f.alike[key] = &Group{}
-		f.keys = append(f.keys, key)
-		if isAlike {
-			f.kinds++
-		}
+	if isAlike && !f.alike.Has(key) {
+		f.kinds++
 	}
-	file.among = f.alike[key]
+	file.among = f.alike.Of(key)
 	file.among.take(file, isAlike)
 }
 
@@ -125,8 +120,8 @@ func (g *Group) take(file *File, canBeFolded bool) {
 // end gives what is told name by name, rising, and what is told of many at once.
 func (f *folding) end() ([]*File, []*Group) {
 	files, groups := []*File{}, []*Group{}
-	for _, key := range f.keys {
-		if group := f.alike[key]; group.isFolded {
+	for _, group := range f.alike.All() {
+		if group.isFolded {
 			groups = append(groups, group.tell(f.named))
 		} else {
 			files = append(files, group.files...)

@@ -110,12 +110,8 @@ func (p *printer) movingNames(folder *Folder, live *finding.Live) {
 
 // whyMoved says what changed of a name on a device, or how it waits there.
 func (p *printer) whyMoved(folder *Folder, at finding.Moved) string {
-	words := []string{}
-	for _, word := range at.Why {
-		if word != part.MovedUnscanned || at.Waits == "" {
-			words = append(words, wordsOfMoved[word])
-		}
-	}
+	why := lists.Where(at.Why, func(word string) bool { return word != part.MovedUnscanned || at.Waits == "" })
+	words := lists.Each(why, func(word string) string { return wordsOfMoved[word] })
 	if at.Waits != "" {
 		words = append(words, p.wordsOfWaiting(folder, at))
 	}

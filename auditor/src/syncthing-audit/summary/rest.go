@@ -211,22 +211,17 @@ const mostLeft = 5
 
 // leftByReasons prints names that were left out: of those for the same on the same devices the first ones.
 func (p *printer) leftByReasons(all []*finding.LeftOut) {
-	told, more, keys := map[string]int{}, map[string]finding.Count{}, []string{}
+	told, more := map[string]int{}, lists.Grouped[string, finding.Count]{}
 	for _, names := range all {
 		key := p.kindsOf(names)
 		if told[key]++; told[key] <= mostLeft {
 			p.left(names)
-			continue
+		} else {
+			more.Of(key).Add(names.Names, names.Bytes)
 		}
-		if told[key] == mostLeft+1 {
-			keys = append(keys, key)
-		}
-		count := more[key]
-		count.Add(names.Names, names.Bytes)
-		more[key] = count
 	}
-	for _, key := range keys {
-		p.Line("  and %s more, %s: %s (--lines has them)", counted(more[key].Names, "name", "names"), size(more[key].Bytes), key)
+	for _, key := range more.Keys {
+		p.Line("  and %s more, %s: %s (--lines has them)", counted(more.Of(key).Names, "name", "names"), size(more.Of(key).Bytes), key)
 	}
 }
 

@@ -27,7 +27,7 @@ func (s *Summary) Remember(since *history.Since) {
 		}
 	}
 	from := s.Called().All(on)
-	s.First = append([]First{{isChanged, on, since.Takes, "first, on all devices but " + from + ": copy elsewhere what the history names above (" + counted(since.Takes, "file", "files") + "), " +
+	s.First = append([]First{{Why: isChanged, Devices: on, Names: since.Takes, Text: "first, on all devices but " + from + ": copy elsewhere what the history names above (" + counted(since.Takes, "file", "files") + "), " +
 		"unless somebody changed that on " + from + ": the steps below take it for an edit, and send the new bytes from there"}}, s.First...)
 }
 
@@ -96,23 +96,20 @@ func (p *printer) news(since *history.Since) {
 }
 
 // placesOf gives the faults of each name at each device as one, with all their reasons and since when the first of them is found.
-func placesOf(faults []history.Told) []history.Told {
-	type place struct{ folder, name, device string }
-	places, at := []history.Told{}, map[place]int{}
+func placesOf(faults []history.Told) []*history.Told {
+	places := lists.Grouped[[3]string, history.Told]{}
 	for _, fault := range faults {
-		of := place{fault.Folder, string(fault.Name), fault.Device}
-		known, is := at[of]
-		if !is {
-			at[of] = len(places)
-			places = append(places, fault)
+		place := places.Of([3]string{fault.Folder, string(fault.Name), fault.Device})
+		if place.Reason == "" {
+			*place = fault
 			continue
 		}
-		places[known].Reason += ", " + fault.Reason
-		if fault.First.Before(places[known].First) {
-			places[known].First = fault.First
+		place.Reason += ", " + fault.Reason
+		if fault.First.Before(place.First) {
+			place.First = fault.First
 		}
 	}
-	return places
+	return places.All()
 }
 
 // read says how old the oldest reading is.

@@ -175,7 +175,8 @@ var notCompared = []string{"owners", "extended attributes", "old versions"}
 
 // Of gives the summary of an answer.
 func Of(answer *finding.Answer) *Summary {
-	summary := &Summary{Version: Version, Verdict: verdictOf(answer), Firm: answer.HowFirm(), Devices: []Device{}, Folders: []*Folder{}, LeftOut: append([]LeftOut{}, answer.LeftOut...), Earlier: answer.Earlier,
+	_, first := answer.First()
+	summary := &Summary{Version: Version, Verdict: verdictOf(first != nil, answer.IsPartial()), Firm: answer.HowFirm(), Devices: []Device{}, Folders: []*Folder{}, LeftOut: append([]LeftOut{}, answer.LeftOut...), Earlier: answer.Earlier,
 		NotAsked: []NotAsked{}, NotTold: []string{}, NotCompared: notCompared, Observers: answer.Observers, isByName: answer.IsByName, byNames: answer.ByNames}
 	asked := askedOf(answer)
 	for _, device := range answer.Devices {
@@ -189,10 +190,10 @@ func Of(answer *finding.Answer) *Summary {
 		}
 	}
 	named := summary.Called()
-	summary.actions = &actions{safe: map[string]bool{}, wrong: map[wrongAt]*wrongNames{}, waits: map[string]*waiting{}}
+	summary.actions = &actions{safe: map[string]bool{}, wrong: map[wrongAt]*First{}, waits: map[string]*waiting{}}
 	names := []*folding{}
 	for _, folder := range answer.Folders {
-		all := &folding{named: named, to: summary.actions, alike: map[string]*Group{}, name: shell.Folder(folder.ID, folder.Label)}
+		all := &folding{named: named, to: summary.actions, name: shell.Folder(folder.ID, folder.Label)}
 		summary.Folders, names = append(summary.Folders, folderOf(answer, folder, all)), append(names, all)
 	}
 	for place, folder := range summary.Folders { // what is told of one name depends on what is told of all others
@@ -227,12 +228,11 @@ func (s *Summary) Called() print.Names {
 	}
 }
 
-func verdictOf(answer *finding.Answer) string {
-	_, first := answer.First()
+func verdictOf(hasFailures, isPartial bool) string {
 	switch {
-	case first != nil:
+	case hasFailures:
 		return NotInStep
-	case answer.IsPartial():
+	case isPartial:
 		return AsFar
 	}
 	return InStep
@@ -240,14 +240,8 @@ func verdictOf(answer *finding.Answer) string {
 
 // folderOf gives the summary of a folder, but for what is told of its names, which it puts there.
 func folderOf(answer *finding.Answer, from *finding.Folder, all *folding) *Folder {
-	folder := &Folder{Outlook: &outlook.Outlook{}, ID: from.ID, Label: from.Label, Own: from.Own != "", isApart: answer.IsApart(from), Verdict: InStep, Names: from.Names, Deleted: from.Deleted, Going: from.Deleting, Bytes: from.Bytes,
+	folder := &Folder{Outlook: &outlook.Outlook{}, ID: from.ID, Label: from.Label, Own: from.Own != "", isApart: answer.IsApart(from), Verdict: verdictOf(from.HasFailures(), answer.IsPart(from)), Names: from.Names, Deleted: from.Deleted, Going: from.Deleting, Bytes: from.Bytes,
 		Devices: lists.Each(from.Members, memberOf), Files: []*File{}, Groups: []*Group{}, Copies: append([]finding.Conflict{}, from.Conflicts...), LeftOut: append([]*finding.LeftOut{}, from.LeftOut...), Ignored: from.Outside, MoreOut: from.Unlisted.LeftOut, More: from.Unlisted.Conflicts}
-	switch {
-	case from.HasFailures():
-		folder.Verdict = NotInStep
-	case answer.IsPart(from):
-		folder.Verdict = AsFar
-	}
 	if from.Outlook != nil {
 		*folder.Outlook = *from.Outlook
 	}

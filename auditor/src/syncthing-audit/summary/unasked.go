@@ -55,7 +55,7 @@ func (p *printer) notAsked(s *Summary) {
 	for _, notAsked := range s.NotAsked {
 		folders.Add(shell.Folder(notAsked.Folder, notAsked.Label), notAsked.Device)
 	}
-	count := counted(folders.Count(), "folder", "folders")
+	count := counted(int64(len(folders.Keys)), "folder", "folders")
 	words := folders.Joined(p.Called, func(folder, devices string) string { return folder + " on " + devices })
 	switch {
 	case words == "":

@@ -4,9 +4,11 @@ import (
 	"sort"
 	"strings"
 
+	"golang.org/x/exp/maps"
 	"golang.org/x/exp/slices"
 	"syncthing-audit/damage"
 	"syncthing-audit/finding"
+	"syncthing-audit/lists"
 	"syncthing-audit/print"
 )
 
@@ -46,25 +48,17 @@ var wordsOfWaiting = map[string][2]string{
 
 // countsOfWaiting say how many names wait how.
 func countsOfWaiting(names map[string]int64) string {
-	words := []string{}
-	for _, kind := range finding.KindsOfWaiting {
-		if count := names[kind]; count > 0 && kind != finding.WaitsNew {
-			words = append(words, counted(count, wordsOfWaiting[kind][0], wordsOfWaiting[kind][1]))
-		}
-	}
-	return strings.Join(words, ", ")
+	kinds := lists.Where(finding.KindsOfWaiting, func(kind string) bool { return names[kind] > 0 && kind != finding.WaitsNew })
+	return print.Joined(kinds, ", ", func(kind string) string {
+		return counted(names[kind], wordsOfWaiting[kind][0], wordsOfWaiting[kind][1])
+	})
 }
 
 // sources says from which devices what is recorded can be copied.
 func (w *waiting) sources(named print.Names) string {
-	ids, words := []string{}, []string{}
-	for id := range w.From {
-		ids = append(ids, id)
-	}
+	ids := maps.Keys(w.From)
 	sort.Strings(ids)
-	for _, id := range named.Rising(ids) {
-		words = append(words, thousands(w.From[id])+" on "+named(id))
-	}
+	words := lists.Each(named.Rising(ids), func(id string) string { return thousands(w.From[id]) + " on " + named(id) })
 	if w.Nowhere > 0 {
 		words = append(words, thousands(w.Nowhere)+" on no audited device (look among old versions and backups)")
 	}
@@ -80,7 +74,7 @@ func (s *Summary) firstWaiting(device string, named print.Names) []First {
 	if waits == nil {
 		return nil
 	}
-	return []First{{isUnscanned, []string{device}, waits.Sent(), "first, on " + named(device) + ": before Syncthing starts or scans there, also for an entry below, " +
+	return []First{{Why: isUnscanned, Devices: []string{device}, Names: waits.Sent(), Text: "first, on " + named(device) + ": before Syncthing starts or scans there, also for an entry below, " +
 		"see which names no scan has seen yet ('in motion in " + strings.Join(waits.folders, "', 'in motion in ") + "' below): " + countsOfWaiting(waits.Names) +
 		". A scan may delete on all devices what is missing there, and send to all what stands there. As Syncthing starts, it scans all folders. So copy back first " +
 		"what is to stay as it is recorded, while Syncthing is stopped there." + waits.keep() + waits.sources(named)}}

@@ -88,14 +88,8 @@ func (f *Fault) ofDamage() string {
 func (s *Summary) notToldOverWire() (overWire, older []string) {
 	is := map[string]bool{}
 	s.eachMember(func(_ *Folder, member *Member) { is[member.Device] = is[member.Device] || member.OverWire != nil })
-	for _, device := range s.NotTold {
-		if is[device] {
-			overWire = append(overWire, device)
-		} else {
-			older = append(older, device)
-		}
-	}
-	return overWire, older
+	overWire = lists.Where(s.NotTold, func(device string) bool { return is[device] })
+	return overWire, lists.Where(s.NotTold, func(device string) bool { return !is[device] })
 }
 
 // nameOfObserver names an observer for a person.
