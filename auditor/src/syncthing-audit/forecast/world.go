@@ -29,6 +29,25 @@ const (
 	Symlink
 )
 
+var wordsOfTypes = map[Type]string{File: "file", Directory: "directory", Symlink: "symlink"}
+
+// Word names a type.
+func (t Type) Word() string { return wordsOfTypes[t] }
+
+// MarshalText gives a type's word.
+func (t Type) MarshalText() ([]byte, error) { return []byte(t.Word()), nil }
+
+// UnmarshalText reads it; another word is of no type.
+func (t *Type) UnmarshalText(text []byte) error {
+	*t = 0
+	for kind, word := range wordsOfTypes {
+		if word == string(text) {
+			*t = kind
+		}
+	}
+	return nil
+}
+
 // Flag says whether a record is valid, and why it isn't.
 type Flag uint8
 
@@ -101,6 +120,6 @@ type Node struct {
 
 // Content is a file's bytes, by their count and a hash. Without a hash there are none: of a directory, say.
 type Content struct {
-	Size int64
-	Hash string
+	Size int64  `json:"size"`
+	Hash string `json:"content,omitempty"` // SHA-256 of the SHA-256 hashes of its blocks
 }

@@ -333,7 +333,7 @@ func TestThingsNow(t *testing.T) {
 		seen := map[string]bool{}
 		for _, thing := range thingsNow(anyDevices, name) {
 			key := keyOf(thing.Type, thing.Content, string(thing.Target), false)
-			if seen[key] || thing.IsCopy || (thing.Time != 0) != (thing.Type == forecast.File && name.Disk[memberOf(thing.Devices[0])].Time != 0) {
+			if seen[key] || thing.IsCopy || (thing.Modified != nil) != (thing.Type == forecast.File && name.Disk[memberOf(thing.Devices[0])].Time != forecast.Now) {
 				t.Fatalf("%d: %+v", seed, thing)
 			}
 			seen[key] = true

@@ -1,7 +1,6 @@
 package outlook
 
 import (
-	"encoding/json"
 	"sort"
 	"time"
 
@@ -13,66 +12,12 @@ import (
 
 // Thing is what stands at a name, or in a conflict copy of it, on some devices.
 type Thing struct {
-	Devices []string // in the folder's order
-	Type    forecast.Type
-	Content forecast.Content
-	Target  part.Bytes
-	Time    int64 // of a file, in nanoseconds; forecast.Now for what is made later
-	IsCopy  bool
-}
-
-// thingAsJSON is a thing for programs.
-type thingAsJSON struct {
-	Devices  []string    `json:"devices"`
-	Type     string      `json:"type"`
-	Size     *int64      `json:"size,omitempty"`    // of a file
-	Content  string      `json:"content,omitempty"` // of a file: SHA-256 of the SHA-256 hashes of its blocks
-	Target   *part.Bytes `json:"target,omitempty"`
-	Modified *time.Time  `json:"modified,omitempty"` // of a file; none of what is made later
-	Copy     bool        `json:"copy,omitempty"`
-}
-
-// WordsOfTypes name what things are.
-var WordsOfTypes = map[forecast.Type]string{forecast.File: "file", forecast.Directory: "directory", forecast.Symlink: "symlink"}
-
-var typesOf = map[string]forecast.Type{"file": forecast.File, "directory": forecast.Directory, "symlink": forecast.Symlink}
-
-func (t Thing) MarshalJSON() ([]byte, error) {
-	told := thingAsJSON{Devices: t.Devices, Type: WordsOfTypes[t.Type], Copy: t.IsCopy}
-	switch t.Type {
-	case forecast.File:
-		told.Size, told.Content, told.Modified = &t.Content.Size, t.Content.Hash, t.Modified()
-	case forecast.Symlink:
-		told.Target = &t.Target
-	}
-	return json.Marshal(told)
-}
-
-func (t *Thing) UnmarshalJSON(text []byte) error {
-	told := thingAsJSON{}
-	if err := json.Unmarshal(text, &told); err != nil {
-		return err
-	}
-	*t = Thing{Devices: told.Devices, Type: typesOf[told.Type], Content: forecast.Content{Hash: told.Content}, Time: forecast.Now, IsCopy: told.Copy}
-	if told.Size != nil {
-		t.Content.Size = *told.Size
-	}
-	if told.Target != nil {
-		t.Target = *told.Target
-	}
-	if told.Modified != nil {
-		t.Time = told.Modified.UnixNano()
-	}
-	return nil
-}
-
-// Modified gives when a file was modified; nothing of what has no time, or is made later.
-func (t Thing) Modified() *time.Time {
-	if t.Type != forecast.File || t.Time == forecast.Now {
-		return nil
-	}
-	at := time.Unix(0, t.Time).UTC()
-	return &at
+	Devices          []string      `json:"devices"` // in the folder's order
+	Type             forecast.Type `json:"type"`
+	forecast.Content               // of a file
+	Target           part.Bytes    `json:"target,omitempty"`
+	Modified         *time.Time    `json:"modified,omitempty"` // of a file; none of what is made later
+	IsCopy           bool          `json:"copy,omitempty"`
 }
 
 // thingsOf gives what stands at each name at an end. The same thing on several devices stands once.
@@ -81,7 +26,7 @@ func thingsOf(devices []forecast.Device, end *forecast.End) map[string][]Thing {
 	for member, disk := range end.Disks {
 		for place := range disk {
 			thing := thingOf(&disk[place].Node)
-			thing.Time, thing.IsCopy = disk[place].Node.Time, disk[place].IsCopy
+			thing.IsCopy = disk[place].IsCopy
 			standing[disk[place].Name] = withThing(standing[disk[place].Name], thing, devices[member].ID)
 		}
 	}
@@ -132,8 +77,9 @@ func withThing(things []Thing, thing Thing, device string) []Thing {
 
 func thingOf(what *forecast.Node) Thing {
 	thing := Thing{Type: what.Type, Content: what.Content, Target: part.Bytes(what.Target)}
-	if what.Type == forecast.File {
-		thing.Time = what.Time
+	if what.Type == forecast.File && what.Time != forecast.Now {
+		at := time.Unix(0, what.Time).UTC()
+		thing.Modified = &at
 	}
 	return thing
 }

@@ -88,7 +88,7 @@ func (f *fate) now(thing outlook.Thing) string {
 	if thing.Type == forecast.File {
 		return "a file that no disk has under this name now"
 	}
-	return "a " + outlook.WordsOfTypes[thing.Type] + " that no disk has there now"
+	return "a " + thing.Type.Word() + " that no disk has there now"
 }
 
 func (f *fate) find(thing outlook.Thing) *outlook.Thing {

@@ -97,11 +97,10 @@ func (p *Person) more(before string, count int64) {
 }
 
 func (p *Person) modified(thing outlook.Thing) string {
-	at := thing.Modified()
-	if at == nil {
+	if thing.Modified == nil {
 		return ""
 	}
-	return " (modified " + p.When(*at) + ")"
+	return " (modified " + p.When(*thing.Modified) + ")"
 }
 
 // where says what stands on a disk, and where.

@@ -3,6 +3,7 @@ package print
 import (
 	"strings"
 	"testing"
+	"time"
 
 	"syncthing-audit/forecast"
 	"syncthing-audit/forecast/read"
@@ -21,8 +22,11 @@ func at(members ...int) []string {
 	return ids
 }
 
+// modified is when all files were.
+var modified = time.Unix(1600000000, 0).UTC()
+
 func file(size int64, hash string, members ...int) outlook.Thing {
-	return outlook.Thing{Devices: at(members...), Type: forecast.File, Content: forecast.Content{Size: size, Hash: hash}, Time: 1600000000e9}
+	return outlook.Thing{Devices: at(members...), Type: forecast.File, Content: forecast.Content{Size: size, Hash: hash}, Modified: &modified}
 }
 
 var texts = []struct {

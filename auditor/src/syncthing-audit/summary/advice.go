@@ -20,7 +20,8 @@ func adviceOf(file *File, named print.Names) []string {
 		}
 	}
 	if len(file.Faults) == 0 && len(file.Permissions) > 0 {
-		advice = append(advice, file.oneMode(named))
+		on := named.All(lists.Each(file.Permissions, func(mode Mode) string { return mode.Device }))
+		advice = append(advice, "'chmod' "+file.say("it", "them")+" to the mode that is right on "+on+", before Syncthing scans there; or choose 'Ignore Permissions' for the folder")
 	}
 	if len(advice) == 0 && file.foretold.isKnown() {
 		advice = append(advice, file.nothing())
@@ -139,8 +140,10 @@ func (f *File) adviceOfFault(fault *Fault, named print.Names) string {
 	case fault.Cause == Damaged:
 		return "see the system's log on " + at + " (journalctl -k, smartctl -a): its disk fails there, and may soon fail elsewhere. Save what that disk has and no other " +
 			"device has, replace it, and bring back what is lost. Don't delete what is damaged, and don't start Syncthing there, before that is done"
+	case fault.Cause == Differs && f.isOfSum: // 'sum' has no details of what documents tell, of however few names that is
+		return "'syncthing-audit check' of the same parts or homes tells the details"
 	case fault.Cause == Differs:
-		return f.detailsBy(f.say("audit it by itself: --names with this name tells more", "audit some of them by themselves: --names with how they begin tells more"))
+		return f.say("audit it by itself: --names with this name tells more", "audit some of them by themselves: --names with how they begin tells more") + "; parts are made anew with it"
 	case fault.Cause == NotScanned && f.isOdd:
 		return "rename " + f.say("it", "them") + " on " + at + ": " + f.say("its name isn't", "their names aren't") + " in Unicode's form NFC, in which Syncthing has names"
 	case fault.isUntold:
@@ -175,19 +178,4 @@ func (f *File) putBack(fault *Fault, named print.Names) string {
 		told += f.say(" as it is", " as they are") + asItIs + ", with the directories above that aren't there,"
 	}
 	return told + " while Syncthing is stopped there"
-}
-
-// detailsBy says how details are told that weren't kept: by an audit of some names alone, for which parts of all names don't do. 'sum' has no
-// details of what documents tell, of however few names that is.
-func (f *File) detailsBy(alone string) string {
-	if f.isOfSum {
-		return "'syncthing-audit check' of the same parts or homes tells the details"
-	}
-	return alone + "; parts are made anew with it"
-}
-
-// oneMode says on which devices to change permissions, of a name of which these alone differ.
-func (f *File) oneMode(named print.Names) string {
-	devices := lists.Each(f.Permissions, func(mode Mode) string { return mode.Device })
-	return "'chmod' " + f.say("it", "them") + " to the mode that is right on " + named.All(devices) + ", before Syncthing scans there; or choose 'Ignore Permissions' for the folder"
 }
