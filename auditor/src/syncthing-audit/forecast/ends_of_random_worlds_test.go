@@ -8,6 +8,7 @@ import (
 	"hash"
 	"math/rand"
 	"os"
+	"regexp"
 	"strings"
 	"testing"
 )
@@ -78,5 +79,11 @@ func addTo(t *testing.T, sum hash.Hash, value interface{}) {
 	if err != nil {
 		t.Fatal(err)
 	}
-	sum.Write(text)
+	sum.Write([]byte(wordsAsSummed.Replace(contents.ReplaceAllString(string(text), `{"Size":$1,"Hash":"$2"}`))))
 }
+
+// The sums were made of JSON in which a type was its number, and a file's bytes had these words.
+var (
+	wordsAsSummed = strings.NewReplacer(`"Type":""`, `"Type":0`, `"Type":"file"`, `"Type":1`, `"Type":"directory"`, `"Type":2`, `"Type":"symlink"`, `"Type":3`)
+	contents      = regexp.MustCompile(`\{"size":([0-9]+)(?:,"content":"([^"]*)")?\}`)
+)

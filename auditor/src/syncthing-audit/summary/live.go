@@ -97,12 +97,10 @@ func (p *printer) movingNames(folder *Folder, live *finding.Live) {
 	if isWaiting {
 		p.running("  before a scan:", beforeScan)
 	}
-	told := lists.AtMost(mostOfList, worstOf(live))
-	for _, moving := range told {
+	listed(p, mostOfList, live.Moving, worstOf(live), "--json has "+thousands(int64(len(live.Names))), func(moving finding.Moving) string {
 		words := print.Joined(moving.At, "; ", func(at finding.Moved) string { return p.Called(at.Device) + ": " + p.whyMoved(folder, at) })
-		p.Line("  %s: %s", shell.Path(string(moving.Name)), words)
-	}
-	p.more(live.Moving-int64(len(told)), "--json has "+thousands(int64(len(live.Names))))
+		return shell.Path(string(moving.Name)) + ": " + words
+	})
 	if isWaiting {
 		p.Line("  then: %s", toRest(live))
 	}

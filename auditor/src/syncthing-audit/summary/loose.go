@@ -68,12 +68,10 @@ func (p *printer) loose(folder *Folder) {
 		return
 	}
 	p.Line("\n%s %s from being firm", counted(folder.Loose, "name keeps", "names keep"), folder.ID)
-	told := lists.AtMost(mostOfList, folder.NotFirm)
-	for _, loose := range told {
+	listed(p, mostOfList, folder.Loose, folder.NotFirm, "--lines has all", func(loose Loose) string {
 		words := print.Joined(loose.Devices, "; ", func(at LooseAt) string { return p.Called(at.Device) + " " + at.words() })
-		p.Line("  %s: %s", shell.Path(string(loose.Name)), words)
-	}
-	p.more(folder.Loose-int64(len(told)), "--lines has all")
+		return shell.Path(string(loose.Name)) + ": " + words
+	})
 	p.running("  that is:", meaningOfLoose)
 	p.advice([]string{adviceOfLoose})
 }

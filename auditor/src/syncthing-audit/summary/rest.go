@@ -169,20 +169,20 @@ func (p *printer) copies(folder *Folder) {
 	}
 	p.Line("%s in %s, %s: compare each with its file, and keep what you want of both", counted(count, "conflict copy", "conflict copies"),
 		folder.ID, size(bytes))
-	told := lists.AtMost(mostOfList, folder.Copies)
-	for _, conflict := range told {
-		p.Line("  %s", shell.Path(string(conflict.Name)))
-	}
-	p.more(count-int64(len(told)), "--json has "+has)
+	listed(p, mostOfList, count, folder.Copies, "--json has "+has, func(conflict finding.Conflict) string { return shell.Path(string(conflict.Name)) })
 }
 
 // mostOfList is how many names of a list are told, one by one.
 const mostOfList = 10
 
-// more says how many more there are than are told, if any, and where they are.
-func (p *printer) more(count int64, where string) {
-	if count > 0 {
-		p.Line("  and %s more (%s)", thousands(count), where)
+// listed prints the first of so many, and how many more there are, if any, and where they are.
+func listed[Item any](p *printer, most int, count int64, all []Item, where string, say func(Item) string) {
+	told := lists.AtMost(most, all)
+	for _, item := range told {
+		p.Line("  %s", say(item))
+	}
+	if more := count - int64(len(told)); more > 0 {
+		p.Line("  and %s more (%s)", thousands(more), where)
 	}
 }
 

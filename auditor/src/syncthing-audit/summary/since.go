@@ -1,6 +1,7 @@
 package summary
 
 import (
+	"fmt"
 	"strings"
 	"time"
 
@@ -64,13 +65,11 @@ func (p *printer) changed(count int64, all []history.Changed, on string, toDo fu
 		return
 	}
 	p.Line("%s %s", counted(count, "file has other bytes than before", "files have other bytes than before, each"), on)
-	told := lists.AtMost(mostNews, all)
-	for _, file := range told {
+	listed(p, mostNews, count, all, "--json has "+thousands(int64(len(all)))+" of them", func(file history.Changed) string {
 		devices := p.Called.All(file.Devices)
-		p.Line("  %s in %s: its bytes changed between %s and %s on %s%s. A program that puts a file's time back after it wrote looks the same", shell.Quoted(string(file.Name)),
+		return fmt.Sprintf("%s in %s: its bytes changed between %s and %s on %s%s. A program that puts a file's time back after it wrote looks the same", shell.Quoted(string(file.Name)),
 			file.Folder, p.day(file.Before), p.day(file.Since), devices, toDo(p.day(file.Since), devices))
-	}
-	p.more(count-int64(len(told)), "--json has "+thousands(int64(len(all)))+" of them")
+	})
 }
 
 // news says what is new since the audit before.
