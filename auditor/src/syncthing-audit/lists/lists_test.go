@@ -11,7 +11,7 @@ func TestLists(t *testing.T) {
 	if odd := Where([]int{3, 2, 1, 4}, isOdd); fmt.Sprint(odd) != "[3 1]" || Where([]int{2}, isOdd) != nil {
 		t.Error(odd)
 	}
-	if Has([]int{2, 4}, isOdd) || Has(nil, isOdd) || !Has([]int{2, 3}, isOdd) {
+	if Has([]int{2, 4}, isOdd) || Has(nil, isOdd) || !Has([]int{2, 3}, isOdd) || !Has([]int{3, 2}, isOdd) {
 		t.Error("an odd number")
 	}
 	if words := Each([]int{3, 2}, func(number int) string { return fmt.Sprint(number) + "." }); fmt.Sprint(words) != "[3. 2.]" || Each(nil, isOdd) == nil {
