@@ -8,7 +8,7 @@ import (
 	"syncthing-audit/directory"
 )
 
-// opened is the number of a file that is open to be read. What Go's own files take beside costs a tenth of what a small file does.
+// opened is the number of a file that is open to be read. For each of its own files Go asks the system besides whether it is to be waited for.
 type opened int
 
 // openFile opens a file to be read, and no symlink. A pipe in its place would block.
