@@ -5,7 +5,6 @@
 """
 
 import os
-import time
 
 from exporting import Exporting, main, run
 from syncthing import FOLDER, wait_until
@@ -42,7 +41,7 @@ class NearTimes(Exporting):
         lines = self.report()
         self.assertEqual((lines[0], lines.count(self.near())), ("settled", 1))
         self.assertEqual(self.check_parts([self.part(one) for one in self.devices]).returncode, 0)
-        self.assertIn(f"the time on the disk isn't the recorded one, by less than {SECONDS} seconds. No scan there sees that", " ".join(self.read().split()))
+        self.assertIn(f"in {FOLDER} 1 file, by less than {SECONDS} seconds, on {self.two.id[:7]}: the time on the disk isn't the recorded one", " ".join(self.read().split()))
         self.start()
         before = self.two.api("GET", f"db/status?folder={FOLDER}")["sequence"]
         self.two.scan()
