@@ -6,5 +6,5 @@ import "golang.org/x/sys/unix"
 // what was read some time ago may be right in memory still while the disk has other bytes by now. What isn't written to the
 // disk yet stays, as does what a program has mapped. A file system that has a cache of its own may not heed it.
 func letGo(file opened, offset, length int64) {
-	_ = unix.Fadvise(int(file), offset, length, unix.FADV_DONTNEED) // without it, the file is read all the same
+	_ = unix.Fadvise(file.number, offset, length, unix.FADV_DONTNEED) // without it, the file is read all the same
 }

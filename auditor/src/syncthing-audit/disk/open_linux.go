@@ -8,8 +8,11 @@ import (
 	"syncthing-audit/directory"
 )
 
-// opened is the number of a file that is open to be read. For each of its own files Go asks the system besides whether it is to be waited for.
-type opened int
+// opened is a file that is open to be read, by its number. For each of its own files Go asks the system besides whether it is to be waited for.
+type opened struct {
+	number int
+	path   string
+}
 
 // openFile opens a file to be read, and no symlink. A pipe in its place would block.
 func openFile(path string) (opened, error) {
@@ -19,9 +22,9 @@ func openFile(path string) (opened, error) {
 		number, err = open(path, flags)
 	}
 	if err != nil {
-		return -1, &os.PathError{Op: "open", Path: path, Err: err}
+		return opened{}, &os.PathError{Op: "open", Path: path, Err: err}
 	}
-	return opened(number), nil
+	return opened{number, path}, nil
 }
 
 func open(path string, flags int) (number int, err error) {
@@ -33,18 +36,18 @@ func open(path string, flags int) (number int, err error) {
 }
 
 // Stat gives what the system says of it.
-func (o opened) Stat() (os.FileInfo, error) { return directory.AboutFile(int(o)) }
+func (o opened) Stat() (os.FileInfo, error) { return directory.AboutFile(o.number) }
 
 // ReadAt reads as many bytes, or says why there are fewer.
 func (o opened) ReadAt(to []byte, offset int64) (int, error) {
 	for done := 0; ; {
 		count := 0
 		err := directory.Uninterrupted(func() (err error) {
-			count, err = unix.Pread(int(o), to[done:], offset+int64(done))
+			count, err = unix.Pread(o.number, to[done:], offset+int64(done))
 			return err
 		})
 		if err != nil {
-			return done, os.NewSyscallError("read", err)
+			return done, &os.PathError{Op: "read", Path: o.path, Err: err}
 		}
 		if done += count; done == len(to) {
 			return done, nil
@@ -56,4 +59,4 @@ func (o opened) ReadAt(to []byte, offset int64) (int, error) {
 }
 
 // Close closes it.
-func (o opened) Close() error { return unix.Close(int(o)) }
+func (o opened) Close() error { return unix.Close(o.number) }

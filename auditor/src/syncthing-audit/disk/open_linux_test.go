@@ -44,3 +44,18 @@ func TestWhatIsReadOfAnOpenFile(t *testing.T) {
 		t.Error(err)
 	}
 }
+
+// A read that fails says of which file. A directory can be opened, and not read.
+func TestAFailedReadNamesItsFile(t *testing.T) {
+	path := t.TempDir()
+	file, err := openFile(path)
+	if err != nil {
+		t.Fatal(err)
+	}
+	defer file.Close()
+	_, err = file.ReadAt(make([]byte, 1), 0)
+	var failed *os.PathError
+	if !errors.As(err, &failed) || failed.Op != "read" || failed.Path != path || failed.Err != unix.EISDIR {
+		t.Errorf("a read of a directory fails with %v", err)
+	}
+}
