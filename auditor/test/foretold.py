@@ -7,7 +7,6 @@ import subprocess
 from quick import MARKER, tree_of
 from syncthing import FOLDER
 
-TYPES = {1: "file", 2: "directory", 3: "symlink"}
 NOTHING = (None, ())
 
 
@@ -68,8 +67,8 @@ def model_places(disk):
     """What the forecast has of one disk."""
     for place in disk or []:
         node = place["Node"]
-        kind = TYPES[node["Type"]]
-        more = {"file": (node["Content"]["Size"], node["Content"]["Hash"]), "symlink": (node["Target"],), "directory": ()}[kind]
+        kind, content = node["Type"], node["Content"]
+        more = {"file": (content["size"], content.get("content", "")), "symlink": (node["Target"],), "directory": ()}[kind]
         yield place["Name"], place["IsCopy"], (kind, *more)
 
 
