@@ -6,7 +6,8 @@
     mutants.py --fit             says whether each still fits its file, in which the text that it changes must stand once
 
 No contract says what happens under a lock, so these bodies are those of threads, locks and tickets. Each is tried on a copy, by
-'rt try --test', which proves nothing. The number of commits chooses the first one of a turn. The last line is 'N passed, M failed'.
+'rt try --test', which proves nothing. A line 'tests: CRATE' of it says which crate's tests must refuse it; without one those of
+any of TESTS may. The number of commits chooses the first one of a turn. The last line is 'N passed, M failed'.
 """
 
 import re
@@ -21,8 +22,10 @@ from commits import commits
 from counting import Count
 from edits import HERE, TOP, applied, name_of
 
-# The crate whose tests must refuse them, the seconds after which a turn begins no other, and those after which one counts as hung.
-TESTS, SECONDS_OF_A_TURN, SECONDS_OF_ONE = "run_tests", 60, 1800
+# The crates whose tests must refuse them.
+TESTS = ("run_tests", "run_guard_tests", "run_crowd_tests")
+# The seconds after which a turn begins no other, and those after which one counts as hung.
+SECONDS_OF_A_TURN, SECONDS_OF_ONE = 60, 1800
 
 
 def mutants():
@@ -44,8 +47,18 @@ def failed(said):
     return re.findall(r"^test (\S+) \.\.\. FAILED", said, re.M)
 
 
+def tests_of(edit):
+    """The crates whose tests are to refuse an edit."""
+    return re.findall(r"^tests: (\S+)", edit.read_text(), re.M) or TESTS
+
+
+def strangers(edit):
+    """What an edit names as its tests that is no crate of tests here."""
+    return sorted(set(tests_of(edit)) - set(TESTS))
+
+
 def tried(edit):
-    """What the tests say of a copy with this edit."""
+    """What the tests say of a copy with this edit, up to the first crate of which one fails."""
     with tempfile.TemporaryDirectory(prefix="mutants-") as room:
         copy = Path(room)
         shutil.copytree(TOP / "crates", copy / "crates", ignore=shutil.ignore_patterns("out"))
@@ -53,15 +66,25 @@ def tried(edit):
             shutil.copy(TOP / name, copy / name)
         for file, text in applied(edit).items():
             (copy / "crates" / edit.parent.name / file).write_text(text)
-        ran = subprocess.run(
-            ["rt", "try", "--test"],
-            cwd=copy / "crates" / TESTS,
-            stdin=subprocess.DEVNULL,
-            stdout=subprocess.PIPE,
-            stderr=subprocess.STDOUT,
-            text=True,
-            timeout=SECONDS_OF_ONE,
-        )
+        said = ""
+        for crate in tests_of(edit):
+            said += tests_say(copy / "crates" / crate)
+            if failed(said):
+                break
+    return said
+
+
+def tests_say(crate):
+    """What a crate's tests say."""
+    ran = subprocess.run(
+        ["rt", "try", "--test"],
+        cwd=crate,
+        stdin=subprocess.DEVNULL,
+        stdout=subprocess.PIPE,
+        stderr=subprocess.STDOUT,
+        text=True,
+        timeout=SECONDS_OF_ONE,
+    )
     return ran.stdout
 
 
@@ -84,7 +107,8 @@ def fit():
     for edit in mutants():
         try:
             applied(edit)
-            count.says(name_of(edit), "")
+            unknown = " ".join(strangers(edit))
+            count.says(name_of(edit), f"there are no tests {unknown}" if unknown else "")
         except ValueError as error:
             count.fails(f"{name_of(edit)}: {error}")
     return count

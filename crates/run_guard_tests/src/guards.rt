@@ -1,9 +1,8 @@
 //! That a cut holds each guard from where it takes it to the end, and none before: devices rising, then links rising.
-use crate::made::{RING, device, docs, file, hello, three};
-use crate::waiting::{come, count, has_come, has_come_by};
 use bep_blocks::{Gate, Place};
 use bep_run::Shared;
 use bep_store::MemStore;
+use run_fixture::{Deed, RING, come, count, done, has_come, has_come_by, three};
 use std::alloc::Global;
 use std::sync::Wait;
 use std::sync::atomic::AtomicU64;
@@ -49,30 +48,28 @@ impl<R: Clock + Drop> Gate for Held<R> {
     }
 }
 
-// Makes an action that needs this guard alone, counted from 1 as a cut takes them. What it answers doesn't matter.
-fn act<R: Wait>(rt: &R, alloc: Global, shared: &Shared<MemStore>, guard: u32) -> Option<()> {
-    if guard <= DEVICES {
-        let node = file(alloc, 1)?;
-        let one = device(u64::from(guard))?;
-        let _done = shared.edit(rt, one, &docs(alloc)?, &hello(alloc)?, &node);
-        return Some(());
+// An action that needs this guard alone, counted from 1 as a cut takes them.
+fn deed(guard: u32) -> Deed {
+    match guard {
+        1..=DEVICES => Deed::Put(u64::from(guard), 1),
+        4 => Deed::Connect(1, 2),
+        5 => Deed::Connect(1, 3),
+        _ => Deed::Connect(2, 3),
     }
-    let place = guard.saturating_sub(DEVICES).saturating_sub(1);
-    let (lower, upper) = *RING.get(place as usize)?;
-    let _done = shared.connect(rt, device(lower)?, device(upper)?);
-    Some(())
 }
 
-// The same, once the cut stands.
-fn act_while<R: Wait + Clock + Drop>(
+// Makes that action, once the cut stands. What it answers doesn't matter.
+fn act<R: Threads + Wait + Clock + Sync + Drop>(
     rt: &R,
     alloc: Global,
     shared: &Shared<MemStore>,
     gate: &Held<R>,
     guard: u32,
 ) -> Option<()> {
-    has_come(rt, &gate.stands).then_some(())?;
-    act(rt, alloc, shared, guard)?;
+    if !has_come(rt, &gate.stands) {
+        return None;
+    }
+    let _answer = done(rt, alloc, shared, deed(guard))?;
     come(&gate.done);
     Some(())
 }
@@ -95,7 +92,7 @@ fn is_done<R: Threads + Wait + Clock + Sync + Copy + Drop>(
     };
     let (acted, run) = thread::join(
         &rt,
-        || act_while(&rt, alloc, shared, &gate, guard),
+        || act(&rt, alloc, shared, &gate, guard),
         || shared.take_cut(&rt, &gate),
     );
     acted?;

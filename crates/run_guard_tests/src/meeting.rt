@@ -1,11 +1,9 @@
 //! That a device's session goes on while its scanner hashes.
-use crate::made::{device, with_file_and_message};
-use crate::waiting::{come, count, has_come};
 use bep_blocks::{Gate, Place};
 use bep_log::LogError;
-use bep_record::DeviceId;
 use bep_run::{Shared, run_workers};
 use bep_store::MemStore;
+use run_fixture::{come, count, device, has_come, session_turn, with_file_and_message};
 use std::alloc::Global;
 use std::sync::Wait;
 use std::sync::atomic::AtomicU64;
@@ -143,8 +141,10 @@ fn session_while<R: Wait + Clock + Drop>(
     shared: &Shared<MemStore>,
     gate: &Hashing<R>,
 ) -> Option<u64> {
-    has_come(rt, &gate.hashes).then_some(())?;
-    shared.session_turn(rt, device(1)?, device(2)?, gate).ok()
+    if !has_come(rt, &gate.hashes) {
+        return None;
+    }
+    session_turn(rt, shared, 1, 2, gate)?.ok()
 }
 
 // What the gate saw of a scanner's turn and a session's, both of device 1.

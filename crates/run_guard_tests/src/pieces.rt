@@ -1,7 +1,8 @@
 //! That two workers hash what a scanner found, at once.
-use crate::made::{device, docs, file, hello, shared};
-use crate::waiting::{come, count, has_come};
 use bep_blocks::{Gate, Place};
+use bep_run::Shared;
+use bep_store::MemStore;
+use run_fixture::{Deed, come, count, device, done, has_come, shared};
 use std::alloc::Global;
 use std::sync::Wait;
 use std::sync::atomic::AtomicU64;
@@ -40,13 +41,16 @@ impl<R: Clock + Drop> Gate for Both<R> {
     }
 }
 
+// Devices 1 and 2, with a file of two blocks at the first.
+fn with_two_blocks<R: Threads + Wait + Sync>(rt: &R, alloc: Global) -> Option<Shared<MemStore>> {
+    let shared = shared(alloc)?;
+    done(rt, alloc, &shared, Deed::Put(1, 131073))?.ok()?;
+    Some(shared)
+}
+
 // How often the first worker came, the second and another one, and how many met.
 fn met<R: Threads + Wait + Clock + Sync + Copy + Drop>(rt: R, alloc: Global) -> Option<[u64; 4]> {
-    let shared = shared(alloc)?;
-    let (one, node) = (device(1)?, file(alloc, 131073)?);
-    shared
-        .edit(&rt, one, &docs(alloc)?, &hello(alloc)?, &node)
-        .ok()?;
+    let shared = with_two_blocks(&rt, alloc)?;
     let gate = Both {
         rt,
         first: AtomicU64::new(0),
@@ -54,7 +58,7 @@ fn met<R: Threads + Wait + Clock + Sync + Copy + Drop>(rt: R, alloc: Global) -> 
         others: AtomicU64::new(0),
         met: AtomicU64::new(0),
     };
-    shared.scanner_turn(&rt, one, &gate).ok()?;
+    shared.scanner_turn(&rt, device(1)?, &gate).ok()?;
     Some([
         count(&gate.first),
         count(&gate.second),
