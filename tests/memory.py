@@ -100,15 +100,19 @@ def imported(text):
 
 def called_as(texts):
     """The names of types by which others go, as `pub type Shared<S> = Locked<S, Anywhere>;` has it."""
-    return {found[1]: found[2] for text in texts for found in re.finditer(r"^pub type (\w+)<[^=]*= ([A-Z]\w+)<", text, re.M)}
+    return {found[1]: found[2] for text in texts for found in re.finditer(r"^pub type (\w+)(?:<[^=]*)? = ([A-Z]\w+)<", text, re.M)}
 
 
-def called(crate):
-    """The full names of what the crate's tests call."""
-    texts = [without_comments(text) for text in sources(crate)]
+def fields_of(crates):
+    """The types of the fields of these crates' structs, by struct and field."""
+    texts = [without_comments(text) for crate in crates for text in sources(crate)]
     structs = [found.groups() for text in texts for found in STRUCT.finditer(text)]
-    fields = {(struct, field): of for struct, body in structs for field, of in declared(body).items()}
-    for text in texts:
+    return {(struct, field): of for struct, body in structs for field, of in declared(body).items()}
+
+
+def called(crate, fields):
+    """The full names of what the crate's tests call."""
+    for text in (without_comments(text) for text in sources(crate)):
         body, known = without_heads(text), imported(text)
         for name in re.findall(r"(?<![\w:.])((?:\w+::)?\w+)(?:::<[^(]*>)?\(", body):
             if name.partition("::")[0] in known:
@@ -129,8 +133,9 @@ def main():
     texts = [text for crate in crates for text in sources(crate)]
     errors = with_memory(texts)
     aliases, types = names_of(texts, errors), given(texts)
-    tests = [crate for crate in crates if crate.endswith("_tests")]
-    known = BY_THE_PROGRAM.union(*map(called, tests))
+    tests = [crate for crate in crates if crate.endswith(("_tests", "_fixture"))]
+    shared = [crate for crate in tests if crate.endswith("_fixture")]
+    known = BY_THE_PROGRAM.union(*(called(crate, fields_of([*shared, crate])) for crate in tests))
     others = called_as(texts)
     known |= {f"{others[of]}::{method}" for of, _, method in (name.partition("::") for name in known) if of in others}
     for crate in crates:

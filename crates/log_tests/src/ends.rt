@@ -1,6 +1,5 @@
 //! The end of a pull that keeps a conflict copy and then fails.
-use crate::made::{Pair, number, two_devices};
-use crate::scenario::made;
+use log_fixture::{Pair, made, number, play_from, two_devices};
 use std::alloc::Global;
 
 // The first device puts a file and the second another one under its name, with an older time; the second pulls the first's.
@@ -18,34 +17,24 @@ fn ended(alloc: Global, pair: &mut Pair, ticket: u64) -> Option<Ended> {
     Some((number, last.ticket, last.event.kept, last.event.failed))
 }
 
-// The end of the pull, and the same again, where this call of it fails in the store.
-fn twice(alloc: Global, call: u64) -> Option<[Ended; 2]> {
+// What the last step is refused for, the end of the pull, and the same again, where this call of it fails in the store.
+fn twice(alloc: Global, call: u64) -> Option<(Option<u32>, Ended, Ended)> {
     // before it the store was called four times: by the copy at the beginning, the edit, the look and the scan
     let mut pair = two_devices(alloc, [0, call.checked_add(4)?])?;
-    let mut ticket = 0u64;
-    for step in STEPS {
-        ticket = ticket.saturating_add(1);
-        made(alloc, &mut pair, ticket, step)?.ok()?;
-    }
+    let (_, refused) = play_from(alloc, &mut pair, 0, &STEPS)?;
     let first = ended(alloc, &mut pair, 16)?;
-    Some([first, ended(alloc, &mut pair, 17)?])
+    Some((refused, first, ended(alloc, &mut pair, 17)?))
 }
 
 // It reads the file and looks at the conflict name, and then writes the copy and the file.
 #[test]
 fn a_kept_copy_is_logged_where_the_file_is_not_written(rt: HostRuntime) {
-    let told = twice(rt.alloc(), 4);
-    assert_eq!(rt;
-        told,
-        Some([(Some(131), 16, true, Some(4)), (None, 17, false, None)])
-    );
+    let due = ((Some(131), 16, true, Some(4)), (None, 17, false, None));
+    assert_eq!(rt; twice(rt.alloc(), 4), Some((None, due.0, due.1)));
 }
 
 #[test]
 fn nothing_is_logged_where_the_copy_is_not_written(rt: HostRuntime) {
-    let told = twice(rt.alloc(), 3);
-    assert_eq!(rt;
-        told,
-        Some([(Some(131), 15, false, None), (None, 17, false, None)])
-    );
+    let due = ((Some(131), 15, false, None), (None, 17, false, None));
+    assert_eq!(rt; twice(rt.alloc(), 3), Some((None, due.0, due.1)));
 }

@@ -1,6 +1,6 @@
 //! Full logs.
-use crate::made::{number, two_devices};
 use bep_log::{LoggedLink, MAX_EVENTS};
+use log_fixture::{number, two_devices};
 
 // The link comes up and goes down until its log is full; the numbers of the refusals then: of a step that fits, under an old
 // ticket and under a new one.

@@ -2,13 +2,9 @@
 #![tactic(auto)]
 
 #[cfg(test)]
-mod between;
-#[cfg(test)]
 mod ends;
 #[cfg(test)]
 mod full;
-#[cfg(test)]
-mod made;
 #[cfg(test)]
 mod memory;
 #[cfg(test)]
@@ -17,8 +13,6 @@ mod rebasing;
 mod resetting;
 #[cfg(test)]
 mod restarting;
-#[cfg(test)]
-mod run;
 #[cfg(test)]
 mod scanning;
 #[cfg(test)]

@@ -1,6 +1,5 @@
 //! Logs that begin anew.
-use crate::made::{Pair, number, two_devices};
-use crate::scenario::{all_have, play};
+use log_fixture::{Pair, all_have, number, play, two_devices};
 use std::alloc::Global;
 
 // What the first device's rebase refuses; and after it how many events are logged, which round it is, and the last ticket.

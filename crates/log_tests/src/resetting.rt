@@ -1,18 +1,18 @@
 //! A device that starts over with empty indexes under one ticket: it, its link that is up, and its link that is down.
-use crate::made::{docs, name, number, within};
 use crate::restarting::{Hub, begun, ended, left};
 use bep_index::IndexId;
 use bep_log::LogError;
 use bep_machine::Step;
 use bep_record::DeviceId;
+use log_fixture::{docs, name, number, within};
 use std::alloc::Global;
 
 // The device has a file and its record, and a session over the first link.
 fn recorded(alloc: Global) -> Option<Hub> {
     let mut hub = begun(alloc)?;
-    within(alloc, &mut hub.device, 3, b'e', b'h')?.ok()?;
-    within(alloc, &mut hub.device, 4, b's', b'h')?.ok()?;
-    Some(hub)
+    let edited = within(alloc, &mut hub.device, 3, b'e', b'h')?.is_ok();
+    let scanned = within(alloc, &mut hub.device, 4, b's', b'h')?.is_ok();
+    if edited && scanned { Some(hub) } else { None }
 }
 
 // What the device answers where it is to start over under the id, with this ticket.
@@ -24,10 +24,16 @@ fn reset(hub: &mut Hub, ticket: u64, id: u64) -> Option<Result<(), LogError>> {
 fn started_over(alloc: Global) -> Option<Hub> {
     let mut hub = recorded(alloc)?;
     let (device, id) = (DeviceId::read(1)?, IndexId::read(2)?);
-    reset(&mut hub, 5, 2)?.ok()?;
-    hub.up.reset(5, device, id).ok()?;
-    hub.down.reset(5, device, id).ok()?;
-    Some(hub)
+    let refused = [
+        number(hub.device.reset(5, id)),
+        number(hub.up.reset(5, device, id)),
+        number(hub.down.reset(5, device, id)),
+    ];
+    if refused == [None; 3] {
+        Some(hub)
+    } else {
+        None
+    }
 }
 
 // The index's id and its greatest sequence number, and whether it has the file's record; and how many files the store has.

@@ -1,18 +1,27 @@
 //! A device that starts again under one ticket: it, its link that is up, and its link that is down.
-use crate::made::{link, number, peer};
 use bep_fit::Stamped;
-use bep_log::{LoggedLink, LoggedPeer};
+use bep_log::LoggedLink;
 use bep_machine::Step;
 use bep_record::{DeviceId, Same};
-use bep_store::{FaultStore, MemStore};
+use log_fixture::{Device, link, number, peer};
 use std::alloc::Global;
 
 // The first of three devices, and its links with the second and the third.
-#[derive(Drop)]
 pub(crate) struct Hub {
-    pub(crate) device: LoggedPeer<FaultStore<MemStore>>,
+    pub(crate) device: Device,
     pub(crate) up: LoggedLink,
     pub(crate) down: LoggedLink,
+}
+
+// By hand: a test's proof then sees one call where it lets go of one, and not each field (docs/developing.md).
+impl Drop for Hub {
+    fn drop(self) {
+        let Hub {
+            device: _,
+            up: _,
+            down: _,
+        } = self;
+    }
 }
 
 /// The first link comes up, and a session begins over it.
@@ -22,19 +31,30 @@ pub(crate) fn begun(alloc: Global) -> Option<Hub> {
         up: link(alloc, 1, 2)?,
         down: link(alloc, 1, 3)?,
     };
-    hub.up.connect(1).ok()?;
-    hub.device.begin(2, &mut hub.up).ok()?;
-    Some(hub)
+    let refused = [
+        number(hub.up.connect(1)),
+        number(hub.device.begin(2, &mut hub.up)),
+    ];
+    if refused == [None; 2] {
+        Some(hub)
+    } else {
+        None
+    }
 }
 
 // Then the device starts again, and both links with it.
 fn restarted(alloc: Global) -> Option<Hub> {
-    let mut hub = begun(alloc)?;
-    let device = DeviceId::read(1)?;
-    hub.device.restart(3).ok()?;
-    hub.up.restart(3, device).ok()?;
-    hub.down.restart(3, device).ok()?;
-    Some(hub)
+    let (mut hub, device) = (begun(alloc)?, DeviceId::read(1)?);
+    let refused = [
+        number(hub.device.restart(3)),
+        number(hub.up.restart(3, device)),
+        number(hub.down.restart(3, device)),
+    ];
+    if refused == [None; 3] {
+        Some(hub)
+    } else {
+        None
+    }
 }
 
 /// Whether the last event of the log is this step under this ticket; and how many events the log has.

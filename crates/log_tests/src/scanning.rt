@@ -1,34 +1,29 @@
 //! A scan of one name under a ticket.
-use crate::made::{docs, file, name, peer};
-use bep_log::{LogError, LoggedPeer, MAX_EVENTS};
+use bep_log::{LogError, MAX_EVENTS};
 use bep_machine::{Moved, Step};
-use bep_store::{FaultStore, MemStore};
+use log_fixture::{Device, docs, name, peer, within};
 use std::alloc::Global;
 
 // What a scan answers, and how many events the log has then, with the last ticket.
 type Told = (Result<Moved, LogError>, usize, u64);
 
-fn scanned(
-    alloc: Global,
-    device: &mut LoggedPeer<FaultStore<MemStore>>,
-    ticket: u64,
-) -> Option<Told> {
+fn scanned(alloc: Global, device: &mut Device, ticket: u64) -> Option<Told> {
     let (docs, name) = (docs(alloc)?, name(alloc, b'h')?);
     let answer = device.scan(ticket, &docs, &name);
     Some((answer, device.log().len(), device.last()))
 }
 
 // The device with a file that no scan has seen, put there under ticket 1.
-fn with_file(alloc: Global) -> Option<LoggedPeer<FaultStore<MemStore>>> {
+fn with_file(alloc: Global) -> Option<Device> {
     let mut device = peer(alloc, 1, &[2], 0)?;
-    let (docs, name) = (docs(alloc)?, name(alloc, b'h')?);
-    let node = file(alloc, b"hello", 1000)?;
-    device.edit(1, &docs, &name, &node).ok()?;
-    Some(device)
+    match within(alloc, &mut device, 1, b'e', b'h') {
+        Some(Ok(_)) => Some(device),
+        _ => None,
+    }
 }
 
 // Whether the last event is a scan of the file.
-fn is_scan(alloc: Global, device: &LoggedPeer<FaultStore<MemStore>>) -> Option<bool> {
+fn is_scan(alloc: Global, device: &Device) -> Option<bool> {
     Some(match &device.log().last()?.event.step {
         Step::Scan(number, folder, of) => {
             *number == device.peer().number()

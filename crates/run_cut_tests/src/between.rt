@@ -1,10 +1,10 @@
 //! A device that starts over with empty indexes between any two of the fifteen steps by which a file is taken over.
-use crate::made::{Pair, docs, name, two_devices};
-use crate::scenario::{STEPS, made};
+use crate::copies::{cut_of, one, two};
 use bep_fit::RunVerdict;
 use bep_index::IndexId;
 use bep_record::DeviceId;
-use bep_run_cut::{RunCut, check_run};
+use bep_run_cut::check_run;
+use log_fixture::{Pair, STEPS, docs, name, play_from, two_devices};
 use std::alloc::Global;
 
 // Both devices scan, the link comes up anew, and device 2 takes over what device 1 has.
@@ -14,23 +14,21 @@ const AGAIN: [&str; 14] = [
 
 // Makes the steps under tickets above `last`, and answers the last one.
 fn play(alloc: Global, pair: &mut Pair, last: u64, steps: &[&str]) -> Option<u64> {
-    let mut ticket = last;
-    for step in steps {
-        ticket = ticket.saturating_add(1);
-        let _answer = made(alloc, pair, ticket, step)?;
+    match play_from(alloc, pair, last, steps) {
+        Some((ticket, _)) => Some(ticket),
+        None => None,
     }
-    Some(ticket)
 }
 
-// The device starts over, and the link with it, under the ticket.
-fn reset(pair: &mut Pair, ticket: u64, device: u64) -> Option<()> {
+// Whether the device starts over, and the link with it, under the ticket.
+fn reset(pair: &mut Pair, ticket: u64, device: u64) -> Option<bool> {
     let (number, id) = (DeviceId::read(device)?, IndexId::read(11)?);
-    if device == 1 {
-        pair.first.reset(ticket, id).ok()?;
+    let own = if device == 1 {
+        pair.first.reset(ticket, id)
     } else {
-        pair.second.reset(ticket, id).ok()?;
-    }
-    pair.link.reset(ticket, number, id).ok()
+        pair.second.reset(ticket, id)
+    };
+    Some(own.is_ok() && pair.link.reset(ticket, number, id).is_ok())
 }
 
 // Whether device 2 has the whole file; none where it has another one.
@@ -45,49 +43,50 @@ fn has_file(alloc: Global, pair: &mut Pair) -> Option<bool> {
 
 // Whether the logs fit.
 fn fits(alloc: Global, pair: &mut Pair) -> Option<bool> {
-    let mut peers = Vec::new(alloc);
-    peers.push(pair.first.copy().ok()?).ok()?;
-    peers.push(pair.second.copy().ok()?).ok()?;
-    let mut links = Vec::new(alloc);
-    links.push(pair.link.copy().ok()?).ok()?;
-    let run = RunCut::of(alloc, peers, links).ok()??;
-    match check_run(&run) {
-        RunVerdict::Fits(_) => Some(true),
-        RunVerdict::Misfit(_, _) => Some(false),
+    let peers = two(alloc, pair.first.copy().ok()?, pair.second.copy().ok()?)?;
+    let run = cut_of(alloc, peers, one(alloc, pair.link.copy().ok()?)?)??;
+    Some(matches!(check_run(&run), RunVerdict::Fits(_)))
+}
+
+// Makes the steps, with a reset of the device after so many of them; the last ticket.
+fn broken(alloc: Global, pair: &mut Pair, device: u64, place: usize) -> Option<u64> {
+    let (before, after) = STEPS.split_at_checked(place)?;
+    let ticket = play(alloc, pair, 0, before)?.saturating_add(1);
+    if reset(pair, ticket, device)? {
+        play(alloc, pair, ticket, after)
+    } else {
+        None
     }
 }
 
 // The device starts over after so many of the steps: whether device 2 has the file after all of them; whether it has it once it
 // took it over again; and whether the logs fit then.
-fn story(alloc: Global, device: u64, place: usize) -> Option<(bool, bool, bool)> {
+fn story(alloc: Global, device: u64, place: usize) -> Option<[bool; 3]> {
     let mut pair = two_devices(alloc, [0, 0])?;
-    let (before, after) = STEPS.split_at_checked(place)?;
-    let ticket = play(alloc, &mut pair, 0, before)?.saturating_add(1);
-    reset(&mut pair, ticket, device)?;
-    let ticket = play(alloc, &mut pair, ticket, after)?.saturating_add(1);
+    let ticket = broken(alloc, &mut pair, device, place)?.saturating_add(1);
     let first = has_file(alloc, &mut pair)?;
     let _down = pair.link.lose(ticket);
     play(alloc, &mut pair, ticket, &AGAIN)?;
-    Some((first, has_file(alloc, &mut pair)?, fits(alloc, &mut pair)?))
+    Some([first, has_file(alloc, &mut pair)?, fits(alloc, &mut pair)?])
 }
 
 // Of all places at both devices, in how many each of these holds.
-fn counted(alloc: Global) -> Option<(u64, u64, u64)> {
-    let (mut first, mut second, mut fitting) = (0u64, 0u64, 0u64);
+fn counted(alloc: Global) -> Option<[u64; 3]> {
+    let mut all = [0u64; 3];
     for device in 1..=2u64 {
         for place in 0..16usize {
-            let (one, other, fits) = story(alloc, device, place)?;
-            first = first.saturating_add(u64::from(one));
-            second = second.saturating_add(u64::from(other));
-            fitting = fitting.saturating_add(u64::from(fits));
+            let found = story(alloc, device, place)?;
+            for at in 0..3usize {
+                all[at] = all[at].saturating_add(u64::from(found[at]));
+            }
         }
     }
-    Some((first, second, fitting))
+    Some(all)
 }
 
 // The second reading says where device 2 has the file in spite of the reset: where device 1 starts over before it
 // scans, or once the block is on its way back; and where device 2 does before the link is up, or once the file is there.
 #[test]
 fn a_reset_between_the_steps_leaves_no_part_of_a_file(rt: HostRuntime) {
-    assert_eq!(rt; counted(rt.alloc()), Some((10, 32, 32)));
+    assert_eq!(rt; counted(rt.alloc()), Some([10, 32, 32]));
 }
