@@ -25,9 +25,10 @@ KEPT = ("README.md", "headline.md", "clauses.md")
 
 
 def crates():
-    """The names of the crates, in the order of crates.txt."""
+    """The names of the crates, in the order of crates.txt, but of those that only tests share."""
     lines = (TOP / "crates.txt").read_text().splitlines()
-    return [line.partition(":")[0] for line in lines if ":" in line and not line.startswith("#")]
+    names = [line.partition(":")[0] for line in lines if ":" in line and not line.startswith("#")]
+    return [name for name in names if not name.endswith("_fixture")]
 
 
 def linked(file):
