@@ -13,6 +13,7 @@ from things import Fault, within
 
 MOST_LINE = 1048576
 MOST_PLACE = 4096
+MOST_DEVICES = 16
 IS_RECORD_OF = {1: IS_RECORD, 2: is_sized_record}
 
 
@@ -73,7 +74,9 @@ def read_things(version, value):
     row = {"folder": things.folder_name(folder), "name": things.file_name(name),
            "records": [things.record(one, version) for one in records],
            "nodes": [things.node(one, version) for one in nodes], "cells": list(map(read_cell, cells))}
+    within(len(cells), 0, MOST_DEVICES)
     for cell in row["cells"]:
+        within(len(cell["views"]), 0, MOST_DEVICES)
         for place in (cell["own"], cell["pull"], *(place for _, place in cell["views"])):
             within(place, 0, len(row["records"]))
         within(cell["node"], 0, len(row["nodes"]))

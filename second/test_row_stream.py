@@ -154,6 +154,11 @@ class Refusals(unittest.TestCase):
             with self.subTest(cells):
                 self.refused_row("184 Range", cells)
 
+    def test_too_many(self):
+        for many, fault in ((16, "186 Unshared docs"), (17, "184 Range")):
+            self.assertIn(fault, told(HEADER, row("b", [[1, 1, 0, 0, [[of, 1] for of in range(2, 2 + many)]]]))[0][0])
+            self.assertIn(fault, told(HEADER, row("b", [[device, 1, 0, 0, []] for device in range(1, 1 + many)]))[0][0])
+
     def test_too_long(self):
         line = json.dumps(row("a", BOTH)).encode()
         for spare, number in ((0, 0), (1, 184)):
