@@ -1,9 +1,11 @@
-"""A second reading of streams of rows (docs/rows.md): what `syncaudit rows`, with `--firm` too, should write of one, and its exit status."""
+"""A second reading of streams of rows (docs/rows.md): what `syncaudit rows`, with `--firm` and with `--explain` too, should write of one,
+but for what is indented, and its exit status."""
 
 import firm
 import json_text
 import reading
 import things
+import under_winners
 import verdict
 from cluster.cut import certify_part
 from placed import fits_kind, is_well_formed
@@ -181,6 +183,20 @@ def first_fault(read, aim):
     return cut.first_fault(rows) if aim == "settled" else firm.first_fault(cut, rows)
 
 
+def all_faults(read, aim):
+    """All that fails under the winners, in order; a name without a winner fails as that."""
+    reasons = verdict.DEVICE_REASONS if aim == "settled" else (*verdict.DEVICE_REASONS, *firm.FIRM_REASONS)
+    return map(under_winners.as_unwon, verdict.Cut(read).all_faults(certify_part(read)[0], tuple(reasons)))
+
+
+def faults_at(read, aim, explain):
+    """What is told of the one name of a cut: all that fails where it is explained, or else the first."""
+    if explain:
+        return list(all_faults(read, aim))
+    fault = first_fault(read, aim)
+    return [fault] if fault else []
+
+
 def counts(header, rows):
     for folder in sorted(header["folders"], key=lambda folder: folder["folder"]):
         here = [row for row in rows if row["folder"] == folder["folder"]]
@@ -207,13 +223,13 @@ def read_stream(stream, told):
     return header, rows
 
 
-def answer(stream, aim="settled"):
-    """What `syncaudit rows` should write, and its exit status; where `aim` is `firm`, `syncaudit rows --firm`."""
+def answer(stream, aim="settled", explain=False):
+    """What `syncaudit rows` should write, and its exit status; where `aim` is `firm`, `syncaudit rows --firm`, and where it explains,
+    `--explain`, but for what is indented."""
     lines = []
 
     def tell(header, row):
-        fault = first_fault(cut_with(header, [row]), aim)
-        lines.extend([fault_line(*fault)] if fault else [])
+        lines.extend(fault_line(*fault) for fault in faults_at(cut_with(header, [row]), aim, explain))
 
     try:
         header, rows = read_stream(stream, tell)

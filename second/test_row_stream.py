@@ -31,9 +31,9 @@ def row(name, cells, *, folder="docs", records=None, nodes=None):
 BOTH = [[1, 1, 1, 0, []], [2, 1, 1, 0, []]]
 
 
-def told(*lines, aim="settled"):
+def told(*lines, aim="settled", explain=False):
     """What is written to these lines, and the status."""
-    written, status = answer(b"".join(json.dumps(line).encode() + b"\n" for line in lines), aim)
+    written, status = answer(b"".join(json.dumps(line).encode() + b"\n" for line in lines), aim, explain)
     return written.decode().splitlines(), status
 
 
@@ -115,6 +115,24 @@ class Firm(unittest.TestCase):
 
     def test_refused_at_a_later_line(self):
         self.assertEqual(told_firm(HEADER, self.LOOSE, row("a", BOTH)), (["VersionDiffers docs c on 1", "line 3: refused: 185 Twice docs - a"], 2))
+
+
+class Explained(unittest.TestCase):
+    """All that fails at each name, but for details."""
+
+    def test_all_that_fails_at_a_name_is_told_and_the_verdict_stays(self):
+        unclean = row("a", [[1, 1, 0, 0, []], [2, 1, 1, 0, []]])
+        without = row("b", [[1, 0, 1, 0, []]])
+        end = ["not settled: NotWinner docs b", "folder docs: 3 names, 0 deleted, 2 devices"]
+        rows = HEADER, unclean, without, row("c", BOTH)
+        self.assertEqual(told(*rows), (["StoreDiffers docs a on 1", "NotWinner docs b", *end], 1))
+        self.assertEqual(told(*rows, explain=True), (
+            ["StoreDiffers docs a on 1", "StoreUnclean docs a on 1", "NotWinner docs b", *end], 1))
+
+    def test_what_is_not_firm_comes_behind_what_is_not_settled(self):
+        both = row("c", [[1, 1, 1, 0, []], [2, 2, 0, 0, []]], records=Firm.VERSIONS)
+        self.assertEqual(told(HEADER, both, aim="firm", explain=True)[0][:-2],
+                         ["StoreDiffers docs c on 2", "StoreUnclean docs c on 2", "VersionDiffers docs c on 1"])
 
 
 class Refusals(unittest.TestCase):

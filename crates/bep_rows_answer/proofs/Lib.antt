@@ -1,5 +1,8 @@
 mod Above
 mod LineFacts
-mod Settled
+pub mod MoreRows
+pub mod Settled
 mod SoFar
 mod Streamed
+mod CountFacts
+mod Given

@@ -14,6 +14,7 @@ use Rattle.bep_words.specs.declared.mode.Ending.{Ending}
 use Rattle.bep_words.specs.declared.mode.Ending.TheVariants.{Report, Document}
 use Rattle.bep_words.specs.declared.mode.Mode.{Mode}
 use Rattle.bep_words.specs.declared.mode.Mode.TheVariants.{Check, Firm, Rows, Run}
+use Rattle.bep_words.specs.declared.mode.Reasons.{Reasons}
 use Rattle.bep_words.specs.declared.mode.Under.{Under}
 use Rattle.bep_words.specs.declared.mode.Under.TheVariants.{Given, Winners}
 use Rattle.syncaudit.specs.inner.Says.{SaysIn}
@@ -28,9 +29,9 @@ module _ (unread left : Option (List ℕ)) (status : ℕ) where
   firm_says Given given winners = given refl
   firm_says Winners given winners = winners refl
 
-  pub rows_say : (aim : Aim) → (aim ≡ aims.Settled → status ≡ 0 → SaysSettledRows unread left) → (aim ≡ aims.Firm → status ≡ 0 → SaysFirmRows unread left) → status ≡ 0 → SaysIn (Rows aim) unread left
-  rows_say aims.Settled settled firm = settled refl
-  rows_say aims.Firm settled firm = firm refl
+  pub rows_say : (aim : Aim) (told : Reasons) → (aim ≡ aims.Settled → status ≡ 0 → SaysSettledRows unread left) → (aim ≡ aims.Firm → status ≡ 0 → SaysFirmRows unread left) → status ≡ 0 → SaysIn (Rows aim told) unread left
+  rows_say aims.Settled told settled firm = settled refl
+  rows_say aims.Firm told settled firm = firm refl
 
   pub run_says : (ending : Ending) (turns : ℕ) → (ending ≡ Report → turns ≡ 0 → status ≡ 0 → EndsSettled unread left) → (ending ≡ Report → 0 < turns → status ≡ 0 → EndsLived unread left) → status ≡ 0 → SaysIn (Run ending turns) unread left
   run_says Report turns settled lives zero = (λ none. settled refl none zero, λ some. lives refl some zero)

@@ -16,6 +16,7 @@ use Rattle.bep_words.specs.declared.mode.Goal.TheVariants.{Settled}
 use Rattle.bep_words.specs.declared.mode.Goal.TheVariants as goals
 use Rattle.bep_words.specs.declared.mode.Mode.{Mode}
 use Rattle.bep_words.specs.declared.mode.Mode.TheVariants.{Check, Firm, Converge, Certify, Explain, Rows, Run}
+use Rattle.bep_words.specs.declared.mode.Reasons.TheVariants as reasons
 use Rattle.bep_words.specs.declared.mode.Under.TheVariants.{Given, Winners}
 
 module _ (heard hears : Option (List Said)) (said : Hears heard hears (Why Memory ∷ [])) where
@@ -33,8 +34,10 @@ module _ (heard hears : Option (List Said)) (said : Hears heard hears (Why Memor
   done_without_memory (Explain goals.Firm Winners form) unread held status told = (record { answer = Err Memory; told = told; done = Keeps-refl held }, record { answer = Err Memory; told = told; tells = tt; hears = said })
   done_without_memory (Explain goals.Converging Given form) unread held status told = (record { answer = Err Memory; told = told; done = Keeps-refl held }, record { answer = Err Memory; told = told; tells = tt; hears = said })
   done_without_memory (Explain goals.Converging Winners form) unread held status told = (record { answer = Err Memory; told = told; done = Keeps-refl held }, record { answer = Err Memory; told = told; tells = tt; hears = said })
-  done_without_memory (Rows aims.Settled) unread held status told = (record { answer = Err Memory; told = told; done = ([], Appends-nil held) }, record { answer = Err Memory; told = told; hears = said })
-  done_without_memory (Rows aims.Firm) unread held status told = (record { answer = Err Memory; told = told; done = ([], Appends-nil held) }, record { answer = Err Memory; told = told; hears = said })
+  done_without_memory (Rows aims.Settled reasons.First) unread held status told = (record { answer = Err Memory; told = told; done = ([], Appends-nil held) }, record { answer = Err Memory; told = told; hears = said })
+  done_without_memory (Rows aims.Settled reasons.All) unread held status told = (record { answer = Err Memory; told = told; done = ([], Appends-nil held) }, record { answer = Err Memory; told = told; hears = said })
+  done_without_memory (Rows aims.Firm reasons.First) unread held status told = (record { answer = Err Memory; told = told; done = ([], Appends-nil held) }, record { answer = Err Memory; told = told; hears = said })
+  done_without_memory (Rows aims.Firm reasons.All) unread held status told = (record { answer = Err Memory; told = told; done = ([], Appends-nil held) }, record { answer = Err Memory; told = told; hears = said })
   done_without_memory (Run Report turns) unread held status told = record {
     at_rest = λ none. (record { answer = Err Memory; told = told; done = Keeps-refl held }, record { answer = Err Memory; told = told; tells = tt; hears = said });
     live = λ some. (record { answer = Err Memory; told = told; done = Keeps-refl held }, record { answer = Err Memory; told = told; tells = tt; hears = said });
@@ -63,8 +66,8 @@ module _ (heard hears : Option (List Said)) (said : Hears heard hears (Why Memor
         firm = λ asks zero. absurd (isnt zero);
         firm_under_winners = λ asks zero. absurd (isnt zero);
         converging = λ asks zero. absurd (isnt zero);
-        settled_rows = λ asks zero. absurd (isnt zero);
-        firm_rows = λ asks zero. absurd (isnt zero);
+        settled_rows = λ told_of asks zero. absurd (isnt zero);
+        firm_rows = λ told_of asks zero. absurd (isnt zero);
         ends_settled = λ asks zero. absurd (isnt zero);
         lives_settled = λ turns asks some zero. absurd (isnt zero);
       }

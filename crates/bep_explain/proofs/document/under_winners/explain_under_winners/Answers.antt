@@ -4,7 +4,7 @@ use Rattle.bep_answer.specs.Answer.{outcome_of}
 use Rattle.bep_explain.specs.Found.{verdict_of}
 use Rattle.bep_explain.specs.document.Explained.{IsWritten}
 use Rattle.bep_explain.proofs.JsonFacts.{none_shown}
-use Rattle.bep_explain.proofs.document.under_winners.explain_cut.Goals as goal
+use Rattle.bep_explain.proofs.document.under_winners.explain_under_winners.Goals as goal
 
 pub returns : goal.returns
 returns c = record {

@@ -5,7 +5,7 @@ use Rattle.bep_tables.specs.Cut.{tables_of}
 use Rattle.bep_explain.specs.document.FirmExplained.{IsFirmWritten, firmness_told}
 use Rattle.bep_explain.proofs.JsonFacts.{none_shown}
 use Rattle.bep_explain.proofs.document.FirmFacts.{firm_exactly}
-use Rattle.bep_explain.proofs.document.under_winners.explain_firm_cut.Goals as goal
+use Rattle.bep_explain.proofs.document.under_winners.explain_firm_under_winners.Goals as goal
 
 pub returns : goal.returns
 returns c =

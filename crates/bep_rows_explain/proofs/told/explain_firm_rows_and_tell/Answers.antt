@@ -1,0 +1,18 @@
+use Rattle.std.proofs.Common.{subst}
+use Rattle.bep_rows.specs.declared.aim.Aim.{Aim}
+use Rattle.bep_rows.specs.declared.aim.Aim.TheVariants as aims
+use Rattle.bep_rows_answer.specs.Outcome.{rows_status_of}
+use Rattle.bep_rows_answer.specs.Told.{IsRowsTold}
+use Rattle.bep_rows_answer.specs.UnderWinners.{EndsUnderWinners}
+use Rattle.bep_rows_answer.proofs.Settled.{firm_rows}
+use Rattle.bep_rows_explain.specs.Explained.{ExplainsRow}
+use Rattle.bep_rows_explain.proofs.told.explain_firm_rows_and_tell.Goals as goal
+
+pub returns-clause-told : goal.returns-clause-told
+returns-clause-told g c =
+    subst (λ (aim : Aim). IsRowsTold (ExplainsRow aim) (EndsUnderWinners aim) (rows_status_of aims.Firm) _ _ _ _ _) c.of-auditor.ensures c.answer_firm_and_tell.ensures.told
+
+pub returns-clause-firm : goal.returns-clause-firm
+returns-clause-firm g c =
+    firm_rows c.settled_stays_put.ensures c.settled_stays_settled.ensures c.firm_stays_firm.ensures c.firm_stays_put.ensures _ _ _ _ _ _
+    (subst (λ (aim : Aim). IsRowsTold (ExplainsRow aim) (EndsUnderWinners aim) (rows_status_of aims.Firm) _ _ _ _ _) c.of-auditor.ensures c.answer_firm_and_tell.ensures.told)
