@@ -1,7 +1,8 @@
 #!/usr/bin/env python3
-"""Compares what `syncaudit rows`, with `--firm` and with `--explain` too, answers with a second reading of streams (row_stream.py), on
-random streams; where none is refused, its verdict with that of `check --certify`, or `firm --certify`, of the document for which
-the stream stands; and what is told of each name with what `explain --certify` tells of the document for which its row alone stands.
+"""Compares what `syncaudit rows`, with `--firm`, `--converge` and `--explain` too, answers with a second reading of streams
+(row_stream.py), on random streams; where none is refused, its verdict with that of `check --certify`, `firm --certify` or
+`converge` of the document for which the stream stands; and what is told of each name with what `explain` tells of the document for
+which its row alone stands.
 
     second/compare_rows.py [COUNT [SEED]]
 
@@ -18,11 +19,12 @@ from row_texts import Streams, document_of
 
 def verdict_of(written):
     """The line of the verdict: the first that `check` writes, and the last of `rows` that is of no folder."""
-    return [line for line in written.splitlines() if line.startswith((b"settled", b"firm", b"not settled: ", b"not firm: ", b"refused: "))][-1:]
+    return [line for line in written.splitlines() if line.startswith((b"settled", b"firm", b"converging", b"not ", b"refused: "))][-1:]
 
 
-COMMANDS = {"settled": ("rows", "check --certify"), "firm": ("rows --firm", "firm --certify")}
-EXPLAINED = {"settled": ("rows --explain", "explain --certify"), "firm": ("rows --firm --explain", "explain --certify --firm")}
+COMMANDS = {"settled": ("rows", "check --certify"), "firm": ("rows --firm", "firm --certify"), "converging": ("rows --converge", "converge")}
+EXPLAINED = {"settled": ("rows --explain", "explain --certify"), "firm": ("rows --firm --explain", "explain --certify --firm"),
+             "converging": ("rows --converge --explain", "explain --converge")}
 
 
 def compare_document(stream, aim, told):

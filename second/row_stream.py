@@ -1,8 +1,10 @@
-"""A second reading of streams of rows (docs/rows.md): what `syncaudit rows`, with `--firm` and with `--explain` too, should write of one,
-but for what is indented, and its exit status."""
+"""A second reading of streams of rows (docs/rows.md): what `syncaudit rows`, with `--firm`, `--converge` and `--explain` too, should write
+of one, but for what is indented, and its exit status."""
 
+import converge
 import firm
 import json_text
+import prevails
 import reading
 import things
 import under_winners
@@ -175,7 +177,10 @@ def cut_with(header, rows):
 
 
 def first_fault(read, aim):
-    """The first known name without a winner, or else the first reason that fails under the winners; None where it is what is asked."""
+    """The first known name without a winner, or else the first reason that fails under the winners; None where it is what is asked.
+    Or the first reason that keeps it from converging."""
+    if aim == "converging":
+        return next(iter(all_faults(read, aim)), None)
     rows, without = certify_part(read)
     if without:
         return "NotWinner", *without[0], None
@@ -184,7 +189,9 @@ def first_fault(read, aim):
 
 
 def all_faults(read, aim):
-    """All that fails under the winners, in order; a name without a winner fails as that."""
+    """All that fails under the winners, in order; a name without a winner fails as that. Or all that keeps it from converging."""
+    if aim == "converging":
+        return converge.all_faults(verdict.Cut(read, prevails.Sharer))
     reasons = verdict.DEVICE_REASONS if aim == "settled" else (*verdict.DEVICE_REASONS, *firm.FIRM_REASONS)
     return map(under_winners.as_unwon, verdict.Cut(read).all_faults(certify_part(read)[0], tuple(reasons)))
 
@@ -195,6 +202,16 @@ def faults_at(read, aim, explain):
         return list(all_faults(read, aim))
     fault = first_fault(read, aim)
     return [fault] if fault else []
+
+
+def ending(header, rows, aim):
+    """The lines behind the names, and the exit status."""
+    read = cut_with(header, rows)
+    fault = first_fault(read, aim)
+    if aim == "converging":
+        return converge.report_of(verdict.Cut(read, prevails.Sharer), fault)
+    told = b"not %s: %s" % (aim.encode(), fault_line(*fault)) if fault else aim.encode()
+    return [told, *counts(header, rows)], 1 if fault else 0
 
 
 def counts(header, rows):
@@ -224,8 +241,8 @@ def read_stream(stream, told):
 
 
 def answer(stream, aim="settled", explain=False):
-    """What `syncaudit rows` should write, and its exit status; where `aim` is `firm`, `syncaudit rows --firm`, and where it explains,
-    `--explain`, but for what is indented."""
+    """What `syncaudit rows` should write, and its exit status; where `aim` is `firm`, `syncaudit rows --firm`, where it is
+    `converging`, `--converge`, and where it explains, `--explain`, but for what is indented."""
     lines = []
 
     def tell(header, row):
@@ -236,7 +253,5 @@ def answer(stream, aim="settled", explain=False):
     except Fault as fault:
         lines.append(b"line %d: %s" % (fault.line, refusal(fault)[0][0]))
         return written(lines, 2)
-    fault = first_fault(cut_with(header, rows), aim)
-    lines.append(b"not %s: %s" % (aim.encode(), fault_line(*fault)) if fault else aim.encode())
-    lines.extend(counts(header, rows))
-    return written(lines, 1 if fault else 0)
+    end, status = ending(header, rows, aim)
+    return written([*lines, *end], status)

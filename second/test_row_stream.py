@@ -135,6 +135,23 @@ class Explained(unittest.TestCase):
                          ["StoreDiffers docs c on 2", "StoreUnclean docs c on 2", "VersionDiffers docs c on 1"])
 
 
+class Converging(unittest.TestCase):
+    """Whether the cut converges: a view of device 2 at 1 has what 2 has, if it says so."""
+
+    def test_a_name_that_is_still_to_come_converges(self):
+        ahead = row("a", [[1, 1, 1, 0, [[2, 2]]], [2, 2, 1, 0, []]], records=[record("a"), record("a", version=[[1, 1], [2, 1]], sequence=2)])
+        self.assertEqual(told(HEADER, ahead, row("b", BOTH), aim="converging"), (
+            ["converging", "folder docs: 2 names, 0 deleted, 2 devices, 1 pairs not yet at the winner"], 0))
+
+    def test_each_name_has_its_first_hindrance_and_the_least_reason_is_the_verdict(self):
+        rows = HEADER, row("b", [[1, 1, 0, 0, []]]), Firm.LOOSE
+        end = ["not converging: NothingPrevails docs c",
+               "folder docs: 2 names, 1 deleted, 2 devices, 3 pairs not yet at the winner"]
+        self.assertEqual(told(*rows, aim="converging"), (["StoreUnclean docs b on 1", "NothingPrevails docs c", *end], 1))
+        self.assertEqual(told(*rows, aim="converging", explain=True), (
+            ["StoreUnclean docs b on 1", "StoreDiffers docs b on 1", "NothingPrevails docs c", "Concurrent docs c", *end], 1))
+
+
 class Refusals(unittest.TestCase):
     """The number of each line that is refused, and its fault."""
 

@@ -11,10 +11,11 @@ ghost use Rattle.bep_converge_answer.specs.Convergence.{SaysConverging};
 ghost use Rattle.bep_live.specs.Lived.{EndsLived};
 ghost use Rattle.bep_play.specs.Played.{EndsSettled};
 ghost use Rattle.bep_rows_answer.specs.Told.{SaysFirmRows, SaysSettledRows};
+ghost use Rattle.bep_rows_converge.specs.Stays.{SaysConvergingRows};
 ghost use Rattle.bep_words.specs.Mode.{Asks, program};
 ghost use Rattle.syncaudit.specs.Status.{IsCertifying, IsChecking, IsDone, IsEnd, IsEnding, IsExplaining, IsExplainingGiven, IsExplainingUnderWinners, IsFirming, IsFollowed, IsLiveEnding, IsProgramRun, IsRunning, IsUnfollowed, IsWithoutWords, status_without};
 ghost use Rattle.syncaudit.specs.inner.Says.{SaysIn};
-ghost use Rattle.bep_words.specs.declared.mode.Aim.TheVariants as aims;
+ghost use Rattle.bep_words.specs.declared.mode.Goal.TheVariants as goals;
 ghost use Rattle.bep_words.specs.declared.mode.Ending.TheVariants.{Report};
 ghost use Rattle.bep_words.specs.declared.mode.Mode.TheVariants.{Check, Converge, Firm, Rows, Run};
 ghost use Rattle.bep_words.specs.declared.mode.Reasons.{Reasons as ReasonsOf};
@@ -105,10 +106,12 @@ pub fn run<P: AllocGlobal + Eprint + Threads + Wait + Sync, H: Person, R: Read, 
         → result ≡ 0 → SaysFirmUnderWinners (R.remaining reader.old) (R.remaining reader.new) }
     ensures converging { Asks (map S.text words.entry.now) Converge
         → result ≡ 0 → SaysConverging (R.remaining reader.old) (R.remaining reader.new) }
-    ensures settled_rows { (told : ReasonsOf) → Asks (map S.text words.entry.now) (Rows aims.Settled told)
+    ensures settled_rows { (told : ReasonsOf) → Asks (map S.text words.entry.now) (Rows goals.Settled told)
         → result ≡ 0 → SaysSettledRows (R.remaining reader.old) (R.remaining reader.new) }
-    ensures firm_rows { (told : ReasonsOf) → Asks (map S.text words.entry.now) (Rows aims.Firm told)
+    ensures firm_rows { (told : ReasonsOf) → Asks (map S.text words.entry.now) (Rows goals.Firm told)
         → result ≡ 0 → SaysFirmRows (R.remaining reader.old) (R.remaining reader.new) }
+    ensures converging_rows { (told : ReasonsOf) → Asks (map S.text words.entry.now) (Rows goals.Converging told)
+        → result ≡ 0 → SaysConvergingRows (R.remaining reader.old) (R.remaining reader.new) }
     ensures ends_settled { Asks (map S.text words.entry.now) (Run Report 0)
         → result ≡ 0 → EndsSettled (R.remaining reader.old) (R.remaining reader.new) }
     ensures lives_settled { (turns : ℕ) → Asks (map S.text words.entry.now) (Run Report turns) → 0 < turns
@@ -139,7 +142,7 @@ fn follow<P: AllocGlobal + Threads + Wait + Sync, H: Person, R: Read, W: Write>(
         Mode::Converge => converge_and_tell(rt, person, reader, writer),
         Mode::Certify(extent) => certify(rt, person, extent, reader, writer),
         Mode::Explain(goal, under, form) => explain(rt, person, goal, under, form, reader, writer),
-        Mode::Rows(aim, reasons) => read_rows(rt, person, aim, reasons, reader, writer),
+        Mode::Rows(goal, reasons) => read_rows(rt, person, goal, reasons, reader, writer),
         Mode::Run(ending, turns) => run_scenario(rt, person, ending, turns, reader, writer),
     }
 }

@@ -4,7 +4,7 @@ use Rattle.bep_converge_answer.specs.Convergence.{convergence_of}
 use Rattle.bep_converge_check.specs.Hindrance.{hinder_shown}
 use Rattle.bep_converge_check.specs.Hindrances.{converge_verdict_of}
 use Rattle.bep_converge_explain.specs.Explained.{IsConvergeWritten}
-use Rattle.bep_converge_explain.proofs.document.explain_cut.Goals as goal
+use Rattle.bep_converge_explain.proofs.document.explain_convergence.Goals as goal
 
 pub returns : goal.returns
 returns c = record {
