@@ -24,7 +24,7 @@ first_named (OfDeviceAndLinks device) = (objects.Device device, Contains-first (
 pub added_is_claimed_lem : AddedIsClaimed
 added_is_claimed_lem listed old event may =
     let first = first_named (guards_of event.event.step) in
-    let has = may.owned first.0 (may.there first.0 first.1) first.2 in
+    let has = may.there first.0 first.1 in
     let about : is_about has.0.object event ≡ true = subst (λ o. is_about o event ≡ true) (sym has.2) first.2 in
     let ends : Contains (row_with event has.0).events event =
     subst (λ (b : Bool). Contains (if b then has.0.events ++ event ∷ [] else has.0.events) event) (sym about) (Contains-push has.0.events event) in

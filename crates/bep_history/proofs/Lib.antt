@@ -1,6 +1,9 @@
 mod Filtered
 mod EachSeat
+mod Apart
 mod Moves
 mod SeatMoves
 mod PartsFit
 mod AddedIsClaimed
+mod ClaimedStands
+mod Chairs

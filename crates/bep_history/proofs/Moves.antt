@@ -17,8 +17,9 @@ use Rattle.bep_history.specs.declared.view.Row.{Row}
 use Rattle.bep_history.specs.declared.view.View.{View}
 use Rattle.bep_history.specs.Parts.{is_about, part_of}
 use Rattle.bep_history.specs.inner.Rule.{Adds, Draws, GivesUp, IsKept, Knows, Learns}
-use Rattle.bep_history.specs.View.{IsAbove, IsTold, MayAdd, beginning, nothing, row, row_with, with_event, with_ticket, without_ticket}
+use Rattle.bep_history.specs.View.{AreDistinct, IsAbove, IsTold, MayAdd, beginning, nothing, row, row_with, with_event, with_ticket, without_ticket}
 use Rattle.bep_history.proofs.Filtered.{filter-push, filter-push_other, kept-passes}
+use Rattle.bep_history.proofs.Apart.{apart_beginning, apart_with}
 use Rattle.bep_history.proofs.EachSeat.{each_push, each_set}
 
 abbrev St : Type 0
@@ -36,12 +37,13 @@ module _ (objects : List Object) where
     rows = λ one stands. absurd (not_in_none one stands);
     drawn = λ ticket stands. absurd (not_in_none ticket stands);
     claims = λ event stands. absurd (not_in_none event stands);
+    apart = tt;
   }
 
   -- ---- how it begins
 
-  pub begins : Rule (opening (1 ∷ []) [] (beginning objects))
-  begins = record {
+  pub begins : AreDistinct objects → Rule (opening (1 ∷ []) [] (beginning objects))
+  begins distinct = record {
     history = [];
     next = 1;
     owner = λ _. 0;
@@ -59,6 +61,7 @@ module _ (objects : List Object) where
             (refl, sym (ap (λ (z : Row). z.events) found.2), subst (λ (z : Row). Contains objects z.object) found.2 found.1);
         drawn = λ ticket stands. absurd (not_in_none ticket stands);
         claims = λ event stands. absurd (not_in_none event stands);
+        apart = apart_beginning objects distinct;
       }
 
       first : (seat : ℕ) (old : View) → get_elem? (beginning objects ∷ []) seat ≡ some old → Knows objects [] 1 (λ _. 0) (λ _. 0) seat old
@@ -88,7 +91,7 @@ module _ (objects : List Object) where
   pub gives_up : (slots id : ℕ) (me : Seat) → Allows Rule slots id me 0 (λ n. n) (GivesUp (step slots 0 0 0 none) me)
   gives_up slots id me s kept homes at fits =
       let mine = kept.knows id me.0 at in
-      (without_ticket me.0, keeps, tt, same_history s kept _ id (without_ticket me.0) (unread s kept) (record { rows = mine.rows; drawn = λ ticket stands. absurd (not_in_none ticket stands); claims = mine.claims }), refl)
+      (without_ticket me.0, keeps, tt, same_history s kept _ id (without_ticket me.0) (unread s kept) (record { rows = mine.rows; drawn = λ ticket stands. absurd (not_in_none ticket stands); claims = mine.claims; apart = mine.apart }), refl)
 
   pub learns : (slots id : ℕ) (me : Seat) → Allows Rule slots id me 0 (λ n. n) (Learns objects (step slots 0 0 0 none) me)
   learns slots id me s kept homes at fits =
@@ -159,6 +162,7 @@ module _ (objects : List Object) where
                     rows = theirs.rows;
                     drawn = λ ticket stands. let has = theirs.drawn ticket stands in (as_before ticket has.1 ∙ has.0, (let low : ticket < kept.next = has.1 in omega (arith, low, here, is_next)), has.2);
                     claims = theirs.claims;
+                    apart = theirs.apart;
                   })
                   (record {
                     rows = mine.rows;
@@ -168,6 +172,7 @@ module _ (objects : List Object) where
                       λ event there is_its. let low = kept.below event there in omega (arith, low, is_its, same, is_next),
                     );
                     claims = mine.claims;
+                    apart = mine.apart;
                   });
             },
             (
@@ -236,7 +241,9 @@ module _ (objects : List Object) where
       there one object stands names =
           ⊎_elim
           (λ old. kept.is_history.there one object old names)
-          (λ (new : event ≡ one). may.there object (subst (λ (z : Stamped). Contains (named z) object) (sym new) names))
+          (λ (new : event ≡ one).
+          let has = may.there object (subst (λ (z : Stamped). Contains (named z) object) (sym new) names) in
+          subst (Contains objects) has.2 (mine.rows has.0 has.1).2)
           (Contains-push_cases kept.history event one stands)
 
       below : (one : Stamped) → Contains history one → one.ticket < kept.next
@@ -272,6 +279,7 @@ module _ (objects : List Object) where
                   (Contains-push_cases kept.history event one in_history),
             );
             claims = λ one stands. Contains-append_left kept.history (event ∷ []) one (theirs.claims one stands);
+            apart = theirs.apart;
           }
 
       own : Knows objects history kept.next kept.owner kept.drawer id (with_event event me.0)
@@ -284,4 +292,5 @@ module _ (objects : List Object) where
             (is.0, ap (λ es. if is_about object event then es ++ event ∷ [] else es) is.1 ∙ sym (filter-push (is_about object) kept.history event), is.2);
         drawn = λ ticket stands. absurd (not_in_none ticket stands);
         claims = λ one stands. Contains-append_left kept.history (event ∷ []) one (mine.claims one stands);
+        apart = apart_with event me.0.rows mine.apart;
       }

@@ -13,8 +13,9 @@ use Rattle.bep_history.specs.declared.view.Row.{Row}
 use Rattle.bep_history.specs.declared.view.View.{View}
 use Rattle.bep_history.specs.Parts.{is_about, part_of}
 use Rattle.bep_history.specs.inner.Rule.{IsKept, Knows}
-use Rattle.bep_history.specs.View.{IsFirstApart, claims_of, first_of, first_row, joined, nothing, other_rows, rest_of, view}
+use Rattle.bep_history.specs.View.{AreApart, HasRow, claims_of, first_of, first_row, joined, nothing, other_rows, rest_of, view}
 use Rattle.bep_history.proofs.Filtered.{kept-passes}
+use Rattle.bep_history.proofs.Apart.{apart_both}
 use Rattle.bep_history.proofs.EachSeat.{each_push, each_set, turned, turned-here, turned-other}
 use Rattle.bep_history.proofs.Moves.{knows_nothing}
 
@@ -35,6 +36,9 @@ moved-other object first place was other = cases (same_or_not (object_row.the_ro
     cases : (d : OrNot (object ≡ first)) → ⊎_elim (λ _. place) (λ _. was) d ≡ was
     cases (inl is) = absurd (other is)
     cases (inr apart) = refl
+
+no_row : (object : Object) → ¬ HasRow [] object
+no_row object has = not_in_none has.0 has.1
 
 module _ (objects : List Object) where
   -- ---- what a seat knows is shown
@@ -61,22 +65,23 @@ module _ (objects : List Object) where
               rows = λ one stands. absurd (not_in_none one stands);
               drawn = λ ticket stands. absurd (not_in_none ticket stands);
               claims = λ event stands. ⊎_elim (λ claimed. mine.claims event claimed) (in_row event) (Contains-append_cases old.claims (flat_map (λ one. one.events) old.rows) event stands);
+              apart = tt;
             });
       }
 
   -- ---- rows go to another seat, and come back
 
-  pub splits : (id : ℕ) (old : View) → IsFirstApart old.rows → Splits (IsKept objects) id old (other_rows old) (first_row old)
-  splits id old apart s kept at = by_rows old.rows refl apart
+  pub splits : (id : ℕ) (old : View) → Splits (IsKept objects) id old (other_rows old) (first_row old)
+  splits id old s kept at = by_rows old.rows refl mine.apart
     where
       mine : Knows objects kept.history kept.next kept.owner kept.drawer id old
       mine = kept.knows id old at
 
-      by_rows : (rows : List Row) → old.rows ≡ rows → IsFirstApart rows
+      by_rows : (rows : List Row) → old.rows ≡ rows → AreApart rows
           → IsKept objects record { words = s.words; homes = s.homes; views = set s.views id (view (rest_of rows) old.drawn old.claims) ++ view (first_of rows) [] [] ∷ [] }
       by_rows [] is alone =
           let P = Knows objects kept.history kept.next kept.owner kept.drawer in
-          let left : P id (view [] old.drawn old.claims) = record { rows = λ one stands. absurd (not_in_none one stands); drawn = mine.drawn; claims = mine.claims } in
+          let left : P id (view [] old.drawn old.claims) = record { rows = λ one stands. absurd (not_in_none one stands); drawn = mine.drawn; claims = mine.claims; apart = tt } in
           record {
             history = kept.history;
             next = kept.next;
@@ -117,13 +122,15 @@ module _ (objects : List Object) where
                       (moved-other one.object first.object place (kept.owner one.object) (λ same. other (sym has.0 ∙ (ap kept.owner same ∙ of_first.0))) ∙ has.0, has.1, has.2);
                   drawn = theirs.drawn;
                   claims = theirs.claims;
+                  apart = theirs.apart;
                 })
                 (record {
                   rows = λ one stands.
                       let has = mine.rows one (subst (λ rows. Contains rows one) (sym is) (Contains-more first more one stands)) in
-                      (moved-other one.object first.object place (kept.owner one.object) (λ same. alone (one, stands, same)) ∙ has.0, has.1, has.2);
+                      (moved-other one.object first.object place (kept.owner one.object) (λ same. alone.0 (one, stands, same)) ∙ has.0, has.1, has.2);
                   drawn = mine.drawn;
                   claims = mine.claims;
+                  apart = alone.1;
                 }))
                 (record {
                   rows = λ one stands.
@@ -131,6 +138,7 @@ module _ (objects : List Object) where
                       (moved-here first.object first.object place (kept.owner first.object) refl, of_first.1, of_first.2);
                   drawn = λ ticket stands. absurd (not_in_none ticket stands);
                   claims = λ event stands. absurd (not_in_none event stands);
+                  apart = (no_row first.object, tt);
                 });
           }
 
@@ -160,19 +168,23 @@ module _ (objects : List Object) where
               rows = λ one stands. let is = has.rows one stands in (turned-other other id (kept.owner one.object) (λ e. not_it (sym is.0 ∙ e)) ∙ is.0, is.1, is.2);
               drawn = λ ticket stands. let is = has.drawn ticket stands in (turned-other other id (kept.drawer ticket) (λ e. not_it (sym is.0 ∙ e)) ∙ is.0, is.1, is.2);
               claims = has.claims;
+              apart = has.apart;
             })
             (λ _. record {
               rows = λ one stands.
                   ⊎_elim
-                  (λ own. let is = mine.rows one own in (stays (kept.owner one.object) is.0, is.1, is.2))
                   (λ new. let is = given.rows one new in (turned-here other id (kept.owner one.object) is.0, is.1, is.2))
-                  (Contains-append_cases old.rows theirs.rows one stands);
+                  (λ own. let is = mine.rows one own in (stays (kept.owner one.object) is.0, is.1, is.2))
+                  (Contains-append_cases theirs.rows old.rows one stands);
               drawn = λ ticket stands.
                   ⊎_elim
-                  (λ own. let is = mine.drawn ticket own in (stays (kept.drawer ticket) is.0, is.1, is.2))
                   (λ new. let is = given.drawn ticket new in (turned-here other id (kept.drawer ticket) is.0, is.1, is.2))
-                  (Contains-append_cases old.drawn theirs.drawn ticket stands);
-              claims = λ event stands. ⊎_elim (mine.claims event) (given.claims event) (Contains-append_cases old.claims theirs.claims event stands);
+                  (λ own. let is = mine.drawn ticket own in (stays (kept.drawer ticket) is.0, is.1, is.2))
+                  (Contains-append_cases theirs.drawn old.drawn ticket stands);
+              claims = λ event stands. ⊎_elim (given.claims event) (mine.claims event) (Contains-append_cases theirs.claims old.claims event stands);
+              apart =
+                  apart_both theirs.rows old.rows given.apart mine.apart
+                  (λ one own stands stands' same. apart (sym (given.rows one stands).0 ∙ (ap kept.owner same ∙ (mine.rows own stands').0)));
             })
             j v at' no)
             (knows_nothing objects _ _ _ _ _);

@@ -1,11 +1,13 @@
 -- What the parts of one history are together; the functions of src/ have these as contracts (this project's profile).
-use Rattle.std.specs.Prelude.{ℕ, List, Contains}
+use Rattle.std.specs.Prelude.{◌≡◌, ℕ, true, List, Contains}
 use Rattle.bep_fit.specs.declared.object.Object.{Object}
 use Rattle.bep_fit.specs.declared.stamped.Stamped.{Stamped}
 use Rattle.bep_fit.specs.Fit.{AreOfOneRound, Fits}
 use Rattle.bep_fit.specs.Logs.{HasLog, ObjectLog}
 use Rattle.bep_fit.specs.Merge as lists
+use Rattle.bep_history.specs.declared.view.Row.{Row}
 use Rattle.bep_history.specs.declared.view.View.{View}
+use Rattle.bep_history.specs.Parts.{is_about}
 use Rattle.bep_history.specs.View.{IsTold, MayAdd, claims_of, row, with_event}
 
 -- in each log the tickets rise
@@ -23,3 +25,8 @@ PartsFit = (objects : List Object) (old : View) (logs : List ObjectLog) →
 abbrev pub AddedIsClaimed : Type 0
 AddedIsClaimed = (objects : List Object) (old : View) (event : Stamped) →
     MayAdd objects old event → Contains (claims_of (with_event event old)).claims event
+
+-- what is claimed stands in each row that it touches
+abbrev pub ClaimedStands : Type 0
+ClaimedStands = (objects : List Object) (old : View) (one : Row) (event : Stamped) →
+    IsTold objects old → Contains old.claims event → Contains old.rows one → is_about one.object event ≡ true → Contains one.events event

@@ -1,4 +1,5 @@
 pub mod Parts
 pub mod View
 pub mod Laws
+pub mod Chair
 pub mod inner

@@ -1,5 +1,5 @@
 -- What a seat owns and knows of the history, and what each call makes of it (this project's profile).
-use Rattle.std.specs.Prelude.{◌≡◌, ◌<◌, ℕ, true, ⊤, List, [], ◌∷◌, ◌++◌, map, if◌then◌else◌, Contains}
+use Rattle.std.specs.Prelude.{◌≡◌, ◌<◌, ℕ, true, ⊤, List, [], ◌∷◌, ◌++◌, map, if◌then◌else◌, Contains, Option, Some, None}
 use Rattle.std.specs.List.{flat_map}
 use Rattle.atomic_table.specs.declared.shared.Seat.{Seat}
 use Rattle.bep_fit.specs.declared.object.Object.{Object}
@@ -26,6 +26,16 @@ beginning objects = view (map (λ object. row object []) objects) [] []
 -- one of the rows is the object's
 abbrev pub HasRow : List Row → Object → Type 0
 HasRow rows object = (one : Row) × Contains rows one × (one.object ≡ object)
+
+-- no two rows are of one object
+abbrev pub AreApart : List Row → Type 0
+AreApart [] = ⊤
+AreApart (one ∷ more) = (¬ HasRow more one.object) × AreApart more
+
+-- no object stands twice
+abbrev pub AreDistinct : List Object → Type 0
+AreDistinct [] = ⊤
+AreDistinct (object ∷ more) = (¬ Contains more object) × AreDistinct more
 
 -- what a seat knows and owns
 abbrev pub view_of : Seat Stamped View → View
@@ -54,11 +64,16 @@ row_with event old = record old { events = if is_about old.object event then old
 abbrev pub with_event : Stamped → View → View
 with_event event old = record old { rows = map (row_with event) old.rows; drawn = [] }
 
--- The seat drew the event's ticket, and owns each object that the event touches. What the event names is among the objects.
+-- the row with the event, if there is one, or the ticket alone is used
+abbrev pub told : Option Stamped → View → View
+told None old = without_ticket old
+told (Some event) old = with_event event old
+
+-- The seat drew the event's ticket, and owns each object that the event touches, and each that it names.
 pub record MayAdd (objects : List Object) (old : View) (event : Stamped) : Type 0 where
   pub drawn : Contains old.drawn event.ticket
   pub owned : (object : Object) → Contains objects object → is_about object event ≡ true → HasRow old.rows object
-  pub there : (object : Object) → Contains (named event) object → Contains objects object
+  pub there : (object : Object) → Contains (named event) object → HasRow old.rows object
 
 -- There is one history, of which each row is the object's part, and which has each event that is claimed.
 pub record IsTold (objects : List Object) (old : View) : Type 0 where
@@ -69,9 +84,9 @@ pub record IsTold (objects : List Object) (old : View) : Type 0 where
 
 -- ---- seats
 
--- what both own and know
+-- what both own and know, the other's first
 abbrev pub joined : View → View → View
-joined old other = view (old.rows ++ other.rows) (old.drawn ++ other.drawn) (old.claims ++ other.claims)
+joined old other = view (other.rows ++ old.rows) (other.drawn ++ old.drawn) (other.claims ++ old.claims)
 
 abbrev pub first_of : List Row → List Row
 first_of [] = []
@@ -89,10 +104,15 @@ first_row old = view (first_of old.rows) [] []
 abbrev pub other_rows : View → View
 other_rows old = record old { rows = rest_of old.rows }
 
--- no other row is of the first one's object
-abbrev pub IsFirstApart : List Row → Type 0
-IsFirstApart [] = ⊤
-IsFirstApart (one ∷ more) = ¬ HasRow more one.object
+-- Two seats with a row each and no claims. The second one has drawn no ticket.
+pub record AreOfTwo (old other : View) : Type 0 where
+  pub own : Row
+  pub its : Row
+  pub own_rows : old.rows ≡ own ∷ []
+  pub its_rows : other.rows ≡ its ∷ []
+  pub own_claims : old.claims ≡ []
+  pub its_claims : other.claims ≡ []
+  pub its_drawn : other.drawn ≡ []
 
 -- a claim to each event that the seat knows of
 abbrev pub claims_of : View → View

@@ -1,6 +1,6 @@
 //! The counter of tickets, and what a seat does with it.
 ghost use Rattle.std.specs.Prelude.{◌≡◌, ◌<◌, [], IfOk};
-ghost use Rattle.bep_history.specs.View.{IsAbove, IsTold, MayAdd, beginning, nothing, view_of, with_event, with_ticket, without_ticket};
+ghost use Rattle.bep_history.specs.View.{AreDistinct, IsAbove, IsTold, MayAdd, beginning, nothing, view_of, with_event, with_ticket, without_ticket};
 
 use crate::View;
 use crate::plays::{Add, Draw, Enter, GiveUp, Law, Learn, Named};
@@ -23,8 +23,10 @@ pub struct History {
 }
 
 impl History {
-    /// A history without an event, and the seat that owns all of its objects. The first ticket is 1.
+    /// A history without an event, and the seat that owns all of its objects, none of which stands twice. It fails only for
+    /// want of memory.
     pub fn begin(alloc: Global, objects: &Vec<Object>) -> Result<(Self, Place), AllocError>
+        requires { AreDistinct objects.now.items }
         ensures objects { IfOk result (λ made. made.0.table.shared.key.items ≡ objects.now.items) }
         ensures seat { IfOk result (λ made. (made.1.table_id ≡ made.0.table.shared.table_id) × (made.1.me ≡ (beginning objects.now.items, []))) }
     {
@@ -32,8 +34,8 @@ impl History {
         Ok((History { table }, seat))
     }
 
-    /// The next ticket, for the seat alone. It is above those of all events in the seat's rows. A ticket that the seat drew
-    /// before and hasn't used is given up.
+    /// A ticket for the seat alone. It is above those of all events in the seat's rows. A ticket that the seat drew before
+    /// and hasn't used is given up. It waits for ever once 2^64 - 2 tickets are drawn.
     pub fn draw<R: Wait>(&self, rt: &R, seat: &mut Place) -> u64
         requires { seat.old.table_id ≡ self.now.table.shared.table_id }
         ensures seat { (seat.new.table_id ≡ seat.old.table_id) × (seat.new.me ≡ (with_ticket result seat.old.me.0, seat.old.me.1)) }
@@ -80,6 +82,7 @@ impl History {
         self.learn_of::<Brand>(seat);
     }
 
+    // The same, where the type `O` names the objects.
     fn learn_of<O: Named>(&self, seat: &mut Place)
         requires own { seat.old.table_id ≡ self.now.table.shared.table_id }
         requires objects { O.objects ≡ self.now.table.shared.key.items }

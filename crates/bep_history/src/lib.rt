@@ -5,13 +5,16 @@
 //! knows all objects knows that their parts are of one history, and so that their logs fit.
 #![tactic(auto)]
 
+mod chair;
 mod history;
 mod laws;
 mod plays;
 mod seats;
+mod telling;
 mod view;
 
+pub use chair::{Chair, Tabled};
 pub use history::{History, Place};
-pub use laws::{added_is_claimed, parts_fit};
+pub use laws::{added_is_claimed, claimed_stands, parts_fit};
 pub use plays::{Law, Named};
 pub use view::{Row, View};

@@ -1,4 +1,6 @@
 pub mod Based
+pub mod Kept
+pub mod Ending
 pub mod Origin
 pub mod Quiet
 pub mod inner

@@ -12,9 +12,12 @@
 //! ```
 #![tactic(auto)]
 
+mod acting;
+mod acting_over;
 mod actions;
 mod cuts;
 mod dropping;
+mod ending;
 mod kept_link;
 mod kept_peer;
 mod origin;

@@ -8,7 +8,7 @@ use Rattle.bep_fit.specs.declared.stamped.Stamped.{Stamped}
 use Rattle.bep_history.specs.declared.view.Row.{Row}
 use Rattle.bep_history.specs.declared.view.View.{View}
 use Rattle.bep_history.specs.Parts.{IsHistory, part_of}
-use Rattle.bep_history.specs.View.{IsAbove, IsTold, nothing, with_event, with_ticket, without_ticket}
+use Rattle.bep_history.specs.View.{AreApart, IsAbove, IsTold, nothing, with_event, with_ticket, without_ticket}
 
 -- Each row is the object's part of the history, and no other seat has it: `owner` names the one seat of an object, and
 -- `drawer` that of a ticket. No event has a ticket that is drawn and not used.
@@ -18,6 +18,7 @@ pub record Knows (objects : List Object) (history : List Stamped) (next : ℕ) (
   pub drawn : (ticket : ℕ) → Contains old.drawn ticket →
       (drawer ticket ≡ seat) × (ticket < next) × ((event : Stamped) → Contains history event → event.ticket ≢ ticket)
   pub claims : (event : Stamped) → Contains old.claims event → Contains history event
+  pub apart : AreApart old.rows
 
 -- The one word is the next ticket, and each event's ticket is below it. Each seat knows its part of one history.
 pub record IsKept (objects : List Object) (s : State Stamped View) : Type 0 where
