@@ -11,11 +11,11 @@ import (
 	"syncthing-audit/answering"
 	"syncthing-audit/audit"
 	"syncthing-audit/commandline"
-	"syncthing-audit/document"
 	"syncthing-audit/exit"
 	"syncthing-audit/finding"
 	"syncthing-audit/join"
 	"syncthing-audit/part"
+	"syncthing-audit/rows"
 )
 
 // linesInMemory is a part in memory.
@@ -81,7 +81,7 @@ func answered(parts []*hostile, consent audit.Consent) (*finding.Answer, error) 
 	if err != nil {
 		return nil, err
 	}
-	return audit.Collect(plan, audit.Options{Consent: consent}, func(*document.Document) error { return nil })
+	return audit.Collect(plan, audit.Options{Consent: consent}, func(*rows.Piece) error { return nil })
 }
 
 // waysToLeaveOut are what keeps something from being audited, with its kind: each kind of a name, and each way in which a folder on a device, a device
