@@ -75,11 +75,22 @@ func (p Program) answerStream(asked *rows.Piece) (*Reply, error) {
 	if err != nil || len(told) == 0 {
 		return reply, err
 	}
-	converging, err := p.text(asked.Some(told), "rows", "--converge")
-	if err == nil {
-		reply.Convergence, err = readConverging(asked, told, converging)
+	documents, err := asked.Documents(told)
+	if err != nil {
+		return nil, err
 	}
-	return reply, err
+	for _, next := range documents {
+		text, err := p.text(next.Written, "converge")
+		if err != nil {
+			return nil, err
+		}
+		converges, err := readConverging(next, text)
+		if err != nil {
+			return nil, err
+		}
+		reply.Convergence.Take(converges)
+	}
+	return reply, nil
 }
 
 // answerDocument asks whether a document is firm and, where it isn't, all else. It is audited under the certificate that is made of it.

@@ -94,7 +94,6 @@ func TestAProgramThatIsTooOld(t *testing.T) {
 		asked *rows.Piece
 	}{
 		"rows --explain --firm": {"check | firm | explain | converge", aStream("a", "b", "c")},
-		"rows --converge":       {"rows --explain --firm", aStream("a", "b", "c")},
 		"firm --certify":        {"check", aDocument()},
 		"converge":              {"firm --certify | check --certify | explain --certify", aDocument()},
 	} {

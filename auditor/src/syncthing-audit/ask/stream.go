@@ -29,19 +29,14 @@ func readExplained(asked *rows.Piece, text string) (*Reply, map[string]bool, err
 	return reply, names, nil
 }
 
-// readConverging reads what 'rows --converge' writes of some names of a stream: a line for each that doesn't converge, and then a report.
-func readConverging(asked *rows.Piece, names map[string]bool, text string) (finding.Convergence, error) {
-	all, report, err := readStream(asked, text, converging)
+// readConverging reads what 'converge' writes of a document.
+func readConverging(asked *rows.Piece, text string) (finding.Convergence, error) {
+	report, err := readReport(asked.Folder, text, converging)
 	if err != nil {
 		return finding.Convergence{}, err
 	}
-	for _, one := range all {
-		if !names[one.Name] {
-			return finding.Convergence{}, refused("syncaudit's answer to %s has %q, which it wasn't asked", asked.About(), Line(asked.Folder, &one))
-		}
-	}
-	if report.names != int64(len(names)) {
-		return finding.Convergence{}, refused("syncaudit's answer to %s counts %d names of %d", asked.About(), report.names, len(names))
+	if report.names != int64(len(asked.Rows)) {
+		return finding.Convergence{}, refused("syncaudit's answer to %s counts %d names of %d", asked.About(), report.names, len(asked.Rows))
 	}
 	return finding.Convergence{First: report.first, Pairs: report.pairs}, nil
 }

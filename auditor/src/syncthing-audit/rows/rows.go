@@ -5,6 +5,7 @@ import (
 	"fmt"
 
 	"syncthing-audit/join"
+	"syncthing-audit/limits"
 	"syncthing-audit/shell"
 )
 
@@ -16,8 +17,8 @@ type Piece struct {
 	Place   int         // among all pieces, from 0
 	Rows    []*join.Row // in the order of names
 	Written []byte
-	Unknown int   // of a stream: names of it that nothing holds, and that a document doesn't count
-	ends    []int // of a stream: where its header and each of its lines end
+	Unknown int          // of a stream: names of it that nothing holds, and that a document doesn't count
+	of      *join.Folder // of a stream: the folder
 }
 
 // About says what the piece is about.
@@ -29,15 +30,22 @@ func (p *Piece) About() string {
 }
 
 // IsStream says whether it is a stream of rows.
-func (p *Piece) IsStream() bool { return p.ends != nil }
+func (p *Piece) IsStream() bool { return p.of != nil }
 
-// Some gives the stream of some of its names: the header, and these names' very lines.
-func (p *Piece) Some(names map[string]bool) []byte {
-	some := append([]byte(nil), p.Written[:p.ends[0]]...)
-	for place, row := range p.Rows {
-		if names[row.Name] {
-			some = append(some, p.Written[p.ends[place]:p.ends[place+1]]...)
+// Documents gives documents of some names of a stream.
+func (p *Piece) Documents(names map[string]bool) ([]*Piece, error) {
+	made, filling := []*Piece{}, NewDocuments(p.of, false, limits.MostBytes)
+	for _, row := range p.Rows {
+		if !names[row.Name] {
+			continue
+		}
+		full, out := filling.Add(row)
+		if out != nil {
+			return nil, fmt.Errorf("refused: %s: %s", shell.Path(row.Name), out.Why) // no row that a line has room for
+		}
+		if full != nil {
+			made = append(made, full)
 		}
 	}
-	return some
+	return append(made, filling.Take()), nil
 }

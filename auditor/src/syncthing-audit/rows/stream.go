@@ -33,7 +33,7 @@ func NewStream(folder *join.Folder) *Stream {
 func (s *Stream) begin() {
 	s.cut.reset()
 	s.written = append(s.written[:0], s.header...)
-	s.next = Piece{Folder: s.cut.folder.ID, Own: s.cut.folder.Own, ends: []int{len(s.header)}}
+	s.next = Piece{Folder: s.cut.folder.ID, Own: s.cut.folder.Own, of: s.cut.folder}
 }
 
 // Add adds a name. It gives the stream before it, if that was full; or why no stream has the name.
@@ -54,7 +54,6 @@ func (s *Stream) Add(name *join.Row) (*Piece, *part.LeftOut) {
 		s.cut.takeSequences(name)
 	}
 	s.written = append(s.written, line...)
-	s.next.ends = append(s.next.ends, len(s.written))
 	s.next.Rows = append(s.next.Rows, name)
 	if !s.row.isKnown {
 		s.next.Unknown++

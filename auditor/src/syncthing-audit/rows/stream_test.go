@@ -10,6 +10,7 @@ import (
 	"testing"
 
 	"syncthing-audit/join"
+	"syncthing-audit/limits"
 	"syncthing-audit/part"
 )
 
@@ -301,24 +302,15 @@ func TestBoundsOfStreams(t *testing.T) {
 	}
 }
 
-// Of some names of a stream there is one with these names' very lines.
-func TestSomeNamesOfAStream(t *testing.T) {
-	random := rand.New(rand.NewSource(1))
-	rows := []*join.Row{}
-	for place := 0; place < 9; place++ {
-		rows = append(rows, alike(random, fmt.Sprint(place), int64(10*place+1)))
+// Of some names of a stream there is a document with these alone.
+func TestDocumentsOfSomeNames(t *testing.T) {
+	rows := []*join.Row{rowOf("a", 1, 5), rowOf("b", 2, 5), rowOf("c", 3, 5)}
+	made, _ := streamed(twoDevices(), rows)
+	documents, err := made[0].Documents(map[string]bool{"a": true, "c": true, "none": true})
+	if err != nil || len(documents) != 1 || documents[0].IsStream() || documents[0].Folder != "docs" {
+		t.Fatalf("%+v, %v", documents, err)
 	}
-	made, _ := streamed(threeDevices(), rows)
-	for seed := 0; seed < 40; seed++ {
-		names, some := map[string]bool{"none": true}, []*join.Row{}
-		for _, row := range made[0].Rows {
-			if random.Intn(2) == 0 {
-				names[row.Name] = true
-				some = append(some, row)
-			}
-		}
-		if due, _ := streamed(threeDevices(), some); !bytes.Equal(made[0].Some(names), due[0].Written) {
-			t.Fatalf("%v: %s, not %s", names, made[0].Some(names), due[0].Written)
-		}
+	if whole, _ := built(t, false, limits.MostBytes, rows[0], rows[2]); !bytes.Equal(whole[0].Written, documents[0].Written) {
+		t.Errorf("%s, not %s", documents[0].Written, whole[0].Written)
 	}
 }
