@@ -1,6 +1,7 @@
 package disk
 
 import (
+	"errors"
 	"io"
 	"os"
 
@@ -35,8 +36,19 @@ func open(path string, flags int) (number int, err error) {
 	return number, err
 }
 
+// failed says of which file a call failed, as Go's own files do.
+func (o opened) failed(call string, err error) error {
+	return &os.PathError{Op: call, Path: o.path, Err: err}
+}
+
 // Stat gives what the system says of it.
-func (o opened) Stat() (os.FileInfo, error) { return directory.AboutFile(o.number) }
+func (o opened) Stat() (os.FileInfo, error) {
+	about, err := directory.AboutFile(o.number)
+	if err != nil {
+		return nil, o.failed("stat", errors.Unwrap(err)) // without the name of the system's call
+	}
+	return about, nil
+}
 
 // ReadAt reads as many bytes, or says why there are fewer.
 func (o opened) ReadAt(to []byte, offset int64) (int, error) {
@@ -47,7 +59,7 @@ func (o opened) ReadAt(to []byte, offset int64) (int, error) {
 			return err
 		})
 		if err != nil {
-			return done, &os.PathError{Op: "read", Path: o.path, Err: err}
+			return done, o.failed("read", err)
 		}
 		if done += count; done == len(to) {
 			return done, nil

@@ -59,3 +59,11 @@ func TestAFailedReadNamesItsFile(t *testing.T) {
 		t.Errorf("a read of a directory fails with %v", err)
 	}
 }
+
+// So does a look at it that fails.
+func TestAFailedLookNamesItsFile(t *testing.T) {
+	_, err := opened{-1, "file"}.Stat()
+	if !errors.Is(err, unix.EBADF) || err.Error() != "stat file: bad file descriptor" {
+		t.Errorf("a look at no file fails with %v", err)
+	}
+}
