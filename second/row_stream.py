@@ -1,9 +1,13 @@
-"""A second reading of streams of rows (docs/rows.md): what `syncaudit rows`, with `--firm` too, should write of one, and its exit status."""
+"""A second reading of streams of rows (docs/rows.md): what `syncaudit rows`, with `--firm`, `--converge` and `--explain` too, should write
+of one, but for what is indented, and its exit status."""
 
+import converge
 import firm
 import json_text
+import prevails
 import reading
 import things
+import under_winners
 import verdict
 from cluster.cut import certify_part
 from placed import fits_kind, is_well_formed
@@ -13,6 +17,7 @@ from things import Fault, within
 
 MOST_LINE = 1048576
 MOST_PLACE = 4096
+MOST_DEVICES = 16
 IS_RECORD_OF = {1: IS_RECORD, 2: is_sized_record}
 
 
@@ -73,7 +78,9 @@ def read_things(version, value):
     row = {"folder": things.folder_name(folder), "name": things.file_name(name),
            "records": [things.record(one, version) for one in records],
            "nodes": [things.node(one, version) for one in nodes], "cells": list(map(read_cell, cells))}
+    within(len(cells), 0, MOST_DEVICES)
     for cell in row["cells"]:
+        within(len(cell["views"]), 0, MOST_DEVICES)
         for place in (cell["own"], cell["pull"], *(place for _, place in cell["views"])):
             within(place, 0, len(row["records"]))
         within(cell["node"], 0, len(row["nodes"]))
@@ -170,12 +177,41 @@ def cut_with(header, rows):
 
 
 def first_fault(read, aim):
-    """The first known name without a winner, or else the first reason that fails under the winners; None where it is what is asked."""
+    """The first known name without a winner, or else the first reason that fails under the winners; None where it is what is asked.
+    Or the first reason that keeps it from converging."""
+    if aim == "converging":
+        return next(iter(all_faults(read, aim)), None)
     rows, without = certify_part(read)
     if without:
         return "NotWinner", *without[0], None
     cut = verdict.Cut(read)
     return cut.first_fault(rows) if aim == "settled" else firm.first_fault(cut, rows)
+
+
+def all_faults(read, aim):
+    """All that fails under the winners, in order; a name without a winner fails as that. Or all that keeps it from converging."""
+    if aim == "converging":
+        return converge.all_faults(verdict.Cut(read, prevails.Sharer))
+    reasons = verdict.DEVICE_REASONS if aim == "settled" else (*verdict.DEVICE_REASONS, *firm.FIRM_REASONS)
+    return map(under_winners.as_unwon, verdict.Cut(read).all_faults(certify_part(read)[0], tuple(reasons)))
+
+
+def faults_at(read, aim, explain):
+    """What is told of the one name of a cut: all that fails where it is explained, or else the first."""
+    if explain:
+        return list(all_faults(read, aim))
+    fault = first_fault(read, aim)
+    return [fault] if fault else []
+
+
+def ending(header, rows, aim):
+    """The lines behind the names, and the exit status."""
+    read = cut_with(header, rows)
+    fault = first_fault(read, aim)
+    if aim == "converging":
+        return converge.report_of(verdict.Cut(read, prevails.Sharer), fault)
+    told = b"not %s: %s" % (aim.encode(), fault_line(*fault)) if fault else aim.encode()
+    return [told, *counts(header, rows)], 1 if fault else 0
 
 
 def counts(header, rows):
@@ -204,20 +240,18 @@ def read_stream(stream, told):
     return header, rows
 
 
-def answer(stream, aim="settled"):
-    """What `syncaudit rows` should write, and its exit status; where `aim` is `firm`, `syncaudit rows --firm`."""
+def answer(stream, aim="settled", explain=False):
+    """What `syncaudit rows` should write, and its exit status; where `aim` is `firm`, `syncaudit rows --firm`, where it is
+    `converging`, `--converge`, and where it explains, `--explain`, but for what is indented."""
     lines = []
 
     def tell(header, row):
-        fault = first_fault(cut_with(header, [row]), aim)
-        lines.extend([fault_line(*fault)] if fault else [])
+        lines.extend(fault_line(*fault) for fault in faults_at(cut_with(header, [row]), aim, explain))
 
     try:
         header, rows = read_stream(stream, tell)
     except Fault as fault:
         lines.append(b"line %d: %s" % (fault.line, refusal(fault)[0][0]))
         return written(lines, 2)
-    fault = first_fault(cut_with(header, rows), aim)
-    lines.append(b"not %s: %s" % (aim.encode(), fault_line(*fault)) if fault else aim.encode())
-    lines.extend(counts(header, rows))
-    return written(lines, 1 if fault else 0)
+    end, status = ending(header, rows, aim)
+    return written([*lines, *end], status)

@@ -131,7 +131,7 @@ class Streams:
         cell = self.random.choice(row[4]) if row[4] else None
         if cell is None:
             return
-        choice = self.random.randrange(5)
+        choice = self.random.randrange(6)
         if choice == 0:
             cell[self.random.randrange(4)] = self.random.choice([0, 1, 2, 3, 4, 4096, 4097, 2**64 - 1, 2**64, -1])
         elif choice == 1:
@@ -140,6 +140,9 @@ class Streams:
             cell[4] += [copy.deepcopy(self.random.choice(cell[4]))] if cell[4] else [[self.random.randint(0, 4), self.random.randint(0, 2)]]
         elif choice == 3 and row[2]:
             self.random.choice(row[2]).update(self.random.choice([{"sequence": 0}, {"sequence": 9}, {"name": "other"}, {"invalid": True}]))
+        elif choice == 4:
+            many = self.random.choice([cell[4], row[4]])
+            many += copy.deepcopy(many[:1] or [[1, 1]] if many is cell[4] else [cell]) * self.random.randint(13, 17)
         else:
             row[4] = [[cell[0], 0, 0, 0, []]]
 

@@ -31,9 +31,9 @@ def row(name, cells, *, folder="docs", records=None, nodes=None):
 BOTH = [[1, 1, 1, 0, []], [2, 1, 1, 0, []]]
 
 
-def told(*lines, aim="settled"):
+def told(*lines, aim="settled", explain=False):
     """What is written to these lines, and the status."""
-    written, status = answer(b"".join(json.dumps(line).encode() + b"\n" for line in lines), aim)
+    written, status = answer(b"".join(json.dumps(line).encode() + b"\n" for line in lines), aim, explain)
     return written.decode().splitlines(), status
 
 
@@ -117,6 +117,41 @@ class Firm(unittest.TestCase):
         self.assertEqual(told_firm(HEADER, self.LOOSE, row("a", BOTH)), (["VersionDiffers docs c on 1", "line 3: refused: 185 Twice docs - a"], 2))
 
 
+class Explained(unittest.TestCase):
+    """All that fails at each name, but for details."""
+
+    def test_all_that_fails_at_a_name_is_told_and_the_verdict_stays(self):
+        unclean = row("a", [[1, 1, 0, 0, []], [2, 1, 1, 0, []]])
+        without = row("b", [[1, 0, 1, 0, []]])
+        end = ["not settled: NotWinner docs b", "folder docs: 3 names, 0 deleted, 2 devices"]
+        rows = HEADER, unclean, without, row("c", BOTH)
+        self.assertEqual(told(*rows), (["StoreDiffers docs a on 1", "NotWinner docs b", *end], 1))
+        self.assertEqual(told(*rows, explain=True), (
+            ["StoreDiffers docs a on 1", "StoreUnclean docs a on 1", "NotWinner docs b", *end], 1))
+
+    def test_what_is_not_firm_comes_behind_what_is_not_settled(self):
+        both = row("c", [[1, 1, 1, 0, []], [2, 2, 0, 0, []]], records=Firm.VERSIONS)
+        self.assertEqual(told(HEADER, both, aim="firm", explain=True)[0][:-2],
+                         ["StoreDiffers docs c on 2", "StoreUnclean docs c on 2", "VersionDiffers docs c on 1"])
+
+
+class Converging(unittest.TestCase):
+    """Whether the cut converges: a view of device 2 at 1 has what 2 has, if it says so."""
+
+    def test_a_name_that_is_still_to_come_converges(self):
+        ahead = row("a", [[1, 1, 1, 0, [[2, 2]]], [2, 2, 1, 0, []]], records=[record("a"), record("a", version=[[1, 1], [2, 1]], sequence=2)])
+        self.assertEqual(told(HEADER, ahead, row("b", BOTH), aim="converging"), (
+            ["converging", "folder docs: 2 names, 0 deleted, 2 devices, 1 pairs not yet at the winner"], 0))
+
+    def test_each_name_has_its_first_hindrance_and_the_least_reason_is_the_verdict(self):
+        rows = HEADER, row("b", [[1, 1, 0, 0, []]]), Firm.LOOSE
+        end = ["not converging: NothingPrevails docs c",
+               "folder docs: 2 names, 1 deleted, 2 devices, 3 pairs not yet at the winner"]
+        self.assertEqual(told(*rows, aim="converging"), (["StoreUnclean docs b on 1", "NothingPrevails docs c", *end], 1))
+        self.assertEqual(told(*rows, aim="converging", explain=True), (
+            ["StoreUnclean docs b on 1", "StoreDiffers docs b on 1", "NothingPrevails docs c", "Concurrent docs c", *end], 1))
+
+
 class Refusals(unittest.TestCase):
     """The number of each line that is refused, and its fault."""
 
@@ -153,6 +188,11 @@ class Refusals(unittest.TestCase):
                       [[0, 1, 0, 0, []]], [], [[1, 0, 0, 0, []]]):
             with self.subTest(cells):
                 self.refused_row("184 Range", cells)
+
+    def test_too_many(self):
+        for many, fault in ((16, "186 Unshared docs"), (17, "184 Range")):
+            self.assertIn(fault, told(HEADER, row("b", [[1, 1, 0, 0, [[of, 1] for of in range(2, 2 + many)]]]))[0][0])
+            self.assertIn(fault, told(HEADER, row("b", [[device, 1, 0, 0, []] for device in range(1, 1 + many)]))[0][0])
 
     def test_too_long(self):
         line = json.dumps(row("a", BOTH)).encode()

@@ -130,7 +130,7 @@ for command in $(helped); do
     done
   done
 done
-expect "no flag in the program's help" [ "$(for command in check firm converge certify explain rows run; do flags_of "$command"; done | paste -sd ' ')" = 'certify certify partial json firm converge certify firm document turns' ]
+expect "no flag in the program's help" [ "$(for command in check firm converge certify explain rows run; do flags_of "$command"; done | paste -sd ' ')" = 'certify certify partial json firm converge certify firm converge explain document turns' ]
 for command in $(described); do
   expect "the program has no '$command', which the man page describes" is_one_of "$command" $(helped)
 done

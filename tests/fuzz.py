@@ -27,7 +27,7 @@ CHECKS = {"check": {0, 1, 2}, "firm": {0, 1, 2}, "converge": {0, 1, 2}, "explain
           "explain --certify": {0, 1, 2}, "explain --certify --json": {0, 1, 2}, "explain --certify --firm": {0, 1, 2},
           "explain --converge": {0, 1, 2}, "explain --converge --json": {0, 1, 2}}
 RUNS = {"run": {0, 1, 2}, "run --document": {0, 1, 2}, "run --turns 1": {0, 1, 2}}
-STREAMS = {"rows": {0, 1, 2}, "rows --firm": {0, 1, 2}}
+STREAMS = {command: {0, 1, 2} for command in ("rows", "rows --firm", "rows --converge", "rows --explain", "rows --firm --explain", "rows --converge --explain")}
 ALL = CHECKS | RUNS | STREAMS
 
 
@@ -70,6 +70,13 @@ def fault(command, status):
 def first_reason(answer):
     """The first reason that is told, with its place, by `check`, `converge` or `explain`; what else stands on the first line."""
     return answer[0].partition(b"\n")[0].removeprefix(b"not settled: ").removeprefix(b"not converging: ")
+
+
+def first_lines(answer):
+    """The first reason that is told of each name, and what comes behind the names."""
+    lines = [line for line in answer.splitlines() if not line.startswith(b"  ")]
+    last = next((place for place, line in enumerate(lines) if line.startswith((b"settled", b"firm", b"converging", b"not ", b"line "))), len(lines))
+    return list({tuple(line.split()[1:3]): line for line in reversed(lines[:last])}.values())[::-1] + lines[last:]
 
 
 def rows_contradictions(program, command, whole, stream, answer, status):
@@ -120,7 +127,10 @@ def contradictions(program, document, told):
     if "rows" in told:
         yield from rows_contradictions(program, "rows", "check --certify", document, *told["rows"])
         yield from rows_contradictions(program, "rows --firm", "firm --certify", document, *told["rows --firm"])
+        yield from rows_contradictions(program, "rows --converge", "converge", document, *told["rows --converge"])
         yield "rows and rows --firm", status["rows --firm"] == 0 != status["rows"] or (status["rows"] == 2) != (status["rows --firm"] == 2)
+        for command in ("rows", "rows --firm", "rows --converge"):
+            yield f"{command} and --explain", (first_lines(told[command][0]), status[command]) != (first_lines(told[f"{command} --explain"][0]), status[f"{command} --explain"])
 
 
 def faults(program, document, commands):

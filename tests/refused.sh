@@ -186,6 +186,10 @@ refuse_all examples/cut-alone.json certify
 refuse_all examples/scenarios/conflict.json run
 STREAMED=yes refuse_all examples/rows/file-missing-in-store.jsonl rows
 STREAMED=yes refuse_all examples/rows/same-bytes-concurrent-versions.jsonl rows --firm
+STREAMED=yes refuse_all examples/rows/file-missing-in-store.jsonl rows --explain
+STREAMED=yes refuse_all examples/rows/same-bytes-concurrent-versions.jsonl rows --firm --explain
+STREAMED=yes refuse_all examples/rows/same-bytes-concurrent-versions.jsonl rows --converge
+STREAMED=yes refuse_all examples/rows/same-bytes-concurrent-versions.jsonl rows --converge --explain
 # Without memory nothing is said of an old file in a view, where its deletion is known everywhere else.
 for words in check firm converge certify 'certify --partial' explain 'explain --firm' 'explain --json' 'explain --firm --json' \
   'check --certify' 'firm --certify' 'explain --certify' 'explain --certify --json' 'explain --certify --firm' 'explain --converge' 'explain --converge --json'; do

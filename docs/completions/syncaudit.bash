@@ -16,7 +16,7 @@ _syncaudit() {
   elif [ "$COMP_CWORD" = 2 ] && [ "$before" = explain ]; then
     mapfile -t COMPREPLY < <(compgen -W '--json --firm --converge --certify --help' -- "$word")
   elif [ "$COMP_CWORD" = 2 ] && [ "$before" = rows ]; then
-    mapfile -t COMPREPLY < <(compgen -W '--firm --help' -- "$word")
+    mapfile -t COMPREPLY < <(compgen -W '--firm --converge --explain --help' -- "$word")
   elif [ "$COMP_CWORD" = 2 ] && [ "$before" = run ]; then
     mapfile -t COMPREPLY < <(compgen -W '--document --turns --help' -- "$word")
   elif [ "$COMP_CWORD" = 2 ]; then

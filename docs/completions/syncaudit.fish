@@ -15,6 +15,8 @@ complete -c syncaudit -n "__fish_seen_subcommand_from certify" -l partial -d 'Le
 complete -c syncaudit -n "__fish_seen_subcommand_from explain" -l json -d 'Write one JSON document'
 complete -c syncaudit -n "__fish_seen_subcommand_from explain" -l firm -d 'Tell all that keeps it from being firm'
 complete -c syncaudit -n "__fish_seen_subcommand_from rows" -l firm -d 'Ask whether the cut is firm'
+complete -c syncaudit -n "__fish_seen_subcommand_from rows" -l converge -d 'Ask whether the cut converges'
+complete -c syncaudit -n "__fish_seen_subcommand_from rows" -l explain -d 'Tell all that fails at a name'
 complete -c syncaudit -n "__fish_seen_subcommand_from explain" -l converge -d 'Tell all that keeps it from converging'
 complete -c syncaudit -n "__fish_seen_subcommand_from run" -l document -d 'Write the check document of the end'
 complete -c syncaudit -n "__fish_seen_subcommand_from run" -l turns -x -d 'Have threads run the cluster after the steps'

@@ -24,7 +24,8 @@ reads_document() (
     esac
     met="$met $flag"
     case "$command $1" in
-      'check --certify' | 'firm --certify' | 'certify --partial' | 'rows --firm' | 'run --document') ;;
+      'check --certify' | 'firm --certify' | 'certify --partial' | 'run --document') ;;
+      'rows --firm' | 'rows --explain' | 'rows --converge') ;;
       'explain --json' | 'explain --firm' | 'explain --converge' | 'explain --certify') ;;
       'run --turns='*) is_turns "${1#--turns=}" || exit 1 ;;
       'run --turns')

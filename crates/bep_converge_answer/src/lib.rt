@@ -10,7 +10,7 @@ mod status;
 mod told;
 
 pub use answer::ConvergenceOfCut;
-pub use lines::{converge_word_of, push_converging};
+pub use lines::{converge_word_of, push_convergence, push_converging, push_progress};
 pub use outcome::Convergence;
 pub use status::converge_status_of;
 pub use told::{converge_and_tell, end_converge};

@@ -17,10 +17,7 @@ use bep_record::{DeviceId, FolderName, Name};
 use std::alloc::AllocError;
 
 /// Appends the line of the verdict.
-pub(crate) fn push_convergence(
-    text: &mut Vec<u8>,
-    verdict: &ConvergeVerdict<'_>,
-) -> Result<(), AllocError>
+pub fn push_convergence(text: &mut Vec<u8>, verdict: &ConvergeVerdict<'_>) -> Result<(), AllocError>
     ensures { AppendsWhole result text.old.items text.new.items (converge_line (converge_shown verdict.now)) }
 {
     match *verdict {
@@ -71,10 +68,7 @@ pub fn converge_word_of(reason: ConvergeReason) -> &'static str
 }
 
 /// Appends the lines of the folders, whose names have come so far.
-pub(crate) fn push_progress(
-    text: &mut Vec<u8>,
-    folders: &[FolderProgress<'_>],
-) -> Result<(), AllocError>
+pub fn push_progress(text: &mut Vec<u8>, folders: &[FolderProgress<'_>]) -> Result<(), AllocError>
     ensures { AppendsWhole result text.old.items text.new.items (flat_map progress_line (map progress_shown folders.now)) }
 {
     push_each(text, folders)

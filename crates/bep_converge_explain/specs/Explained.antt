@@ -2,6 +2,7 @@
 use Rattle.std.specs.Prelude.{◌≡◌, ◌↔◌, ℕ, List, [], Option}
 use Rattle.bep_document.specs.Reading.{Reading, Read, Refused}
 use Rattle.bep_json.specs.declared.version.DocVersion.{DocVersion}
+use Rattle.bep_model.specs.Tables.{Tables}
 use Rattle.bep_tables.specs.declared.cut.CutParts.{CutParts}
 use Rattle.bep_tables.specs.Cut.{tables_of}
 use Rattle.bep_cut_document.specs.Written.{cut_of_document}
@@ -25,19 +26,19 @@ abbrev pub IsConvergeWritten : Form → List Hinder → List ℕ → Type 0
 IsConvergeWritten Text found text = (told : List HinderTold) × (hinders_of told ≡ found) × (text ≡ converge_explanation_text told)
 IsConvergeWritten Json found text = (told : List HinderAnnotated) × (hinders_in told ≡ found) × IsJsonLine (converge_explanation_tree told) text
 
--- all of the eight reasons that fail of the cut are told, in order; that is nothing exactly where it converges, and the first
+-- all of the eight reasons that fail of a cut are told, in order; that is nothing exactly where it converges, and the first
 -- is what the verdict tells
-pub record IsConvergeExplanation (form : Form) (cut : CutParts) (outcome : Convergence) (text : List ℕ) : Type 0 where
+pub record IsConvergeExplanation (form : Form) (t : Tables) (outcome : Convergence) (text : List ℕ) : Type 0 where
   pub found : List Hinder
-  pub all : AreHindrances (tables_of cut) found
-  pub converging : (found ≡ []) ↔ AllPrevail (tables_of cut)
-  pub judged : IsConvergeVerdict (tables_of cut) (converge_verdict_of found)
+  pub all : AreHindrances t found
+  pub converging : (found ≡ []) ↔ AllPrevail t
+  pub judged : IsConvergeVerdict t (converge_verdict_of found)
   pub verdict : outcome ≡ convergence_of (converge_verdict_of found)
   pub written : IsConvergeWritten form found text
 
 -- the outcome and the text for what a document says of its cut: its explanation, or the fault for which it is refused
 abbrev pub IsConvergeExplained : Form → Reading (DocVersion × CutParts) → Convergence → List ℕ → Type 0
-IsConvergeExplained form (Read said) outcome text = IsConvergeExplanation form said.1 outcome text
+IsConvergeExplained form (Read said) outcome text = IsConvergeExplanation form (tables_of said.1) outcome text
 IsConvergeExplained form (Refused fault) outcome text = (outcome ≡ outcomes.Refused) × IsRefusal form fault text
 
 -- the same of the bytes of a document, whose certificate may be missing and isn't looked at

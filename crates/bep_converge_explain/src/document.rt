@@ -2,6 +2,7 @@
 ghost use Rattle.std.specs.Prelude.{◌≡◌, IfOk, map};
 ghost use Rattle.bep_answer.specs.Beside.{TellsOfCut};
 ghost use Rattle.bep_answer.specs.Heard.{IsHeard};
+ghost use Rattle.bep_tables.specs.Cut.{tables_of};
 ghost use Rattle.bep_converge_answer.specs.Convergence as answered;
 ghost use Rattle.bep_converge_answer.specs.Status.{converge_status_of};
 ghost use Rattle.bep_converge_check.specs.Hindrance.{hinder_shown};
@@ -39,7 +40,7 @@ impl Question<Convergence> for HindrancesOfCut {
         match read_cut(alloc, bytes.as_slice()) {
             Ok((_, cut)) => {
                 drop(bytes);
-                Ok((explain_cut(alloc, form, &cut)?, None))
+                Ok((explain_convergence(alloc, form, &cut)?, None))
             }
             Err(DocError::Refused(fault)) => {
                 let refused = (Convergence::Refused, fault_in(alloc, form, &fault)?);
@@ -53,9 +54,13 @@ impl Question<Convergence> for HindrancesOfCut {
     }
 }
 
-// The outcome for a cut, and the text.
-fn explain_cut(alloc: Global, form: Form, cut: &Cut) -> Result<(Convergence, Vec<u8>), AllocError>
-    ensures { IfOk result (λ answer. IsConvergeExplanation form cut.now answer.0 answer.1.items) }
+/// All that keeps a cut from converging, in this form, and the outcome; or want of memory.
+pub fn explain_convergence(
+    alloc: Global,
+    form: Form,
+    cut: &Cut,
+) -> Result<(Convergence, Vec<u8>), AllocError>
+    ensures { IfOk result (λ answer. IsConvergeExplanation form (tables_of cut.now) answer.0 answer.1.items) }
 {
     let found = hindrances(alloc, cut)?;
     let told = found.as_slice();

@@ -12,5 +12,5 @@ mod telling;
 mod text;
 
 pub use as_json::converge_explanation_json;
-pub use document::{HindrancesOfCut, explain_converge_and_tell};
+pub use document::{HindrancesOfCut, explain_converge_and_tell, explain_convergence};
 pub use text::converge_explanation;

@@ -12,4 +12,6 @@ pub use answers::{
 };
 pub use explain::{ReasonsOfCut, fault_in};
 pub use firm::FirmReasonsOfCut;
-pub use under_winners::{FirmReasonsUnderWinners, ReasonsUnderWinners};
+pub use under_winners::{
+    FirmReasonsUnderWinners, ReasonsUnderWinners, explain_firm_under_winners, explain_under_winners,
+};

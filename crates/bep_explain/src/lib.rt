@@ -15,7 +15,8 @@
 //!
 //! `document` answers so from the bytes that come in to the bytes that go out, as `bep_answer` does for the first reason:
 //! `explain_text`, and with the exit status `explain_and_tell` and `explain_firm_and_tell`;
-//! `explain_under_winners_and_tell` and `explain_firm_under_winners_and_tell` explain a cut under the winners of its names.
+//! `explain_under_winners_and_tell` and `explain_firm_under_winners_and_tell` explain a cut under the winners of its names, as
+//! `explain_under_winners` and `explain_firm_under_winners` do for a caller that has the cut.
 //!
 //! A crate that tells of something else that fails looks its details up: `Lookup`, `details_told`, and as lines `lines_of` and
 //! `push_details`, or as JSON `write_reason` and `line_of`.
@@ -47,8 +48,8 @@ pub use as_json::{explanation_json, line_of, write_reason};
 pub use detail::Detail;
 pub use document::{
     FirmReasonsOfCut, FirmReasonsUnderWinners, ReasonsOfCut, ReasonsUnderWinners, explain_and_tell,
-    explain_firm_and_tell, explain_firm_under_winners_and_tell, explain_text,
-    explain_under_winners_and_tell, fault_in,
+    explain_firm_and_tell, explain_firm_under_winners, explain_firm_under_winners_and_tell,
+    explain_text, explain_under_winners, explain_under_winners_and_tell, fault_in,
 };
 pub use firm_json::firm_explanation_json;
 pub use gather::failures;

@@ -85,15 +85,23 @@ IsLiveOf (Refused fault) outcome text = (outcome ≡ outcomes.Refused) × (text 
 abbrev pub IsLiveOfBytes : List ℕ → Outcome → List ℕ → Type 0
 IsLiveOfBytes bytes outcome text = IsLiveOf (scenario_of bytes) outcome text
 
+-- Where the logs don't fit, the cut isn't known to be of one run. So it isn't answered for, as where there is no list for it.
+abbrev pub certified_under : RunVerdict → Certified → Certified
+certified_under (Fits count) found = found
+certified_under (Misfit object ticket) found = certificates.NoWinner
+
 -- The steps are made. There is a run cut whose logs begin at the cluster to which they lead, and its cut is written as where its
--- certificate is asked for: as the document of that cut, of the scenario's version, with the list under which it is audited.
+-- certificate is asked for: as the document of that cut, of the scenario's version, with the list under which it is audited. What
+-- is answered is what was found, if the logs fit.
 pub record IsLivedTo (scenario : Said) (outcome : Certified) (text : List ℕ) : Type 0 where
   pub told : List ℕ
   pub run : RunState
   pub leads : LeadsOn scenario run told
   pub verdict : RunVerdict
   pub judged : IsJudged run verdict
-  pub certificate : IsCertificate scenario.version (cut_in run) outcome text
+  pub found : Certified
+  pub certificate : IsCertificate scenario.version (cut_in run) found text
+  pub ended : outcome ≡ certified_under verdict found
 
 -- the outcome and the text for what a document says: that, or the fault for which it is refused
 abbrev pub IsLiveEndOf : Reading Said → Certified → List ℕ → Type 0

@@ -1,16 +1,18 @@
 //! The check document of a cluster that threads ran.
-ghost use Rattle.std.specs.Prelude.{IfErr, IfOk};
+ghost use Rattle.std.specs.Prelude.{◌≡◌, IfErr, IfOk};
 ghost use Rattle.bep_answer.specs.Exchange.{IsEndedEarly, IsWhole};
 ghost use Rattle.bep_scenario.specs.Scenario.{said_lazily};
 ghost use Rattle.bep_live.specs.Beside.{IsLiveEndWith, IsLivedBeside};
 ghost use Rattle.bep_answer.specs.Certified.{IsCertificate};
 ghost use Rattle.bep_live.specs.Lived.{IsLiveEndOfBytes, IsLivedTo, cut_in};
+ghost use Rattle.bep_live.specs.Lived as life;
 
 use crate::lines::push_run;
 use crate::living::{judge, lived};
 use crate::logs::{append, lines_on};
 use bep_answer::{Answer, Certified, Hinted, certify_cut, fault_line, hint_for};
 use bep_document::DocError;
+use bep_fit::RunVerdict;
 use bep_hints::Expected;
 use bep_json::DocVersion;
 use bep_play::lines_of;
@@ -62,7 +64,8 @@ fn answer<R: Threads + Wait + Sync>(
     }
 }
 
-// The document of a cut of the scenario's cluster, once threads have run it, and the lines of refused steps and of the verdict.
+// The document of a cut of the scenario's cluster, once threads have run it, the outcome, and the lines of refused steps and of the
+// verdict.
 fn live_document<R: Threads + Wait + Sync>(
     rt: &R,
     alloc: Global,
@@ -75,11 +78,22 @@ fn live_document<R: Threads + Wait + Sync>(
     let version = scenario.version;
     let (run, mut told) = lived(rt, alloc, scenario, turns)?;
     let verdict = judge(&run);
-    let document = document_of(alloc, version, &run)?;
+    let (found, text) = document_of(alloc, version, &run)?;
     let lines = lines_on(alloc, &verdict, &run)?;
+    let outcome = certified_under(&verdict, found);
     push_run(&mut told, verdict)?;
     append(&mut told, lines.as_slice())?;
-    Ok((document, lines_of(told)))
+    Ok(((outcome, text), lines_of(told)))
+}
+
+// The outcome where this was found of the cut: written only if the logs fit.
+fn certified_under(verdict: &RunVerdict, found: Certified) -> Certified
+    ensures { result ≡ life.certified_under verdict.now found }
+{
+    match verdict {
+        RunVerdict::Fits(_) => found,
+        RunVerdict::Misfit(_, _) => Certified::NoWinner,
+    }
 }
 
 // The document of this version of the cut of the devices and links as they are.

@@ -35,7 +35,7 @@ pub fn live_and_tell<P: AllocGlobal + Threads + Wait + Sync, H: Person, R: Read,
 
 /// The same for the check document of that cut, with the list of its winners, on a line; or the line of the first known name
 /// that has none; or that of the fault for which the document is refused. The lines of the steps that are refused, and that of
-/// the verdict on the threads' logs, are told on standard error. May wait.
+/// the verdict on the threads' logs, are told on standard error. Where the logs don't fit, the status is 1. May wait.
 pub fn live_document_and_tell<P: AllocGlobal + Threads + Wait + Sync, H: Person, R: Read, W: Write>(
     rt: &P,
     person: &mut H,

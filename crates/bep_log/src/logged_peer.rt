@@ -5,6 +5,7 @@ ghost use Rattle.bep_log.specs.LoggedPeer.{IsBegun, IsRebased, IsReplayed, Logge
 ghost use Rattle.bep_log.specs.declared.error.LogError.TheVariants.{Memory, Refused};
 ghost use Rattle.bep_machine.specs.declared.refusal.Refusal.TheVariants.{StoreFault};
 ghost use Rattle.bep_peer.specs.Member.{Remains, tables_of};
+ghost use Rattle.bep_store.specs.Sure.{NeverFails};
 
 use crate::LogError;
 use crate::history::History;
@@ -62,13 +63,18 @@ impl<S: Store> Model for LoggedPeer<S> {
 
 impl<S: Store> LoggedPeer<S> {
     /// The device with an empty log, in round 0: it is its own base. It is taken for good, after a refusal too. Refuses
-    /// `StoreFault` where a store of its fails to list its names or to read one; else only for want of memory.
+    /// `StoreFault` where a store of its fails to list its names or to read one, and never where no store of the kind fails; else
+    /// only for want of memory.
     pub fn new(alloc: Global, peer: Peer<S>) -> Result<Self, LogError>
         ensures begun { IfOk result (IsBegun peer) }
         ensures only { IfErr result (λ e. (e ≡ Refused StoreFault) ⊎ (e ≡ Memory)) }
+        ensures sure { NeverFails S.faults → ¬ IsErrOf result (Refused StoreFault) }
     {
         let mut peer = peer;
-        let base = peer.copy_out()?;
+        let copied = peer.copy_out();
+        // called for what its clause says of stores that never fail
+        peer.failed();
+        let base = copied?;
         Ok(LoggedPeer {
             peer,
             base,

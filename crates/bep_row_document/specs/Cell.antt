@@ -1,6 +1,7 @@
 -- What a row's text says of a device, item by item (this project's profile).
 use Rattle.std.specs.Prelude.{ℕ, ◌-◌, ◌==◌, ◌||◌, nat_lt, not, Bool, List, length, Option, Some, None, if◌then◌else◌}
 use Rattle.std.specs.List.{list_any}
+use Rattle.bep_record.specs.declared.limits.TheConstants.{MAX_DEVICES}
 use Rattle.bep_row_document.specs.Text.{CellText, ViewText}
 
 -- the place from 0, if there is one
@@ -20,3 +21,7 @@ is_misplaced records nodes cell =
 abbrev pub says_something : CellText → Bool
 says_something cell =
     not (cell.1.0 == 0) || (not (cell.1.1.0 == 0) || (not (cell.1.1.1.0 == 0) || not (length cell.1.1.1.1.0 == 0)))
+
+-- the cell lists more views than there may be devices
+abbrev pub has_many_views : CellText → Bool
+has_many_views cell = nat_lt MAX_DEVICES (length cell.1.1.1.1.0)

@@ -1,9 +1,10 @@
 -- Why a row is refused beside its header; the smallest number that applies is told, at its first place (this project's profile).
-use Rattle.std.specs.Prelude.{ℕ, ◌==◌, ◌&&◌, ◌||◌, not, nat_eq, Bool, true, false, List, [], length, Option, Some, None, slice_get, if◌then◌else◌}
+use Rattle.std.specs.Prelude.{ℕ, ◌==◌, ◌&&◌, ◌||◌, not, nat_eq, nat_lt, Bool, true, false, List, [], length, Option, Some, None, slice_get, if◌then◌else◌}
 use Rattle.std.specs.Cmp.Lexicographic.{pointwise}
 use Rattle.std.specs.List.{list_any}
 use Rattle.std.specs.Ordering.{is_lt}
 use Rattle.bep_record.specs.declared.entry.Entry.{Entry}
+use Rattle.bep_record.specs.declared.limits.TheConstants.{MAX_DEVICES}
 use Rattle.bep_json.specs.declared.nodes.NamedParts.{NamedParts}
 use Rattle.bep_document.specs.declared.fault.DocFault.{DocFault}
 use Rattle.bep_document.specs.declared.fault.Fault.{Fault}
@@ -15,8 +16,16 @@ use Rattle.bep_model.specs.Settled.{key_cmp}
 use Rattle.bep_tables.specs.declared.cut.CutParts.{CutParts}
 use Rattle.bep_tables.specs.declared.share.Share.{Share}
 use Rattle.bep_tables.specs.Cut.{shares_of}
-use Rattle.bep_row_document.specs.Cell.{is_misplaced, place_of, says_something}
+use Rattle.bep_row_document.specs.Cell.{has_many_views, is_misplaced, place_of, says_something}
 use Rattle.bep_row_document.specs.Text.{CellText, RowText, ViewText}
+
+-- these are more than there may be devices
+unfoldable pub are_many : List CellText → Bool
+are_many cells = nat_lt MAX_DEVICES (length cells)
+
+-- one of the lists is longer than there may be devices: that of the devices, or that of one's views
+abbrev pub is_crowded : RowText → Bool
+is_crowded row = are_many row.1.1.1.1.0 || list_any has_many_views row.1.1.1.1.0
 
 -- a place is beyond the row's lists, or the row says nothing of its name
 abbrev pub are_places_wrong : RowText → Bool
@@ -108,7 +117,7 @@ bad_pull folder name entries earlier cell =
 -- ---- all
 
 unfoldable pub first_misplaced : RowText → Option DocFault
-first_misplaced row = if are_places_wrong row then Some (nowhere Range) else None
+first_misplaced row = if is_crowded row || are_places_wrong row then Some (nowhere Range) else None
 
 unfoldable pub first_unordered : Last → RowText → Option DocFault
 first_unordered last row = if is_above (row.0, row.1.0) last then None else Some (row_fault Twice row.0 row.1.0)
@@ -125,7 +134,7 @@ first_bad row = if are_bad row then Some (row_fault RecordBad row.0 row.1.0) els
 unfoldable pub first_bad_pull : RowText → Option DocFault
 first_bad_pull row = first_in (bad_pull row.0 row.1.0 row.1.1.0) [] row.1.1.1.1.0
 
--- the row's first fault beside the header, but for its sequences: a place, then its order, then what stands twice, then what the header hasn't,
+-- the row's first fault beside the header, but for its sequences: a list's length or a place, then its order, then what stands twice, then what the header hasn't,
 -- then a record or a node, then what is pulled
 unfoldable pub fault_in : CutParts → Last → RowText → Option DocFault
 fault_in header last row =

@@ -1,10 +1,10 @@
 //! What a row's text says of a device, item by item.
 ghost use Rattle.std.specs.Prelude.{◌≡◌, ◌==◌, ◌||◌, ◌≤◌, nat_lt, option_map};
 ghost use Rattle.std.specs.List.{list_any};
-ghost use Rattle.bep_row_document.specs.Cell.{are_views_misplaced, is_misplaced, place_of, says_something};
+ghost use Rattle.bep_row_document.specs.Cell.{are_views_misplaced, has_many_views, is_misplaced, place_of, says_something};
 
 use crate::text::{CellText, Place, ViewText};
-use bep_record::DeviceId;
+use bep_record::{DeviceId, MAX_DEVICES};
 
 // The device.
 pub(crate) fn device_of(cell: &CellText) -> DeviceId
@@ -92,4 +92,11 @@ pub(crate) fn says_something(cell: &CellText) -> bool
         || node_of(cell).number() != 0
         || pull_of(cell).number() != 0
         || !views_of(cell).is_empty()
+}
+
+// Whether the cell lists more views than there may be devices.
+pub(crate) fn has_many_views(cell: &CellText) -> bool
+    ensures { result ≡ has_many_views cell.now }
+{
+    views_of(cell).len() > MAX_DEVICES
 }

@@ -2,14 +2,14 @@
 ghost use Rattle.std.specs.Prelude.{◌≡◌, ◌==◌, ◌&&◌, ◌||◌, not, nat_eq, IfOk, Some, None, if◌then◌else◌};
 ghost use Rattle.std.specs.Cmp.Lexicographic.{pointwise};
 ghost use Rattle.std.specs.List.{list_any};
-ghost use Rattle.bep_row_document.specs.Cell.{is_misplaced, says_something};
-ghost use Rattle.bep_row_document.specs.Faults.{are_bad, are_places_wrong, bad_pull, cell_again, fault_in, first_bad, first_bad_pull, first_misplaced, first_twice, first_unordered, first_unshared, has_cell, has_share, has_view, is_above, is_bad_node, is_bad_record, is_invalid_at, row_fault, stranger, unshared, view_again, views};
+ghost use Rattle.bep_row_document.specs.Cell.{has_many_views, is_misplaced, says_something};
+ghost use Rattle.bep_row_document.specs.Faults.{are_bad, are_many, are_places_wrong, bad_pull, cell_again, fault_in, first_bad, first_bad_pull, first_misplaced, first_twice, first_unordered, first_unshared, has_cell, has_share, has_view, is_above, is_bad_node, is_bad_record, is_crowded, is_invalid_at, row_fault, stranger, unshared, view_again, views};
 ghost use Rattle.bep_document.specs.declared.fault.Fault.TheVariants.{Range, RecordBad};
 ghost use Rattle.bep_document.specs.Fault.{at_name, nowhere};
 ghost use Rattle.bep_document.specs.faults.Records.{is_well_formed};
 
 use crate::cell::{
-    device_of, is_misplaced, place_of, pull_of, says_something, viewed_of, views_of,
+    device_of, has_many_views, is_misplaced, place_of, pull_of, says_something, viewed_of, views_of,
 };
 use crate::row::{cells_of, folder_of, name_of, nodes_of, records_of};
 use crate::text::{CellText, RowText, ViewText};
@@ -17,7 +17,7 @@ use bep_document::{
     DocFault, Fault, Found, Judge, first_fault, first_of, is_node, records_are_told,
 };
 use bep_json::NamedParts;
-use bep_record::{DeviceId, Entry, FolderName, Name};
+use bep_record::{DeviceId, Entry, FolderName, MAX_DEVICES, Name};
 use bep_tables::{Cut, PeerView, Share};
 use std::alloc::{AllocError, Global};
 
@@ -228,6 +228,27 @@ fn is_well_formed(entry: &Entry) -> bool
     entry.is_well_formed()
 }
 
+// Whether one of the row's lists is longer than there may be devices. What is looked for below takes the square of their lengths.
+fn is_crowded(row: &RowText) -> bool
+    ensures { result ≡ is_crowded row.now }
+{
+    let cells = cells_of(row);
+    are_many(cells) || have_many_views(cells)
+}
+
+#[tactic(auto, unfolding(crate::specs::Faults::are_many))]
+fn are_many(cells: &[CellText]) -> bool
+    ensures { result ≡ are_many cells.now }
+{
+    cells.len() > MAX_DEVICES
+}
+
+fn have_many_views(cells: &[CellText]) -> bool
+    ensures { result ≡ list_any has_many_views cells.now }
+{
+    cells.iter().any(|cell| has_many_views(cell))
+}
+
 // Whether a place is beyond the row's lists, or the row says nothing of its name.
 fn are_places_wrong(row: &RowText) -> bool
     ensures { result ≡ are_places_wrong row.now }
@@ -269,12 +290,12 @@ fn are_nodes_bad(name: &Name, nodes: &[NamedParts]) -> bool
     nodes.iter().any(|node| is_bad_node(name, node))
 }
 
-// The fault of a row whose places are wrong.
+// The fault of a row whose lists are too long, or whose places are wrong.
 #[tactic(auto, unfolding(crate::specs::Faults::first_misplaced))]
 fn first_misplaced(row: &RowText) -> Found
     ensures { IfOk result (λ found. found ≡ first_misplaced row.now) }
 {
-    if are_places_wrong(row) {
+    if is_crowded(row) || are_places_wrong(row) {
         return Ok(Some(DocFault::nowhere(Fault::Range)));
     }
     Ok(None)

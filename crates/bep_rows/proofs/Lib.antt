@@ -1,8 +1,8 @@
 mod Kept
-mod Order
+pub mod Order
 mod Stands
 pub mod ThreeParts
 pub mod Whole
-mod Reading
+pub mod Reading
 mod AllRows
 pub mod ListRead

@@ -26,7 +26,7 @@ use Rattle.bep_rows.proofs.Reading.{all_read, in_first, up_to_below}
 use Rattle.bep_rows.proofs.ThreeParts.{ByParts}
 
 -- one more, of another name than all
-differ_more : (rows : List NameRow) (row : NameRow) → NamesDiffer rows → ((one : NameRow) → Contains rows one → key_of_row one ≢ key_of_row row) → NamesDiffer (rows ++ row ∷ [])
+pub differ_more : (rows : List NameRow) (row : NameRow) → NamesDiffer rows → ((one : NameRow) → Contains rows one → key_of_row one ≢ key_of_row row) → NamesDiffer (rows ++ row ∷ [])
 differ_more [] row differ apart = (λ other member. absurd (not_in_none other member), tt)
 differ_more (first ∷ rows) row differ apart = (
   λ other member.

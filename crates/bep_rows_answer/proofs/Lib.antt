@@ -1,5 +1,9 @@
 mod Above
+pub mod Asked
 mod LineFacts
-mod Settled
+pub mod MoreRows
+pub mod Settled
 mod SoFar
 mod Streamed
+mod CountFacts
+mod Given

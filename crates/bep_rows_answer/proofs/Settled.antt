@@ -17,8 +17,9 @@ use Rattle.bep_rows.specs.declared.standing.Standing.{Standing}
 use Rattle.bep_rows.specs.declared.standing.Standing.TheVariants as standings
 use Rattle.bep_tables.specs.Cut.{tables_of}
 use Rattle.bep_rows_answer.specs.Outcome.{outcome_of, rows_status_of}
-use Rattle.bep_rows_answer.specs.Stream.{IsAnswered, IsGrownText, IsWholeAnswer}
-use Rattle.bep_rows_answer.specs.Told.{IsFirmRowsTold, IsRowsTold, IsSettledRowsTold, SaysFirmRows, SaysRows, SaysSettledRows, StaysFirmUnderWinners, StaysUnderWinners, TellsRows}
+use Rattle.bep_rows_answer.specs.Stream.{IsAnswered, IsGrownText, IsWholeAnswer, TellsRow}
+use Rattle.bep_rows_answer.specs.Told.{IsRowsTold, SaysFirmRows, SaysRows, SaysSettledRows, StaysFirmUnderWinners, StaysUnderWinners, TellsRows}
+use Rattle.bep_rows_answer.specs.UnderWinners.{EndsUnderWinners}
 use Rattle.bep_rows_answer.specs.declared.outcome.RowsOutcome.{RowsOutcome}
 use Rattle.bep_rows_answer.specs.declared.outcome.RowsOutcome.TheVariants.{Met, NotMet, Refused}
 
@@ -39,8 +40,8 @@ zero_is_met aims.Firm (Err Write) zero = absurd (omega (arith, zero))
 
 -- ---- what stays of the cut of a stream that is what was asked
 
-module _ (Stays : Tables → Type 0) (aim : Aim) (stays : (t : Tables) (standing : Standing) → IsStanding aim t standing → Met ≡ outcome_of standing → Stays t) where
-  whole_tells : (lines : List (List ℕ)) (text : List ℕ) → IsWholeAnswer aim lines Met text → TellsRows Stays lines
+module _ (Stays : Tables → Type 0) (aim : Aim) (Tells : TellsRow) (stays : (t : Tables) (standing : Standing) → IsStanding aim t standing → Met ≡ outcome_of standing → Stays t) where
+  whole_tells : (lines : List (List ℕ)) (text : List ℕ) → IsWholeAnswer Tells (EndsUnderWinners aim) lines Met text → TellsRows Stays lines
   whole_tells lines text whole = record {
     version = whole.version;
     header = whole.header;
@@ -50,10 +51,10 @@ module _ (Stays : Tables → Type 0) (aim : Aim) (stays : (t : Tables) (standing
     are = whole.answered.are;
     says = whole.answered.says;
     read = whole.answered.read;
-    stays = stays (tables_of (cut_by whole.header whole.rows)) whole.standing whole.judged whole.told;
+    stays = stays (tables_of (cut_by whole.header whole.rows)) whole.ends.standing whole.ends.judged whole.ends.told;
   }
 
-  met_says : (unread left held now : Option (List ℕ)) → IsAnswered aim unread left held now Met → SaysRows Stays unread left
+  met_says : (unread left held now : Option (List ℕ)) → IsAnswered Tells (EndsUnderWinners aim) unread left held now Met → SaysRows Stays unread left
   met_says unread left held now answered = elim answered.says [
     | inl ended ↦ record {
       bytes = answered.bytes;
@@ -68,10 +69,10 @@ module _ (Stays : Tables → Type 0) (aim : Aim) (stays : (t : Tables) (standing
     | inr refused ↦ let other = refused.told in absurd (cc)
   ]
 
-  told_says : (unread left held now : Option (List ℕ)) (status : ℕ) → IsRowsTold aim unread left held now status → status ≡ 0 → SaysRows Stays unread left
+  told_says : (unread left held now : Option (List ℕ)) (status : ℕ) → IsRowsTold Tells (EndsUnderWinners aim) (rows_status_of aim) unread left held now status → status ≡ 0 → SaysRows Stays unread left
   told_says unread left held now status told zero =
       met_says unread left held now
-      (subst (λ (answer : Result RowsOutcome ReportError). MatchResult answer (IsAnswered aim unread left held now) (λ _. IsGrownText held now)) (zero_is_met aim told.answer (sym told.told ∙ zero)) told.done)
+      (subst (λ (answer : Result RowsOutcome ReportError). MatchResult answer (IsAnswered Tells (EndsUnderWinners aim) unread left held now) (λ _. IsGrownText held now)) (zero_is_met aim told.answer (sym told.told ∙ zero)) told.done)
 
 -- ---- settled, and firm
 
@@ -91,8 +92,8 @@ module _ (put : SettledStaysPut) (again : SettledStaysSettled) where
   stays_settled t (standings.Loose reason folder name device) judged told = absurd (cc)
   stays_settled t (standings.Unwon folder name) judged told = absurd (cc)
 
-  pub settled_rows : (unread left held now : Option (List ℕ)) (status : ℕ) → IsSettledRowsTold unread left held now status → status ≡ 0 → SaysSettledRows unread left
-  settled_rows = told_says StaysUnderWinners aims.Settled stays_settled
+  pub settled_rows : (Tells : TellsRow) (unread left held now : Option (List ℕ)) (status : ℕ) → IsRowsTold Tells (EndsUnderWinners aims.Settled) (rows_status_of aims.Settled) unread left held now status → status ≡ 0 → SaysSettledRows unread left
+  settled_rows Tells = told_says StaysUnderWinners aims.Settled Tells stays_settled
 
   module _ (firm_again : FirmStaysFirm) (firm_put : FirmCutsStayPut) where
     stays_firm : (t : Tables) (standing : Standing) → IsStanding aims.Firm t standing → Met ≡ outcome_of standing → StaysFirmUnderWinners t
@@ -108,5 +109,5 @@ module _ (put : SettledStaysPut) (again : SettledStaysSettled) where
     stays_firm t (standings.Loose reason folder name device) judged told = absurd (cc)
     stays_firm t (standings.Unwon folder name) judged told = absurd (cc)
 
-    pub firm_rows : (unread left held now : Option (List ℕ)) (status : ℕ) → IsFirmRowsTold unread left held now status → status ≡ 0 → SaysFirmRows unread left
-    firm_rows = told_says StaysFirmUnderWinners aims.Firm stays_firm
+    pub firm_rows : (Tells : TellsRow) (unread left held now : Option (List ℕ)) (status : ℕ) → IsRowsTold Tells (EndsUnderWinners aims.Firm) (rows_status_of aims.Firm) unread left held now status → status ≡ 0 → SaysFirmRows unread left
+    firm_rows Tells = told_says StaysFirmUnderWinners aims.Firm Tells stays_firm

@@ -1,3 +1,4 @@
+pub mod Auditor
 pub mod Counts
 pub mod Header
 pub mod Lines
@@ -5,5 +6,6 @@ pub mod Outcome
 pub mod Rows
 pub mod Input
 pub mod Stream
+pub mod UnderWinners
 pub mod Told
 pub mod inner

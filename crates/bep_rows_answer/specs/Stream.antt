@@ -1,7 +1,7 @@
 -- The answer to a stream of rows: what its lines say, and what is written (this project's profile).
-use Rattle.std.specs.Prelude.{◌≡◌, ◌⊎◌, ◌++◌, ◌+◌, ◌<◌, ◌≤◌, ℕ, ⊤, List, [], ◌∷◌, length, take, map, slice_index_or, ◌==◌, false, Option, Some, None}
+use Rattle.std.specs.Prelude.{◌≡◌, ◌⊎◌, ◌++◌, ◌+◌, ◌<◌, ℕ, ⊤, List, [], ◌∷◌, length, take, slice_index_or, ◌==◌, false, Option, Some, None}
 use Rattle.std.specs.Io.KnownBytes.{Appends, Consumes, IsAtEnd}
-use Rattle.std.specs.List.{AllByRecursion, AllZip, flat_map}
+use Rattle.std.specs.List.{AllByRecursion, AllZip, concat, flat_map}
 use Rattle.bep_document.specs.Fault.{nowhere}
 use Rattle.bep_document.specs.Reading.{Read}
 use Rattle.bep_document.specs.declared.error.DocError.{DocError}
@@ -14,19 +14,13 @@ use Rattle.bep_row.specs.Fits.{Fits}
 use Rattle.bep_row.specs.declared.row.NameRow.{NameRow}
 use Rattle.bep_row_document.specs.Faults.{Last}
 use Rattle.bep_row_document.specs.Reading.{reading_of_row}
-use Rattle.bep_rows.specs.AllRows.{cut_by, key_of_row}
-use Rattle.bep_rows.specs.ListRead.{IsListRead}
-use Rattle.bep_rows.specs.Standing.{IsStanding}
-use Rattle.bep_rows.specs.declared.aim.Aim.{Aim}
-use Rattle.bep_rows.specs.declared.standing.Standing.{Standing}
-use Rattle.bep_tables.specs.Cut.{tables_of}
+use Rattle.bep_rows.specs.AllRows.{key_of_row}
 use Rattle.bep_tables.specs.declared.cut.CutParts.{CutParts}
-use Rattle.bep_rows_answer.specs.Counts.{count_line, counts_after, no_count}
+use Rattle.bep_rows_answer.specs.Auditor.{last_of}
 use Rattle.bep_rows_answer.specs.Header.{reading_of_header}
 use Rattle.bep_rows_answer.specs.Input.{newline_at}
-use Rattle.bep_rows_answer.specs.Lines.{refusal_line, standing_line, verdict_line_of}
-use Rattle.bep_rows_answer.specs.Outcome.{outcome_of}
-use Rattle.bep_rows_answer.specs.Rows.{IsHeaderRefusal, IsRowRefusal, StandsFor}
+use Rattle.bep_rows_answer.specs.Lines.{refusal_line}
+use Rattle.bep_rows_answer.specs.Rows.{IsHeaderRefusal, IsRowRefusal}
 use Rattle.bep_rows_answer.specs.declared.outcome.RowsOutcome.{RowsOutcome}
 use Rattle.bep_rows_answer.specs.declared.outcome.RowsOutcome.TheVariants as outcomes
 use Rattle.bep_rows_answer.specs.declared.rows.Rows.{Rows}
@@ -56,70 +50,54 @@ AreRead version header last (line ∷ lines) [] = ⊥
 AreRead version header last (line ∷ lines) (row ∷ rows) =
     (reading_of_row version header last line ≡ Read row) × Fits header row × AreRead version header (Some (key_of_row row)) lines rows
 
--- the name of the last row
-abbrev pub last_of : Last → List NameRow → Last
-last_of last [] = last
-last_of last (row ∷ rows) = last_of (Some (key_of_row row)) rows
-
--- each row is answered: what is to be said of its name in each cut of which it is a row
-abbrev pub AreStandings : Aim → CutParts → List NameRow → List Standing → Type 0
-AreStandings aim header = AllZip (StandsFor aim header)
-
--- the lines that are written to rows, one for each name that isn't what is asked
-abbrev pub standing_lines : List Standing → List ℕ
-standing_lines standings = flat_map standing_line standings
-
 -- ---- the answer
 
--- the lines are a header and rows, which were answered by this text
-pub record AreAnswered (aim : Aim) (lines : List (List ℕ)) (text : List ℕ) (version : DocVersion) (header : CutParts) (rows : List NameRow) : Type 0 where
+-- what is written to a row behind a header, and the outcome and what is written behind the last row
+abbrev pub TellsRow : Type 1
+TellsRow = CutParts → NameRow → List ℕ → Type 0
+
+abbrev pub EndsRows : Type 1
+EndsRows = CutParts → List NameRow → RowsOutcome → List ℕ → Type 0
+
+-- the lines are a header and rows, each of which was answered, by this text all together
+pub record AreAnswered (Tells : TellsRow) (lines : List (List ℕ)) (text : List ℕ) (version : DocVersion) (header : CutParts) (rows : List NameRow) : Type 0 where
   pub heading : List ℕ
   pub row_lines : List (List ℕ)
   pub are : lines ≡ heading ∷ row_lines
   pub says : reading_of_header heading ≡ Read (version, header)
   pub read : AreRead version header None row_lines rows
-  pub standings : List Standing
-  pub stand : AreStandings aim header rows standings
-  pub told : text ≡ standing_lines standings
+  pub answers : List (List ℕ)
+  pub told : AllZip (Tells header) rows answers
+  pub written : text ≡ concat answers
 
--- The lines are a header and rows, and the text is a line for each name that isn't what is asked, then the verdict, then a line for each folder.
--- The verdict is that on the cut for which the header and the rows stand, under the list of its winners; or its first known name
--- that has none.
-pub record IsWholeAnswer (aim : Aim) (lines : List (List ℕ)) (outcome : RowsOutcome) (text : List ℕ) : Type 0 where
+-- the lines are a header and rows, and the text is the answers to these, and then what is written at the end
+pub record IsWholeAnswer (Tells : TellsRow) (Ends : EndsRows) (lines : List (List ℕ)) (outcome : RowsOutcome) (text : List ℕ) : Type 0 where
   pub version : DocVersion
   pub header : CutParts
   pub rows : List NameRow
   pub so_far : List ℕ
-  pub answered : AreAnswered aim lines so_far version header rows
-  pub standing : Standing
-  pub judged : IsStanding aim (tables_of (cut_by header rows)) standing
-  pub told : outcome ≡ outcome_of standing
-  pub written : text ≡ so_far ++ (verdict_line_of aim standing ++ flat_map count_line (counts_after rows (map no_count header.folders)))
+  pub answered : AreAnswered Tells lines so_far version header rows
+  pub last : List ℕ
+  pub ends : Ends header rows outcome last
+  pub written : text ≡ so_far ++ last
 
 -- ---- what is known while lines come
 
 -- so far the lines are a header and rows, which were answered by this text
-pub record IsSoFarRows (aim : Aim) (lines : List (List ℕ)) (text : List ℕ) (state : Rows) : Type 0 where
-  pub asked : state.aim ≡ aim
+pub record IsSoFarRows (Tells : TellsRow) (lines : List (List ℕ)) (text : List ℕ) (state : Rows) : Type 0 where
   pub rows : List NameRow
-  pub answered : AreAnswered aim lines text state.version state.header rows
-  pub listed : IsListRead aim state.header rows state.stream
-  pub last : state.stream.last ≡ last_of None rows
-  pub counts : state.counts ≡ counts_after rows (map no_count state.header.folders)
+  pub answered : AreAnswered Tells lines text state.version state.header rows
+  pub last : state.last ≡ last_of None rows
 
 -- the same, or no line came yet
-abbrev pub IsSoFar : Aim → List (List ℕ) → List ℕ → Option Rows → Type 0
-IsSoFar aim lines text None = (lines ≡ []) × (text ≡ [])
-IsSoFar aim lines text (Some rows) = IsSoFarRows aim lines text rows
+abbrev pub IsSoFar : TellsRow → List (List ℕ) → List ℕ → Option Rows → Type 0
+IsSoFar Tells lines text None = (lines ≡ []) × (text ≡ [])
+IsSoFar Tells lines text (Some rows) = IsSoFarRows Tells lines text rows
 
 -- the next line is refused for this
 abbrev pub IsLineRefusal : List ℕ → Option Rows → DocError → Type 0
 IsLineRefusal line None error = IsHeaderRefusal line error
 IsLineRefusal line (Some rows) error = IsRowRefusal line rows error
-
--- one more line was taken, and answered by this text
-abbrev pub IsTakenNext : Aim → List ℕ → Option Rows → Option Rows → List ℕ → Type 0
-IsTakenNext aim line old new more = (lines : List (List ℕ)) (text : List ℕ) → IsSoFar aim lines text old → IsSoFar aim (lines ++ line ∷ []) (text ++ more) new
 
 -- ---- the whole stream
 
@@ -140,10 +118,10 @@ pub record IsRefusedLine (rest : List ℕ) (state : Option Rows) (fault : DocFau
   pub refused : IsLineRefusal line state (errors.Refused fault)
 
 -- these lines were answered, and the next one is refused: the last line of the text says so, with its number and fault
-pub record IsRefusedAnswer (aim : Aim) (lines : List (List ℕ)) (rest : List ℕ) (outcome : RowsOutcome) (text : List ℕ) : Type 0 where
+pub record IsRefusedAnswer (Tells : TellsRow) (lines : List (List ℕ)) (rest : List ℕ) (outcome : RowsOutcome) (text : List ℕ) : Type 0 where
   pub so_far : List ℕ
   pub state : Option Rows
-  pub known : IsSoFar aim lines so_far state
+  pub known : IsSoFar Tells lines so_far state
   pub fault : DocFault
   pub why : IsRefusedLine rest state fault ⊎ IsTooLong rest fault
   pub told : outcome ≡ outcomes.Refused
@@ -156,13 +134,13 @@ all_lines (line ∷ lines) [] = line ∷ lines
 all_lines (line ∷ lines) (byte ∷ more) = (line ∷ lines) ++ (byte ∷ more) ∷ []
 
 -- the whole stream was read and answered
-pub record IsEndedAnswer (aim : Aim) (left : Option (List ℕ)) (lines : List (List ℕ)) (rest : List ℕ) (outcome : RowsOutcome) (text : List ℕ) : Type 0 where
+pub record IsEndedAnswer (Tells : TellsRow) (Ends : EndsRows) (left : Option (List ℕ)) (lines : List (List ℕ)) (rest : List ℕ) (outcome : RowsOutcome) (text : List ℕ) : Type 0 where
   pub at_end : IsAtEnd left
   pub no_end : newline_at rest ≡ None
-  pub answer : IsWholeAnswer aim (all_lines lines rest) outcome text
+  pub answer : IsWholeAnswer Tells Ends (all_lines lines rest) outcome text
 
 -- a stream was read and answered, to its end or to the first line that is refused
-pub record IsAnswered (aim : Aim) (unread left held now : Option (List ℕ)) (outcome : RowsOutcome) : Type 0 where
+pub record IsAnswered (Tells : TellsRow) (Ends : EndsRows) (unread left held now : Option (List ℕ)) (outcome : RowsOutcome) : Type 0 where
   pub bytes : List ℕ
   pub taken : Consumes unread left bytes
   pub lines : List (List ℕ)
@@ -170,7 +148,7 @@ pub record IsAnswered (aim : Aim) (unread left held now : Option (List ℕ)) (ou
   pub are : AreLines bytes lines rest
   pub text : List ℕ
   pub written : Appends held now text
-  pub says : IsEndedAnswer aim left lines rest outcome text ⊎ IsRefusedAnswer aim lines rest outcome text
+  pub says : IsEndedAnswer Tells Ends left lines rest outcome text ⊎ IsRefusedAnswer Tells lines rest outcome text
 
 -- after an error what was written before stays
 abbrev pub IsGrownText : Option (List ℕ) → Option (List ℕ) → Type 0

@@ -15,40 +15,40 @@ use Rattle.bep_model.specs.declared.row.Row.{Row}
 use Rattle.bep_report.specs.declared.error.ReportError.{ReportError}
 use Rattle.bep_row.specs.declared.row.NameRow.{NameRow}
 use Rattle.bep_rows.specs.AllRows.{cut_by}
-use Rattle.bep_rows.specs.declared.aim.Aim.{Aim}
 use Rattle.bep_rows.specs.declared.aim.Aim.TheVariants as aims
 use Rattle.bep_tables.specs.Cut.{tables_of}
 use Rattle.bep_tables.specs.declared.cut.CutParts.{CutParts}
 use Rattle.bep_rows_answer.specs.Header.{reading_of_header}
 use Rattle.bep_rows_answer.specs.Input.{newline_at}
 use Rattle.bep_rows_answer.specs.Outcome.{rows_status_of}
-use Rattle.bep_rows_answer.specs.Stream.{AreLines, AreRead, IsAnswered, IsGrownText, all_lines}
+use Rattle.bep_rows_answer.specs.Stream.{AreLines, AreRead, EndsRows, IsAnswered, IsGrownText, TellsRow, all_lines}
+use Rattle.bep_rows_answer.specs.UnderWinners.{EndsUnderWinners, TellsStanding}
 use Rattle.bep_rows_answer.specs.declared.outcome.RowsOutcome.{RowsOutcome}
 
--- a stream was answered, to its end or to the first line that is refused, or it was cut short, and the status tells which
-pub record IsRowsTold (aim : Aim) (unread left held now : Option (List ℕ)) (status : ℕ) : Type 0 where
+-- A stream was answered so, to its end or to the first line that is refused, or it was cut short, and the status tells which.
+pub record IsRowsTold (Tells : TellsRow) (Ends : EndsRows) (status_after : Result RowsOutcome ReportError → ℕ) (unread left held now : Option (List ℕ)) (status : ℕ) : Type 0 where
   pub answer : Result RowsOutcome ReportError
-  pub told : status ≡ rows_status_of aim answer
-  pub done : MatchResult answer (IsAnswered aim unread left held now) (λ _. IsGrownText held now)
+  pub told : status ≡ status_after answer
+  pub done : MatchResult answer (IsAnswered Tells Ends unread left held now) (λ _. IsGrownText held now)
 
 -- beside it nothing is told: a person hears why there is no answer, and else nothing
-pub record IsRowsHeard (aim : Aim) (heard now : Option (List Said)) (status : ℕ) : Type 0 where
+pub record IsRowsHeard (status_after : Result RowsOutcome ReportError → ℕ) (heard now : Option (List Said)) (status : ℕ) : Type 0 where
   pub answer : Result RowsOutcome ReportError
-  pub told : status ≡ rows_status_of aim answer
+  pub told : status ≡ status_after answer
   pub hears : MatchResult answer (λ _. Hears heard now []) (λ error. Hears heard now (Why error ∷ []))
 
--- the two that may be asked
+-- the two that may be asked, where a line is written for each name that isn't what is asked
 abbrev pub IsSettledRowsTold : Option (List ℕ) → Option (List ℕ) → Option (List ℕ) → Option (List ℕ) → ℕ → Type 0
-IsSettledRowsTold = IsRowsTold aims.Settled
+IsSettledRowsTold = IsRowsTold (TellsStanding aims.Settled) (EndsUnderWinners aims.Settled) (rows_status_of aims.Settled)
 
 abbrev pub IsFirmRowsTold : Option (List ℕ) → Option (List ℕ) → Option (List ℕ) → Option (List ℕ) → ℕ → Type 0
-IsFirmRowsTold = IsRowsTold aims.Firm
+IsFirmRowsTold = IsRowsTold (TellsStanding aims.Firm) (EndsUnderWinners aims.Firm) (rows_status_of aims.Firm)
 
 abbrev pub IsSettledRowsHeard : Option (List Said) → Option (List Said) → ℕ → Type 0
-IsSettledRowsHeard = IsRowsHeard aims.Settled
+IsSettledRowsHeard = IsRowsHeard (rows_status_of aims.Settled)
 
 abbrev pub IsFirmRowsHeard : Option (List Said) → Option (List Said) → ℕ → Type 0
-IsFirmRowsHeard = IsRowsHeard aims.Firm
+IsFirmRowsHeard = IsRowsHeard (rows_status_of aims.Firm)
 
 -- settled under the list of the winners, and so it stays: of every cluster with these tables
 pub record StaysUnderWinners (t : Tables) : Type 0 where

@@ -1,113 +1,83 @@
 //! What is known of a stream of rows so far.
-ghost use Rattle.std.specs.Prelude.{◌≡◌, ◌++◌, IfErr, IfOk};
-ghost use Rattle.std.specs.List.{flat_map};
+ghost use Rattle.std.specs.Prelude.{◌≡◌, ◌++◌, ◌∷◌, [], List, IfErr, IfOk, OnOk};
 ghost use Rattle.bep_document.specs.declared.error.DocError.TheVariants.{Refused};
 ghost use Rattle.bep_row.specs.Fits.{Fits};
 ghost use Rattle.bep_row.specs.declared.row.NameRow.{NameRow as NameRowOf};
-ghost use Rattle.bep_rows_answer.specs.Counts.{count_line};
-ghost use Rattle.bep_rows_answer.specs.Lines.{verdict_line_of};
-ghost use Rattle.bep_rows_answer.specs.Rows.{IsFirstUnfit, IsHeaderRefusal, IsHeading, IsRowRefusal, IsSequenceFault, IsTaken, StandsFor};
+ghost use Rattle.bep_rows_answer.specs.Auditor.{last_of};
+ghost use Rattle.bep_rows_answer.specs.Rows.{IsFirstUnfit, IsHeaderRefusal, IsHeading, IsRowRefusal, IsSequenceFault, IsTaken};
 
-use crate::counts::{FolderCount, counted, no_counts, push_counts};
+use crate::auditor::Auditor;
 use crate::header::read_header;
-use crate::lines::{push_standing, push_verdict};
 use bep_document::{DocError, DocFault, Fault};
 use bep_json::DocVersion;
-use bep_record::{DeviceId, Items};
-use bep_row::{NameRow, is_said_fit};
+use bep_record::{DeviceId, FolderName, Name};
+use bep_row::{NameRow, cut_of, is_said_fit, row_fits};
 use bep_row_document::read_row;
-use bep_rows::{Aim, RowError, Standing, Stream, standing_of_row};
 use bep_tables::{Cut, Share};
 use std::alloc::{AllocError, Global};
-use std::mem;
 
 /// What is known of a stream of rows once some were read. It is as large for many rows as for one.
 pub struct Rows {
-    /// What is asked of the cut.
-    pub aim: Aim,
     /// The version of the stream.
     pub version: DocVersion,
     /// The header.
     pub header: Cut,
-    /// What is answered of the names so far.
-    pub stream: Stream,
-    /// How many names there are in each folder.
-    pub counts: Items<FolderCount>,
+    /// The name of the last row, if there was one.
+    pub last: Option<(FolderName, Name)>,
 }
 
 // By hand: a caller's proof then sees one call where it lets go of one, and not each field (docs/developing.md).
 impl Drop for Rows {
     fn drop(self) {
         let Rows {
-            aim: _,
             version: _,
             header: _,
-            stream: _,
-            counts: _,
+            last: _,
         } = self;
     }
 }
 
 impl Rows {
-    // No row yet, behind a header; or the fault for which this is refused.
-    pub(crate) fn behind(alloc: Global, aim: Aim, line: &[u8]) -> Result<Rows, DocError>
-        ensures ok { IfOk result (IsHeading aim line.now) }
+    // No row yet, behind a header, which the auditor is given; or the fault for which this is refused.
+    pub(crate) fn behind<A: Auditor>(
+        alloc: Global,
+        auditor: &mut A,
+        line: &[u8],
+    ) -> Result<Rows, DocError>
+        ensures ok { IfOk result (IsHeading line.now) }
+        ensures begun { IfOk result (λ rows. A.knows auditor.old rows.header [] auditor.new) }
         ensures err { IfErr result (IsHeaderRefusal line.now) }
     {
         let (version, header) = read_header(alloc, line)?;
-        let counts = no_counts(alloc, header.folders())?;
+        auditor.begin(alloc, &header)?;
         Ok(Rows {
-            aim,
             version,
             header,
-            stream: Stream::new(),
-            counts: Items::new(counts),
+            last: None,
         })
     }
 
-    // Takes the row of the next line, and gives the line of its name, if that isn't what is asked; or the fault for which the row is
-    // refused.
-    pub(crate) fn take(&mut self, alloc: Global, line: &[u8]) -> Result<Vec<u8>, DocError>
-        ensures ok { IfOk result (λ text. (row : NameRowOf) × IsTaken line.now row text.items self.old self.new) }
+    // Takes the row of the next line, which the auditor is given, and gives its answer; or the fault for which the row is refused.
+    pub(crate) fn take<A: Auditor>(
+        &mut self,
+        alloc: Global,
+        auditor: &mut A,
+        line: &[u8],
+    ) -> Result<Vec<u8>, DocError>
+        ensures ok { IfOk result (λ text. (row : NameRowOf) × IsTaken line.now row self.old self.new
+            × ((asked : A) (rows : List NameRowOf) → self.old.last ≡ last_of None rows → A.knows asked self.old.header rows auditor.old
+            → A.tells asked self.old.header row text.items × A.knows asked self.old.header (rows ++ row ∷ []) auditor.new)) }
         ensures err { IfErr result (IsRowRefusal line.now self.old) }
     {
-        let row = read_row(alloc, self.version, &self.header, self.stream.last(), line)?;
-        let here = standing_of(alloc, self.aim, &self.header, &row)?;
-        let mut text = Vec::new(alloc);
-        push_standing(&mut text, &here)?;
-        let counts = counted(alloc, self.counts.as_slice(), &row)?;
-        let (folder, name) = (row.folder.copy(alloc)?, row.name.copy(alloc)?);
-        match self.stream.take(folder, name, here) {
-            Ok(()) => {
-                self.counts = Items::new(counts);
-                Ok(text)
-            }
-            Err(_) => unreachable!(),
+        let row = read_row(alloc, self.version, &self.header, &self.last, line)?;
+        if !row_fits(&self.header, &row) {
+            return Err(DocError::Refused(unfit(alloc, &self.header, &row)?));
         }
-    }
-
-    // The verdict and the counts.
-    pub(crate) fn end(&self, alloc: Global) -> Result<Vec<u8>, AllocError>
-        ensures { IfOk result (λ text. text.items ≡ (verdict_line_of self.now.aim self.now.stream.standing ++ flat_map count_line self.now.counts)) }
-    {
-        let mut text = Vec::new(alloc);
-        push_verdict(&mut text, self.aim, self.stream.standing())?;
-        push_counts(&mut text, self.counts.as_slice())?;
+        let cut = cut_of(alloc, &self.header, &row)?;
+        let text = auditor.take(alloc, &row, &cut)?;
+        let (folder, name) = (row.folder.copy(alloc)?, row.name.copy(alloc)?);
+        self.last = Some((folder, name));
         Ok(text)
-    }
-}
-
-// What is answered of a row beside the header; or the fault for which it is refused.
-fn standing_of(alloc: Global, aim: Aim, header: &Cut, row: &NameRow) -> Result<Standing, DocError>
-    ensures stands { IfOk result (StandsFor aim header.now row.now) }
-    ensures fits { IfOk result (λ _. Fits header.now row.now) }
-    ensures err { IfErr result (IsSequenceFault header.now row.now) }
-{
-    match standing_of_row(alloc, aim, header, row) {
-        Ok(standing) => Ok(standing),
-        Err(RowError::Unfit) => Err(DocError::Refused(unfit(alloc, header, row)?)),
-        Err(RowError::Memory) => Err(DocError::Memory),
-        Err(RowError::OutOfOrder) => unreachable!(),
     }
 }
 

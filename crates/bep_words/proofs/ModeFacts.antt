@@ -15,7 +15,7 @@ use Rattle.clap.specs.declared.builder.arg.Arg.{Arg}
 use Rattle.clap.specs.declared.builder.command.Command.{Command}
 use Rattle.clap.specs.declared.parser.matches.ArgMatches.{ArgMatches}
 use Rattle.clap.specs.declared.parser.matches.ArgMatches.TheViews.{out-ArgMatches}
-use Rattle.bep_words.specs.Mode.{Asks, IsCommand, aim_of, ending_of, extent_of, form_of, goal_of, program, under_of}
+use Rattle.bep_words.specs.Mode.{Asks, IsCommand, ending_of, extent_of, form_of, goal_of, program, reasons_of, under_of}
 use Rattle.bep_words.specs.Turns.{turns_of}
 use Rattle.bep_words.specs.declared.mode.Mode.{Mode}
 use Rattle.bep_words.specs.declared.mode.Mode.TheVariants.{Check, Firm, Converge, Certify, Explain, Rows, Run}
@@ -230,7 +230,7 @@ mode_named words (inr (inl is)) = (Firm (under_of (subcommand_of program words))
 mode_named words (inr (inr (inl is))) = (Converge, is)
 mode_named words (inr (inr (inr (inl is)))) = (Certify (extent_of (subcommand_of program words)), (is, refl))
 mode_named words (inr (inr (inr (inr (inl is))))) = (Explain (goal_of (subcommand_of program words)) (under_of (subcommand_of program words)) (form_of (subcommand_of program words)), (is, refl, refl, refl))
-mode_named words (inr (inr (inr (inr (inr (inl is)))))) = (Rows (aim_of (subcommand_of program words)), (is, refl))
+mode_named words (inr (inr (inr (inr (inr (inl is)))))) = (Rows (goal_of (subcommand_of program words)) (reasons_of (subcommand_of program words)), (is, refl, refl))
 mode_named words (inr (inr (inr (inr (inr (inr is)))))) = (Run (ending_of (subcommand_of program words)) (turns_of (subcommand_of program words)), (is, refl, refl))
 
 -- so they ask for a mode

@@ -7,8 +7,6 @@ use Rattle.clap.specs.declared.builder.command.Command.{Command}
 use Rattle.clap.specs.declared.builder.command.Command.TheViews.{out-Command as fields_of}
 use Rattle.bep_lines.specs.declared.form.Form.{Form}
 use Rattle.bep_lines.specs.declared.form.Form.TheVariants as forms
-use Rattle.bep_words.specs.declared.mode.Aim.{Aim}
-use Rattle.bep_words.specs.declared.mode.Aim.TheVariants as aims
 use Rattle.bep_words.specs.declared.mode.Ending.{Ending}
 use Rattle.bep_words.specs.declared.mode.Ending.TheVariants.{Report, Document}
 use Rattle.bep_words.specs.declared.mode.Extent.{Extent}
@@ -17,6 +15,8 @@ use Rattle.bep_words.specs.declared.mode.Goal.{Goal}
 use Rattle.bep_words.specs.declared.mode.Goal.TheVariants as goals
 use Rattle.bep_words.specs.declared.mode.Mode.{Mode}
 use Rattle.bep_words.specs.declared.mode.Mode.TheVariants.{Check, Firm, Converge, Certify, Explain, Rows, Run}
+use Rattle.bep_words.specs.declared.mode.Reasons.{Reasons}
+use Rattle.bep_words.specs.declared.mode.Reasons.TheVariants as reasons
 use Rattle.bep_words.specs.declared.mode.Under.{Under}
 use Rattle.bep_words.specs.declared.mode.Under.TheVariants.{Given, Winners}
 use Rattle.bep_words.specs.declared.turns.TheConstants.{MAX_TURNS}
@@ -49,7 +49,7 @@ abbrev pub certify_app : App
 certify_app = with_rule (new_app (codes "certify")) (flag (codes "partial"))
 
 abbrev pub rows_app : App
-rows_app = with_rule (new_app (codes "rows")) (flag (codes "firm"))
+rows_app = with_rule (with_rule (with_rule (new_app (codes "rows")) (flag (codes "firm"))) (flag (codes "converge"))) (flag (codes "explain"))
 
 abbrev pub run_app : App
 run_app = with_rule (with_rule (new_app (codes "run")) (flag (codes "document"))) turns_option
@@ -104,9 +104,9 @@ under_of met = if is_set (codes "certify") met then Winners else Given
 abbrev pub extent_of : Option (Text × List Row) → Extent
 extent_of met = if is_set (codes "partial") met then Won else All
 
--- whether the subcommand in the words asks for firm rows, or for settled ones
-abbrev pub aim_of : Option (Text × List Row) → Aim
-aim_of met = if is_set (codes "firm") met then aims.Firm else aims.Settled
+-- which of the reasons that fail at a name the subcommand in the words asks for
+abbrev pub reasons_of : Option (Text × List Row) → Reasons
+reasons_of met = if is_set (codes "explain") met then reasons.All else reasons.First
 
 -- what of a scenario's end the subcommand in the words asks for
 abbrev pub ending_of : Option (Text × List Row) → Ending
@@ -121,7 +121,8 @@ Asks words (Certify extent) = (named words ≡ Some (codes "certify")) × (exten
 Asks words (Explain goal under form) =
     (named words ≡ Some (codes "explain"))
     × (goal ≡ goal_of (subcommand_of program words)) × (under ≡ under_of (subcommand_of program words)) × (form ≡ form_of (subcommand_of program words))
-Asks words (Rows aim) = (named words ≡ Some (codes "rows")) × (aim ≡ aim_of (subcommand_of program words))
+Asks words (Rows goal told) =
+    (named words ≡ Some (codes "rows")) × (goal ≡ goal_of (subcommand_of program words)) × (told ≡ reasons_of (subcommand_of program words))
 Asks words (Run ending turns) =
     (named words ≡ Some (codes "run")) × (ending ≡ ending_of (subcommand_of program words)) × (turns ≡ turns_of (subcommand_of program words))
 
@@ -132,7 +133,7 @@ MakesFewTurns (Firm under) = ⊤
 MakesFewTurns Converge = ⊤
 MakesFewTurns (Certify extent) = ⊤
 MakesFewTurns (Explain goal under form) = ⊤
-MakesFewTurns (Rows aim) = ⊤
+MakesFewTurns (Rows goal told) = ⊤
 MakesFewTurns (Run ending turns) = turns ≤ MAX_TURNS
 
 -- words in which nothing is at fault ask for some mode

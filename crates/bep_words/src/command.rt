@@ -134,14 +134,18 @@ fn rows_command<'a>(alloc: Global) -> Result<Command<'a>, AllocError>
     ensures { IfOk result (IsCommand rows_app) }
 {
     let firm = flag(alloc, "firm", "Asks whether the cut is firm");
-    plain_command(
+    let converge = flag(alloc, "converge", "Asks whether the cut converges");
+    let explain = flag(alloc, "explain", "Tells all that fails at a name");
+    let with_firm = plain_command(
         alloc,
         "rows",
         "Audits the stream of rows on standard input, in memory for one row",
-        "syncaudit rows [--firm] < FILE",
+        "syncaudit rows [--firm] [--converge] [--explain] < FILE",
         ROWS_HELP,
     )
-    .arg(firm)
+    .arg(firm)?;
+    let with_converge = with_firm.arg(converge)?;
+    with_converge.arg(explain)
 }
 
 fn run_command<'a>(alloc: Global) -> Result<Command<'a>, AllocError>

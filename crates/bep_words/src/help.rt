@@ -53,8 +53,12 @@ pub(crate) const ROWS_HELP: &str =
      Example: syncaudit rows < examples/rows/in-step.jsonl\n\
      It answers as it reads: a line for each name at fault, then what 'syncaudit check --certify' writes. Where a line is refused, \
      what was answered before stands, and the last line tells its number and its fault.\n\
-     With --firm a name that isn't firm has a line, too, and then comes what 'syncaudit firm --certify' writes.\n\n\
-     Exit status: 0 settled, or firm, 1 not, 2 a line refused, 3 usage or help, 4 out of memory, \
+     With --firm a name that isn't firm has a line, too, and then comes what 'syncaudit firm --certify' writes.\n\
+     With --converge a name that doesn't converge has a line, and then comes what 'syncaudit converge' writes. --firm isn't \
+     looked at then.\n\
+     With --explain all that fails at a name is told, with details, as 'syncaudit explain' tells it, with --certify or \
+     --converge.\n\n\
+     Exit status: 0 settled, or firm, or converging, 1 not, 2 a line refused, 3 usage or help, 4 out of memory, \
      5 read or write fault";
 
 pub(crate) const RUN_HELP: &str =

@@ -8,7 +8,7 @@
 //!         Mode::Firm(under) => ..,
 //!         Mode::Certify(extent) => ..,
 //!         Mode::Explain(goal, under, form) => ..,
-//!         Mode::Rows(aim) => ..,
+//!         Mode::Rows(goal, reasons) => ..,
 //!         Mode::Run(ending, turns) => ..,
 //!     }
 #![tactic(auto)]
@@ -20,6 +20,6 @@ mod release;
 mod told;
 mod turns;
 
-pub use mode::{Aim, Ending, Extent, Goal, Mode, Under, faultless_words_ask, mode_of};
+pub use mode::{Ending, Extent, Goal, Mode, Reasons, Under, faultless_words_ask, mode_of};
 pub use told::{Unfollowed, mode_told, why_of};
 pub use turns::MAX_TURNS;

@@ -1,7 +1,7 @@
 //! What the words of the command line ask for.
 ghost use Rattle.std.specs.Prelude.{◌≡◌, IfOk, map};
 ghost use Rattle.clap.specs.Words.{FailsBy, fault_of, first_value, found_of, subcommand_rows_of};
-ghost use Rattle.bep_words.specs.Mode.{Asks, FaultlessWordsAsk, MakesFewTurns, aim_of, ending_of, extent_of, form_of, goal_of, is_set, is_true, program, under_of};
+ghost use Rattle.bep_words.specs.Mode.{Asks, FaultlessWordsAsk, MakesFewTurns, ending_of, extent_of, form_of, goal_of, is_set, is_true, program, reasons_of, under_of};
 
 use crate::command::command;
 use crate::turns::turns_of;
@@ -23,8 +23,9 @@ pub enum Mode {
     Certify(Extent),
     /// Tell all that keeps the check document that comes on standard input from this, under these rows, in this form.
     Explain(Goal, Under, Form),
-    /// Ask whether the stream of rows that comes on standard input is this, under the winners of its names.
-    Rows(Aim),
+    /// Ask whether the stream of rows that comes on standard input is this, settled and firm under the winners of its names, and tell
+    /// these of the reasons for which a name isn't.
+    Rows(Goal, Reasons),
     /// Make the steps of the scenario that comes on standard input, have threads run the cluster for so many turns each,
     /// and write this of where that leads.
     Run(Ending, u32),
@@ -48,24 +49,24 @@ pub enum Extent {
     Won,
 }
 
-/// What a check document may be kept from.
+/// What a check document may be kept from, and what a stream of rows may be.
 #[derive(Clone, Copy, Debug, PartialEq, Eq)]
 pub enum Goal {
     /// Being settled.
     Settled,
     /// Being firm.
     Firm,
-    /// Converging, of which the certificate isn't looked at.
+    /// Converging, for which no certificate is looked at, nor are winners.
     Converging,
 }
 
-/// What a stream of rows may be.
+/// Which of the reasons are told that fail at a name.
 #[derive(Clone, Copy, Debug, PartialEq, Eq)]
-pub enum Aim {
-    /// Settled.
-    Settled,
-    /// Firm.
-    Firm,
+pub enum Reasons {
+    /// The first.
+    First,
+    /// All, with details.
+    All,
 }
 
 /// What is written of the cut to which a scenario leads.
@@ -97,7 +98,7 @@ pub fn mode_of<'a, S: AsStr>(alloc: Global, words: &'a [S]) -> Result<Mode, Erro
             under_of(&matches),
             form_of(&matches),
         )),
-        Some("rows") => Ok(Mode::Rows(aim_of(&matches))),
+        Some("rows") => Ok(Mode::Rows(goal_of(&matches), reasons_of(&matches))),
         Some("run") => Ok(Mode::Run(ending_of(&matches), turns_of(&matches))),
         _ => unreachable!(),
     }
@@ -141,7 +142,7 @@ fn extent_of(matches: &ArgMatches<'_>) -> Extent
     }
 }
 
-// From what the subcommand's words ask that it be kept.
+// What the subcommand's words ask for: what a document is kept from, or a stream of rows may be.
 fn goal_of(matches: &ArgMatches<'_>) -> Goal
     ensures { result ≡ goal_of (subcommand_rows_of matches.now) }
 {
@@ -154,14 +155,14 @@ fn goal_of(matches: &ArgMatches<'_>) -> Goal
     }
 }
 
-// What the subcommand's words ask the stream of rows to be.
-fn aim_of(matches: &ArgMatches<'_>) -> Aim
-    ensures { result ≡ aim_of (subcommand_rows_of matches.now) }
+// Which reasons the subcommand's words ask for.
+fn reasons_of(matches: &ArgMatches<'_>) -> Reasons
+    ensures { result ≡ reasons_of (subcommand_rows_of matches.now) }
 {
-    if is_set(matches, "firm") {
-        Aim::Firm
+    if is_set(matches, "explain") {
+        Reasons::All
     } else {
-        Aim::Settled
+        Reasons::First
     }
 }
 

@@ -1,5 +1,6 @@
 //! A module for each crate, or two.
 mod answer;
+mod auditor;
 mod row;
 mod stream;
 mod text;

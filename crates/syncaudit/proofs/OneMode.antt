@@ -2,7 +2,7 @@
 use Rattle.std.proofs.Common.{◌≡◌, ◌∙◌, List, Option, None, Some, cond, codes, sym, ap}
 use Rattle.std.specs.Str.{bytes_eq}
 use Rattle.clap.specs.Words.{Row, Text, subcommand_of}
-use Rattle.bep_words.specs.Mode.{Asks, aim_of, ending_of, extent_of, form_of, goal_of, named, program, under_of}
+use Rattle.bep_words.specs.Mode.{Asks, ending_of, extent_of, form_of, goal_of, named, program, reasons_of, under_of}
 use Rattle.bep_words.specs.Turns.{turns_of}
 use Rattle.bep_words.specs.declared.mode.Mode.{Mode}
 use Rattle.bep_words.specs.declared.mode.Mode.TheVariants.{Check, Firm, Converge, Certify, Explain, Rows, Run}
@@ -16,7 +16,7 @@ mode_at met (Some name) =
     (cond (bytes_eq name (codes "converge")) (Some Converge)
     (cond (bytes_eq name (codes "certify")) (Some (Certify (extent_of met)))
     (cond (bytes_eq name (codes "explain")) (Some (Explain (goal_of met) (under_of met) (form_of met)))
-    (cond (bytes_eq name (codes "rows")) (Some (Rows (aim_of met)))
+    (cond (bytes_eq name (codes "rows")) (Some (Rows (goal_of met) (reasons_of met)))
     (cond (bytes_eq name (codes "run")) (Some (Run (ending_of met) (turns_of met))) None))))))
 
 is_mode_at : (words : List Text) (mode : Mode) → Asks words mode → mode_at (subcommand_of program words) (named words) ≡ Some mode
@@ -25,7 +25,7 @@ is_mode_at words (Firm under) asks = ap (mode_at (subcommand_of program words)) 
 is_mode_at words Converge asks = ap (mode_at (subcommand_of program words)) asks
 is_mode_at words (Certify extent) asks = ap (mode_at (subcommand_of program words)) asks.0 ∙ (λ i. Some (Certify (sym asks.1 i)))
 is_mode_at words (Explain goal under form) asks = ap (mode_at (subcommand_of program words)) asks.0 ∙ (λ i. Some (Explain (sym asks.1 i) (sym asks.2 i) (sym asks.3 i)))
-is_mode_at words (Rows aim) asks = ap (mode_at (subcommand_of program words)) asks.0 ∙ (λ i. Some (Rows (sym asks.1 i)))
+is_mode_at words (Rows goal told) asks = ap (mode_at (subcommand_of program words)) asks.0 ∙ (λ i. Some (Rows (sym asks.1 i) (sym asks.2 i)))
 is_mode_at words (Run ending turns) asks = ap (mode_at (subcommand_of program words)) asks.0 ∙ (λ i. Some (Run (sym asks.1 i) (sym asks.2 i)))
 
 pub asks_one : (words : List Text) (one other : Mode) → Asks words one → Asks words other → one ≡ other

@@ -6,14 +6,16 @@ use Rattle.bep_answer.specs.UnderWinners.{SaysFirmUnderWinners, SaysSettledUnder
 use Rattle.bep_live.specs.Lived.{EndsLived}
 use Rattle.bep_play.specs.Played.{EndsSettled}
 use Rattle.bep_rows_answer.specs.Told.{SaysFirmRows, SaysSettledRows}
+use Rattle.bep_rows_converge.specs.Stays.{SaysConvergingRows}
 use Rattle.clap.specs.Words.{Text}
 use Rattle.bep_words.specs.Mode.{Asks}
-use Rattle.bep_words.specs.declared.mode.Aim.{Aim}
-use Rattle.bep_words.specs.declared.mode.Aim.TheVariants as aims
 use Rattle.bep_words.specs.declared.mode.Ending.{Ending}
 use Rattle.bep_words.specs.declared.mode.Ending.TheVariants.{Report, Document}
+use Rattle.bep_words.specs.declared.mode.Goal.{Goal}
+use Rattle.bep_words.specs.declared.mode.Goal.TheVariants as goals
 use Rattle.bep_words.specs.declared.mode.Mode.{Mode}
 use Rattle.bep_words.specs.declared.mode.Mode.TheVariants.{Check, Firm, Rows, Run}
+use Rattle.bep_words.specs.declared.mode.Reasons.{Reasons}
 use Rattle.bep_words.specs.declared.mode.Under.{Under}
 use Rattle.bep_words.specs.declared.mode.Under.TheVariants.{Given, Winners}
 use Rattle.syncaudit.specs.inner.Says.{SaysIn}
@@ -28,9 +30,11 @@ module _ (unread left : Option (List ℕ)) (status : ℕ) where
   firm_says Given given winners = given refl
   firm_says Winners given winners = winners refl
 
-  pub rows_say : (aim : Aim) → (aim ≡ aims.Settled → status ≡ 0 → SaysSettledRows unread left) → (aim ≡ aims.Firm → status ≡ 0 → SaysFirmRows unread left) → status ≡ 0 → SaysIn (Rows aim) unread left
-  rows_say aims.Settled settled firm = settled refl
-  rows_say aims.Firm settled firm = firm refl
+  pub rows_say : (goal : Goal) (told : Reasons) → (goal ≡ goals.Settled → status ≡ 0 → SaysSettledRows unread left) → (goal ≡ goals.Firm → status ≡ 0 → SaysFirmRows unread left) → (goal ≡ goals.Converging → status ≡ 0 → SaysConvergingRows unread left)
+      → status ≡ 0 → SaysIn (Rows goal told) unread left
+  rows_say goals.Settled told settled firm converging = settled refl
+  rows_say goals.Firm told settled firm converging = firm refl
+  rows_say goals.Converging told settled firm converging = converging refl
 
   pub run_says : (ending : Ending) (turns : ℕ) → (ending ≡ Report → turns ≡ 0 → status ≡ 0 → EndsSettled unread left) → (ending ≡ Report → 0 < turns → status ≡ 0 → EndsLived unread left) → status ≡ 0 → SaysIn (Run ending turns) unread left
   run_says Report turns settled lives zero = (λ none. settled refl none zero, λ some. lives refl some zero)

@@ -9,13 +9,13 @@ use Rattle.bep_report.specs.declared.error.ReportError.TheVariants.{Memory}
 use Rattle.clap.specs.Words.{Text, fault_of}
 use Rattle.bep_words.specs.Mode.{FaultlessWordsAsk, program}
 use Rattle.syncaudit.specs.Status.{IsDone, IsFollowed, IsProgramRun}
-use Rattle.bep_words.specs.declared.mode.Aim.TheVariants as aims
 use Rattle.bep_words.specs.declared.mode.Ending.TheVariants.{Report, Document}
 use Rattle.bep_words.specs.declared.mode.Extent.TheVariants.{All, Won}
 use Rattle.bep_words.specs.declared.mode.Goal.TheVariants.{Settled}
 use Rattle.bep_words.specs.declared.mode.Goal.TheVariants as goals
 use Rattle.bep_words.specs.declared.mode.Mode.{Mode}
 use Rattle.bep_words.specs.declared.mode.Mode.TheVariants.{Check, Firm, Converge, Certify, Explain, Rows, Run}
+use Rattle.bep_words.specs.declared.mode.Reasons.TheVariants as reasons
 use Rattle.bep_words.specs.declared.mode.Under.TheVariants.{Given, Winners}
 
 module _ (heard hears : Option (List Said)) (said : Hears heard hears (Why Memory ∷ [])) where
@@ -33,8 +33,12 @@ module _ (heard hears : Option (List Said)) (said : Hears heard hears (Why Memor
   done_without_memory (Explain goals.Firm Winners form) unread held status told = (record { answer = Err Memory; told = told; done = Keeps-refl held }, record { answer = Err Memory; told = told; tells = tt; hears = said })
   done_without_memory (Explain goals.Converging Given form) unread held status told = (record { answer = Err Memory; told = told; done = Keeps-refl held }, record { answer = Err Memory; told = told; tells = tt; hears = said })
   done_without_memory (Explain goals.Converging Winners form) unread held status told = (record { answer = Err Memory; told = told; done = Keeps-refl held }, record { answer = Err Memory; told = told; tells = tt; hears = said })
-  done_without_memory (Rows aims.Settled) unread held status told = (record { answer = Err Memory; told = told; done = ([], Appends-nil held) }, record { answer = Err Memory; told = told; hears = said })
-  done_without_memory (Rows aims.Firm) unread held status told = (record { answer = Err Memory; told = told; done = ([], Appends-nil held) }, record { answer = Err Memory; told = told; hears = said })
+  done_without_memory (Rows Settled reasons.First) unread held status told = (record { answer = Err Memory; told = told; done = ([], Appends-nil held) }, record { answer = Err Memory; told = told; hears = said })
+  done_without_memory (Rows Settled reasons.All) unread held status told = (record { answer = Err Memory; told = told; done = ([], Appends-nil held) }, record { answer = Err Memory; told = told; hears = said })
+  done_without_memory (Rows goals.Firm reasons.First) unread held status told = (record { answer = Err Memory; told = told; done = ([], Appends-nil held) }, record { answer = Err Memory; told = told; hears = said })
+  done_without_memory (Rows goals.Firm reasons.All) unread held status told = (record { answer = Err Memory; told = told; done = ([], Appends-nil held) }, record { answer = Err Memory; told = told; hears = said })
+  done_without_memory (Rows goals.Converging reasons.First) unread held status told = (record { answer = Err Memory; told = told; done = ([], Appends-nil held) }, record { answer = Err Memory; told = told; hears = said })
+  done_without_memory (Rows goals.Converging reasons.All) unread held status told = (record { answer = Err Memory; told = told; done = ([], Appends-nil held) }, record { answer = Err Memory; told = told; hears = said })
   done_without_memory (Run Report turns) unread held status told = record {
     at_rest = λ none. (record { answer = Err Memory; told = told; done = Keeps-refl held }, record { answer = Err Memory; told = told; tells = tt; hears = said });
     live = λ some. (record { answer = Err Memory; told = told; done = Keeps-refl held }, record { answer = Err Memory; told = told; tells = tt; hears = said });
@@ -63,8 +67,9 @@ module _ (heard hears : Option (List Said)) (said : Hears heard hears (Why Memor
         firm = λ asks zero. absurd (isnt zero);
         firm_under_winners = λ asks zero. absurd (isnt zero);
         converging = λ asks zero. absurd (isnt zero);
-        settled_rows = λ asks zero. absurd (isnt zero);
-        firm_rows = λ asks zero. absurd (isnt zero);
+        settled_rows = λ told_of asks zero. absurd (isnt zero);
+        firm_rows = λ told_of asks zero. absurd (isnt zero);
+        converging_rows = λ told_of asks zero. absurd (isnt zero);
         ends_settled = λ asks zero. absurd (isnt zero);
         lives_settled = λ turns asks some zero. absurd (isnt zero);
       }

@@ -23,12 +23,14 @@ use Rattle.bep_play.specs.Told.{IsEndTold, IsRunTold}
 use Rattle.bep_explain.specs.document.FirmExplained.{IsFirmExplanationTold}
 use Rattle.bep_explain.specs.document.Told.{IsExplanationTold}
 use Rattle.bep_explain.specs.document.UnderWinners.{IsExplanationToldUnderWinners, IsFirmExplanationToldUnderWinners}
-use Rattle.bep_rows_answer.specs.Told.{IsFirmRowsHeard, IsFirmRowsTold, IsSettledRowsHeard, IsSettledRowsTold, SaysFirmRows, SaysSettledRows}
+use Rattle.bep_rows_answer.specs.Told.{IsFirmRowsHeard, IsFirmRowsTold, IsRowsHeard, IsSettledRowsHeard, IsSettledRowsTold, SaysFirmRows, SaysSettledRows}
+use Rattle.bep_rows_converge.specs.Converging.{IsConvergeRowsTold, converge_rows_status}
+use Rattle.bep_rows_converge.specs.Explained.{IsExplainedConvergeRowsTold}
+use Rattle.bep_rows_converge.specs.Stays.{SaysConvergingRows}
+use Rattle.bep_rows_explain.specs.Explained.{IsExplainedRowsTold, IsFirmExplainedRowsTold}
 use Rattle.bep_report.specs.declared.error.ReportError.TheVariants.{Memory}
 use Rattle.clap.specs.Words.{Text, fault_of}
 use Rattle.bep_words.specs.Mode.{Asks, program}
-use Rattle.bep_words.specs.declared.mode.Aim.{Aim}
-use Rattle.bep_words.specs.declared.mode.Aim.TheVariants as aims
 use Rattle.bep_words.specs.declared.mode.Ending.{Ending}
 use Rattle.bep_words.specs.declared.mode.Ending.TheVariants.{Report, Document}
 use Rattle.bep_words.specs.declared.mode.Extent.{Extent}
@@ -38,6 +40,8 @@ use Rattle.bep_words.specs.declared.mode.Goal.TheVariants.{Settled}
 use Rattle.bep_words.specs.declared.mode.Goal.TheVariants as goals
 use Rattle.bep_words.specs.declared.mode.Mode.{Mode}
 use Rattle.bep_words.specs.declared.mode.Mode.TheVariants.{Check, Firm, Converge, Certify, Explain, Rows, Run}
+use Rattle.bep_words.specs.declared.mode.Reasons.{Reasons}
+use Rattle.bep_words.specs.declared.mode.Reasons.TheVariants as reasons
 use Rattle.bep_words.specs.declared.mode.Under.{Under}
 use Rattle.bep_words.specs.declared.mode.Under.TheVariants.{Given, Winners}
 
@@ -66,10 +70,22 @@ abbrev pub IsFirming : Under → Option (List ℕ) → Option (List ℕ) → Opt
 IsFirming Given unread left held now heard hears status = IsFirmTold unread left held now status × IsHeard firm_status_of TellsOfCheck unread left heard hears status
 IsFirming Winners unread left held now heard hears status = IsFirmToldUnderWinners unread left held now status × IsHeard firm_status_of TellsOfCut unread left heard hears status
 
--- what came of the stream of rows for what is asked of it
-abbrev pub IsReadingRows : Aim → Option (List ℕ) → Option (List ℕ) → Option (List ℕ) → Option (List ℕ) → Option (List Said) → Option (List Said) → ℕ → Type 0
-IsReadingRows aims.Settled unread left held now heard hears status = IsSettledRowsTold unread left held now status × IsSettledRowsHeard heard hears status
-IsReadingRows aims.Firm unread left held now heard hears status = IsFirmRowsTold unread left held now status × IsFirmRowsHeard heard hears status
+-- what came of the stream of rows for what is asked of it, where the first reason of each name is told
+abbrev pub IsJudgingRows : Goal → Option (List ℕ) → Option (List ℕ) → Option (List ℕ) → Option (List ℕ) → Option (List Said) → Option (List Said) → ℕ → Type 0
+IsJudgingRows Settled unread left held now heard hears status = IsSettledRowsTold unread left held now status × IsSettledRowsHeard heard hears status
+IsJudgingRows goals.Firm unread left held now heard hears status = IsFirmRowsTold unread left held now status × IsFirmRowsHeard heard hears status
+IsJudgingRows goals.Converging unread left held now heard hears status = IsConvergeRowsTold unread left held now status × IsRowsHeard converge_rows_status heard hears status
+
+-- the same where all reasons are
+abbrev pub IsExplainingRows : Goal → Option (List ℕ) → Option (List ℕ) → Option (List ℕ) → Option (List ℕ) → Option (List Said) → Option (List Said) → ℕ → Type 0
+IsExplainingRows Settled unread left held now heard hears status = IsExplainedRowsTold unread left held now status × IsSettledRowsHeard heard hears status
+IsExplainingRows goals.Firm unread left held now heard hears status = IsFirmExplainedRowsTold unread left held now status × IsFirmRowsHeard heard hears status
+IsExplainingRows goals.Converging unread left held now heard hears status = IsExplainedConvergeRowsTold unread left held now status × IsRowsHeard converge_rows_status heard hears status
+
+-- one of the two
+abbrev pub IsReadingRows : Goal → Reasons → Option (List ℕ) → Option (List ℕ) → Option (List ℕ) → Option (List ℕ) → Option (List Said) → Option (List Said) → ℕ → Type 0
+IsReadingRows goal reasons.First = IsJudgingRows goal
+IsReadingRows goal reasons.All = IsExplainingRows goal
 
 -- what came of the document for the certificate that is asked for
 abbrev pub IsCertifying : Extent → Option (List ℕ) → Option (List ℕ) → Option (List ℕ) → Option (List ℕ) → Option (List Said) → Option (List Said) → ℕ → Type 0
@@ -104,7 +120,7 @@ IsDone (Firm under) = IsFirming under
 IsDone Converge = IsConverging
 IsDone (Certify extent) = IsCertifying extent
 IsDone (Explain goal under form) = IsExplaining goal under form
-IsDone (Rows aim) = IsReadingRows aim
+IsDone (Rows goal told) = IsReadingRows goal told
 IsDone (Run ending turns) = IsRunning ending turns
 
 -- the words ask for a mode, and this came of the document in it
@@ -131,8 +147,9 @@ pub record IsProgramRun (words : List Text) (unread left held now : Option (List
   pub firm : Asks words (Firm Given) → status ≡ 0 → SaysFirm unread left
   pub firm_under_winners : Asks words (Firm Winners) → status ≡ 0 → SaysFirmUnderWinners unread left
   pub converging : Asks words Converge → status ≡ 0 → SaysConverging unread left
-  pub settled_rows : Asks words (Rows aims.Settled) → status ≡ 0 → SaysSettledRows unread left
-  pub firm_rows : Asks words (Rows aims.Firm) → status ≡ 0 → SaysFirmRows unread left
+  pub settled_rows : (told : Reasons) → Asks words (Rows Settled told) → status ≡ 0 → SaysSettledRows unread left
+  pub firm_rows : (told : Reasons) → Asks words (Rows goals.Firm told) → status ≡ 0 → SaysFirmRows unread left
+  pub converging_rows : (told : Reasons) → Asks words (Rows goals.Converging told) → status ≡ 0 → SaysConvergingRows unread left
   pub ends_settled : Asks words (Run Report 0) → status ≡ 0 → EndsSettled unread left
   pub lives_settled : (turns : ℕ) → Asks words (Run Report turns) → 0 < turns → status ≡ 0 → EndsLived unread left
 

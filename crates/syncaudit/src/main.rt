@@ -2,6 +2,7 @@
 //! by itself; and makes the certificate that settled rests on.
 #![tactic(auto)]
 
+mod rows;
 mod run;
 
 use crate::run::run_given;
@@ -14,7 +15,7 @@ pub use bep_explain::explain_text;
 pub use bep_lines::Form;
 pub use bep_live::live_text;
 pub use bep_play::run_text;
-pub use bep_words::{Aim, Ending, Extent, Goal, Mode, Under, mode_of};
+pub use bep_words::{Ending, Extent, Goal, Mode, Reasons, Under, mode_of};
 use std::env;
 use std::process::ExitCode;
 

@@ -11,14 +11,17 @@ ghost use Rattle.bep_converge_answer.specs.Convergence.{SaysConverging};
 ghost use Rattle.bep_live.specs.Lived.{EndsLived};
 ghost use Rattle.bep_play.specs.Played.{EndsSettled};
 ghost use Rattle.bep_rows_answer.specs.Told.{SaysFirmRows, SaysSettledRows};
+ghost use Rattle.bep_rows_converge.specs.Stays.{SaysConvergingRows};
 ghost use Rattle.bep_words.specs.Mode.{Asks, program};
-ghost use Rattle.syncaudit.specs.Status.{IsCertifying, IsChecking, IsDone, IsEnd, IsEnding, IsExplaining, IsExplainingGiven, IsExplainingUnderWinners, IsFirming, IsFollowed, IsLiveEnding, IsProgramRun, IsReadingRows, IsRunning, IsUnfollowed, IsWithoutWords, status_without};
+ghost use Rattle.syncaudit.specs.Status.{IsCertifying, IsChecking, IsDone, IsEnd, IsEnding, IsExplaining, IsExplainingGiven, IsExplainingUnderWinners, IsFirming, IsFollowed, IsLiveEnding, IsProgramRun, IsRunning, IsUnfollowed, IsWithoutWords, status_without};
 ghost use Rattle.syncaudit.specs.inner.Says.{SaysIn};
-ghost use Rattle.bep_words.specs.declared.mode.Aim.TheVariants as aims;
+ghost use Rattle.bep_words.specs.declared.mode.Goal.TheVariants as goals;
 ghost use Rattle.bep_words.specs.declared.mode.Ending.TheVariants.{Report};
 ghost use Rattle.bep_words.specs.declared.mode.Mode.TheVariants.{Check, Converge, Firm, Rows, Run};
+ghost use Rattle.bep_words.specs.declared.mode.Reasons.{Reasons as ReasonsOf};
 ghost use Rattle.bep_words.specs.declared.mode.Under.TheVariants.{Given, Winners};
 
+use crate::rows::read_rows;
 use bep_answer::{
     Person, USAGE, certify_and_tell, certify_partly_and_tell, check_and_tell,
     check_under_winners_and_tell, end, firm_and_tell, firm_under_winners_and_tell,
@@ -33,10 +36,7 @@ use bep_lines::Form;
 use bep_live::{live_and_tell, live_document_and_tell};
 use bep_play::{run_and_tell, run_document_and_tell};
 use bep_report::ReportError;
-use bep_rows_answer::{firm_rows_and_tell, rows_and_tell};
-use bep_words::{
-    Aim, Ending, Extent, Goal, Mode, Under, Unfollowed, faultless_words_ask, mode_told,
-};
+use bep_words::{Ending, Extent, Goal, Mode, Under, Unfollowed, faultless_words_ask, mode_told};
 use std::alloc::{AllocError, Global};
 use std::convert::AsStr;
 use std::env::Args;
@@ -106,10 +106,12 @@ pub fn run<P: AllocGlobal + Eprint + Threads + Wait + Sync, H: Person, R: Read, 
         → result ≡ 0 → SaysFirmUnderWinners (R.remaining reader.old) (R.remaining reader.new) }
     ensures converging { Asks (map S.text words.entry.now) Converge
         → result ≡ 0 → SaysConverging (R.remaining reader.old) (R.remaining reader.new) }
-    ensures settled_rows { Asks (map S.text words.entry.now) (Rows aims.Settled)
+    ensures settled_rows { (told : ReasonsOf) → Asks (map S.text words.entry.now) (Rows goals.Settled told)
         → result ≡ 0 → SaysSettledRows (R.remaining reader.old) (R.remaining reader.new) }
-    ensures firm_rows { Asks (map S.text words.entry.now) (Rows aims.Firm)
+    ensures firm_rows { (told : ReasonsOf) → Asks (map S.text words.entry.now) (Rows goals.Firm told)
         → result ≡ 0 → SaysFirmRows (R.remaining reader.old) (R.remaining reader.new) }
+    ensures converging_rows { (told : ReasonsOf) → Asks (map S.text words.entry.now) (Rows goals.Converging told)
+        → result ≡ 0 → SaysConvergingRows (R.remaining reader.old) (R.remaining reader.new) }
     ensures ends_settled { Asks (map S.text words.entry.now) (Run Report 0)
         → result ≡ 0 → EndsSettled (R.remaining reader.old) (R.remaining reader.new) }
     ensures lives_settled { (turns : ℕ) → Asks (map S.text words.entry.now) (Run Report turns) → 0 < turns
@@ -140,7 +142,7 @@ fn follow<P: AllocGlobal + Threads + Wait + Sync, H: Person, R: Read, W: Write>(
         Mode::Converge => converge_and_tell(rt, person, reader, writer),
         Mode::Certify(extent) => certify(rt, person, extent, reader, writer),
         Mode::Explain(goal, under, form) => explain(rt, person, goal, under, form, reader, writer),
-        Mode::Rows(aim) => read_rows(rt, person, aim, reader, writer),
+        Mode::Rows(goal, reasons) => read_rows(rt, person, goal, reasons, reader, writer),
         Mode::Run(ending, turns) => run_scenario(rt, person, ending, turns, reader, writer),
     }
 }
@@ -198,24 +200,6 @@ fn firm<P: AllocGlobal, H: Person, R: Read, W: Write>(
     match under {
         Under::Given => firm_and_tell(rt, person, reader, writer),
         Under::Winners => firm_under_winners_and_tell(rt, person, reader, writer),
-    }
-}
-
-// Audits a stream of rows, and answers as it reads.
-fn read_rows<P: AllocGlobal, H: Person, R: Read, W: Write>(
-    rt: &P,
-    person: &mut H,
-    aim: Aim,
-    reader: &mut R,
-    writer: &mut W,
-) -> u8
-    ensures told { IsReadingRows aim (R.remaining reader.old) (R.remaining reader.new) (W.contents writer.old) (W.contents writer.new) (H.heard person.old) (H.heard person.new) result }
-    ensures settled { aim ≡ aims.Settled → result ≡ 0 → SaysSettledRows (R.remaining reader.old) (R.remaining reader.new) }
-    ensures firm { aim ≡ aims.Firm → result ≡ 0 → SaysFirmRows (R.remaining reader.old) (R.remaining reader.new) }
-{
-    match aim {
-        Aim::Settled => rows_and_tell(rt, person, reader, writer),
-        Aim::Firm => firm_rows_and_tell(rt, person, reader, writer),
     }
 }
 

@@ -1,7 +1,7 @@
 //! All that keeps a cut from converging: each call succeeds with ample memory.
-use bep_converge_answer::push_converging;
-use bep_converge_check::{ConvergeReason, Hindrance, hindrances};
-use bep_converge_explain::{converge_explanation, converge_explanation_json};
+use bep_converge_answer::{push_convergence, push_converging, push_progress};
+use bep_converge_check::{ConvergeReason, ConvergeVerdict, Hindrance, hindrances};
+use bep_converge_explain::{converge_explanation, converge_explanation_json, explain_convergence};
 use bep_cut_document::read_cut;
 use bep_document::{DocFault, Fault};
 use bep_explain::{
@@ -25,8 +25,9 @@ fn reasons(found: &[Hindrance<'_>]) -> Option<[ConvergeReason; 3]> {
     }
 }
 
-fn explained(alloc: Global, cut: &Cut, found: &[Hindrance<'_>]) -> [bool; 2] {
+fn explained(alloc: Global, cut: &Cut, found: &[Hindrance<'_>]) -> [bool; 3] {
     [
+        explain_convergence(alloc, Form::Text, cut).is_ok(),
         converge_explanation(alloc, cut, found).is_ok(),
         converge_explanation_json(alloc, cut, found).is_ok(),
     ]
@@ -45,7 +46,7 @@ fn detailed<'a>(alloc: Global, cut: &'a Cut, one: &Hindrance<'a>) -> Option<[boo
     ])
 }
 
-fn found_and_told(alloc: Global) -> Option<([bool; 2], [bool; 2])> {
+fn found_and_told(alloc: Global) -> Option<([bool; 3], [bool; 2])> {
     let (_, cut) = read_cut(alloc, CUT.as_bytes()).ok()?;
     let found = hindrances(alloc, &cut).ok()?;
     let told = explained(alloc, &cut, found.as_slice());
@@ -53,12 +54,14 @@ fn found_and_told(alloc: Global) -> Option<([bool; 2], [bool; 2])> {
     Some((told, detailed(alloc, &cut, first)?))
 }
 
-fn written(alloc: Global) -> [bool; 3] {
+fn written(alloc: Global) -> [bool; 5] {
     let mut text = Vec::new(alloc);
     let out = Writer::new(Vec::new(alloc));
     let fault = DocFault::nowhere(Fault::Range);
     [
         push_converging(&mut text).is_ok(),
+        push_convergence(&mut text, &ConvergeVerdict::Converging).is_ok(),
+        push_progress(&mut text, &[]).is_ok(),
         line_of(out).is_ok(),
         fault_in(alloc, Form::Json, &fault).is_ok(),
     ]
@@ -79,6 +82,6 @@ fn all_that_fails_is_found_and_told(rt: HostRuntime) {
         ConvergeReason::StoreDiffers,
     ];
     assert!(rt; fails(alloc) == Some(reasons));
-    assert!(rt; found_and_told(alloc) == Some(([true; 2], [true; 2])));
-    assert!(rt; written(alloc) == [true; 3]);
+    assert!(rt; found_and_told(alloc) == Some(([true; 3], [true; 2])));
+    assert!(rt; written(alloc) == [true; 5]);
 }

@@ -9,6 +9,7 @@ use Rattle.bep_json.specs.declared.version.DocVersion.{DocVersion}
 use Rattle.bep_model.specs.Firm.{IsFirm}
 use Rattle.bep_model.specs.Reasons.{Place}
 use Rattle.bep_model.specs.Settled.{IsSettled}
+use Rattle.bep_model.specs.Tables.{Tables}
 use Rattle.bep_model.specs.declared.row.Row.{Row}
 use Rattle.bep_tables.specs.declared.cut.CutParts.{CutParts}
 use Rattle.bep_tables.specs.Cut.{tables_of}
@@ -26,21 +27,21 @@ use Rattle.bep_explain.specs.Unwon.{AreFailuresUnwon}
 use Rattle.bep_explain.specs.document.Explained.{IsRefusal, IsWritten}
 use Rattle.bep_explain.specs.document.FirmExplained.{IsFirmWritten, firmness_told}
 
--- all that fails of the cut under the winners of its names is told, in order, each name without a winner as that; it is
+-- all that fails of a cut under the winners of its names is told, in order, each name without a winner as that; it is
 -- nothing exactly where the cut is settled under them
-pub record IsExplanationUnderWinners (form : Form) (cut : CutParts) (outcome : Outcome) (text : List ℕ) : Type 0 where
+pub record IsExplanationUnderWinners (form : Form) (t : Tables) (outcome : Outcome) (text : List ℕ) : Type 0 where
   pub rows : List Row
   pub without : List Place
-  pub winners : AreWinners (tables_of cut) rows without
+  pub winners : AreWinners t rows without
   pub told : List Failure
-  pub all : AreFailuresUnwon (tables_of cut) rows told
-  pub settled : (told ≡ []) ↔ IsSettled (tables_of cut) rows
+  pub all : AreFailuresUnwon t rows told
+  pub settled : (told ≡ []) ↔ IsSettled t rows
   pub verdict : outcome ≡ outcome_of (verdict_of told)
   pub written : IsWritten form told text
 
 -- the outcome and the text for what a document says of its cut: its explanation, or the fault for which it is refused
 abbrev pub IsExplainedUnderWinners : Form → Reading (DocVersion × CutParts) → Outcome → List ℕ → Type 0
-IsExplainedUnderWinners form (Read said) outcome text = IsExplanationUnderWinners form said.1 outcome text
+IsExplainedUnderWinners form (Read said) outcome text = IsExplanationUnderWinners form (tables_of said.1) outcome text
 IsExplainedUnderWinners form (Refused fault) outcome text = (outcome ≡ outcomes.Refused) × IsRefusal form fault text
 
 -- the same of the bytes of a document
@@ -55,22 +56,22 @@ IsExplanationToldUnderWinners form = IsToldAs (IsExplainedUnderWinnersOfBytes fo
 
 -- all of that is told, and then all that keeps a settled cut from being firm; both are nothing exactly where the cut is firm
 -- under the winners of its names
-pub record IsFirmExplanationUnderWinners (form : Form) (cut : CutParts) (outcome : Firmness) (text : List ℕ) : Type 0 where
+pub record IsFirmExplanationUnderWinners (form : Form) (t : Tables) (outcome : Firmness) (text : List ℕ) : Type 0 where
   pub rows : List Row
   pub without : List Place
-  pub winners : AreWinners (tables_of cut) rows without
+  pub winners : AreWinners t rows without
   pub told : List Failure
-  pub all : AreFailuresUnwon (tables_of cut) rows told
+  pub all : AreFailuresUnwon t rows told
   pub loose : List Loosening
-  pub all_loose : AreLoosenings (tables_of cut) rows loose
-  pub settled : (told ≡ []) ↔ IsSettled (tables_of cut) rows
-  pub firm : ((told ≡ []) × (loose ≡ [])) ↔ IsFirm (tables_of cut) rows
+  pub all_loose : AreLoosenings t rows loose
+  pub settled : (told ≡ []) ↔ IsSettled t rows
+  pub firm : ((told ≡ []) × (loose ≡ [])) ↔ IsFirm t rows
   pub verdict : outcome ≡ firmness_told told loose
   pub written : IsFirmWritten form told loose text
 
 -- the outcome and the text for what a document says of its cut: its explanation, or the fault for which it is refused
 abbrev pub IsFirmExplainedUnderWinners : Form → Reading (DocVersion × CutParts) → Firmness → List ℕ → Type 0
-IsFirmExplainedUnderWinners form (Read said) outcome text = IsFirmExplanationUnderWinners form said.1 outcome text
+IsFirmExplainedUnderWinners form (Read said) outcome text = IsFirmExplanationUnderWinners form (tables_of said.1) outcome text
 IsFirmExplainedUnderWinners form (Refused fault) outcome text = (outcome ≡ firmness.Refused) × IsRefusal form fault text
 
 -- the same of the bytes of a document

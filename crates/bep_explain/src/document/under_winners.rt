@@ -1,6 +1,7 @@
 //! All reasons why a document's cut isn't settled, or firm, under the winners of its names.
 ghost use Rattle.std.specs.Prelude.{IfOk};
 ghost use Rattle.bep_answer.specs.Beside.{TellsOfCut};
+ghost use Rattle.bep_tables.specs.Cut.{tables_of};
 ghost use Rattle.bep_explain.specs.document.UnderWinners.{IsExplainedUnderWinnersOfBytes, IsExplanationUnderWinners, IsFirmExplainedUnderWinnersOfBytes, IsFirmExplanationUnderWinners};
 
 use crate::document::explain::{fault_in, outcome_for, refusal_in, written};
@@ -34,7 +35,7 @@ impl Question<Outcome> for ReasonsUnderWinners {
         match read_cut(alloc, bytes.as_slice()) {
             Ok((_, cut)) => {
                 drop(bytes);
-                Ok((explain_cut(alloc, form, &cut)?, None))
+                Ok((explain_under_winners(alloc, form, &cut)?, None))
             }
             Err(DocError::Refused(fault)) => {
                 let refused = refusal_in(alloc, form, &fault)?;
@@ -65,7 +66,7 @@ impl Question<Firmness> for FirmReasonsUnderWinners {
         match read_cut(alloc, bytes.as_slice()) {
             Ok((_, cut)) => {
                 drop(bytes);
-                Ok((explain_firm_cut(alloc, form, &cut)?, None))
+                Ok((explain_firm_under_winners(alloc, form, &cut)?, None))
             }
             Err(DocError::Refused(fault)) => {
                 let refused = (Firmness::Refused, fault_in(alloc, form, &fault)?);
@@ -79,9 +80,13 @@ impl Question<Firmness> for FirmReasonsUnderWinners {
     }
 }
 
-// The outcome for a cut, and the text.
-fn explain_cut(alloc: Global, form: Form, cut: &Cut) -> Result<(Outcome, Vec<u8>), AllocError>
-    ensures { IfOk result (λ answer. IsExplanationUnderWinners form cut.now answer.0 answer.1.items) }
+/// All that keeps a cut from being settled under the winners of its names, in this form, and the outcome; or want of memory.
+pub fn explain_under_winners(
+    alloc: Global,
+    form: Form,
+    cut: &Cut,
+) -> Result<(Outcome, Vec<u8>), AllocError>
+    ensures { IfOk result (λ answer. IsExplanationUnderWinners form (tables_of cut.now) answer.0 answer.1.items) }
 {
     let (certificate, _) = winners(alloc, cut)?;
     let found = failures_unwon(alloc, cut, &certificate)?;
@@ -89,9 +94,13 @@ fn explain_cut(alloc: Global, form: Form, cut: &Cut) -> Result<(Outcome, Vec<u8>
     Ok((outcome_for(found.as_slice()), text))
 }
 
-// The outcome for a cut where firm is asked for, and the text.
-fn explain_firm_cut(alloc: Global, form: Form, cut: &Cut) -> Result<(Firmness, Vec<u8>), AllocError>
-    ensures { IfOk result (λ answer. IsFirmExplanationUnderWinners form cut.now answer.0 answer.1.items) }
+/// The same of all that keeps it from being firm.
+pub fn explain_firm_under_winners(
+    alloc: Global,
+    form: Form,
+    cut: &Cut,
+) -> Result<(Firmness, Vec<u8>), AllocError>
+    ensures { IfOk result (λ answer. IsFirmExplanationUnderWinners form (tables_of cut.now) answer.0 answer.1.items) }
 {
     firm_is_faultless();
     let (certificate, _) = winners(alloc, cut)?;

@@ -7,8 +7,9 @@ use Rattle.bep_converge_answer.specs.Convergence.{SaysConverging}
 use Rattle.bep_live.specs.Lived.{EndsLived}
 use Rattle.bep_play.specs.Played.{EndsSettled}
 use Rattle.bep_rows_answer.specs.Told.{SaysFirmRows, SaysSettledRows}
-use Rattle.bep_words.specs.declared.mode.Aim.TheVariants as aims
+use Rattle.bep_rows_converge.specs.Stays.{SaysConvergingRows}
 use Rattle.bep_words.specs.declared.mode.Ending.TheVariants.{Report, Document}
+use Rattle.bep_words.specs.declared.mode.Goal.TheVariants as goals
 use Rattle.bep_words.specs.declared.mode.Mode.{Mode}
 use Rattle.bep_words.specs.declared.mode.Mode.TheVariants.{Check, Firm, Converge, Certify, Explain, Rows, Run}
 use Rattle.bep_words.specs.declared.mode.Under.TheVariants.{Given, Winners}
@@ -22,7 +23,8 @@ SaysIn (Firm Winners) unread left = SaysFirmUnderWinners unread left
 SaysIn Converge unread left = SaysConverging unread left
 SaysIn (Certify extent) unread left = ⊤
 SaysIn (Explain goal under form) unread left = ⊤
-SaysIn (Rows aims.Settled) unread left = SaysSettledRows unread left
-SaysIn (Rows aims.Firm) unread left = SaysFirmRows unread left
+SaysIn (Rows goals.Settled told) unread left = SaysSettledRows unread left
+SaysIn (Rows goals.Firm told) unread left = SaysFirmRows unread left
+SaysIn (Rows goals.Converging told) unread left = SaysConvergingRows unread left
 SaysIn (Run Report turns) unread left = (turns ≡ 0 → EndsSettled unread left) × (0 < turns → EndsLived unread left)
 SaysIn (Run Document turns) unread left = ⊤

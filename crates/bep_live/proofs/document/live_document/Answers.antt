@@ -11,7 +11,9 @@ returns-clause-beside g c = record {
     leads = c.in_ok-run.ensures.leads;
     verdict = c.judge-verdict.result;
     judged = c.judge-verdict.ensures;
-    certificate = c.in_ok-document.ensures;
+    found = c.in_ok-found.found;
+    certificate = c.in_ok-found.ensures;
+    ended = c.certified_under-outcome.ensures;
   };
   lines =
       let told = c.in_ok-run.told.items ++ run_line c.judge-verdict.result in

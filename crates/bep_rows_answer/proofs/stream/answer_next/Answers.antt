@@ -17,25 +17,25 @@ pub returns-in-Line-clause-ok : goal.returns-in-Line-clause-ok
 returns-in-Line-clause-ok g c =
     let found = rw c.in-Line.is at c.in_ok-len.ensures.found in
     IfOk-weaker c.answer_front.result _ _
-    (λ told front unread held so_far. front_streamed c.args.aim unread _ _ held _ _ _ _ _ _ _ c.args.number c.in-Line.len so_far c.in_ok-len.ensures.grown found.0 told front)
+    (λ told front asked unread held so_far. front_streamed _ g.A.Auditor.ends _ asked unread _ _ held _ _ _ _ _ _ _ _ _ c.args.number c.in-Line.len so_far c.in_ok-len.ensures.grown found.0 told front)
     c.answer_front.ensures.ok
 
 pub returns-in_ok-outcome-in-Last-clause-ok : goal.returns-in_ok-outcome-in-Last-clause-ok
-returns-in_ok-outcome-in-Last-clause-ok g c = λ unread held so_far.
+returns-in_ok-outcome-in-Last-clause-ok g c = λ asked unread held so_far.
     let found = rw c.in-Last.is at c.in_ok-len.ensures.found in
     let left = g.R.Read.remaining c.read_line.new.reader in
     let now = g.W.Write.contents c.args.writer.now in
     let pending = c.read_line.new.pending.items in
-    let read = more_read c.args.aim unread (g.R.Read.remaining c.args.reader.now) held now c.args.state.now c.args.pending.now.items c.args.number so_far left pending c.in_ok-len.ensures.grown in
-    last_answered c.args.aim unread left held now c.args.state.now pending c.args.number read (g.W.Write.contents c.answer_last.new.writer) c.in_ok-outcome-in-Last.outcome found
-    (subst (λ (line : List ℕ). IsAnsweredLast c.args.aim line c.args.number c.args.state.now now (g.W.Write.contents c.answer_last.new.writer) c.in_ok-outcome-in-Last.outcome) c.as_slice.ensures.value c.in_ok-outcome-in-Last.ensures.ok)
+    let read = more_read g.A.Auditor.tells g.A.Auditor.ends g.A.Auditor.knows asked unread (g.R.Read.remaining c.args.reader.now) held now c.args.state.now c.args.auditor.now c.args.pending.now.items c.args.number so_far left pending c.in_ok-len.ensures.grown in
+    last_answered g.A.Auditor.tells g.A.Auditor.ends g.A.Auditor.knows asked unread left held now c.args.state.now c.args.auditor.now pending c.args.number read (g.W.Write.contents c.answer_last.new.writer) c.in_ok-outcome-in-Last.outcome found
+    (subst (λ (line : List ℕ). IsAnsweredLast g.A.Auditor.tells g.A.Auditor.ends g.A.Auditor.knows line c.args.number c.args.state.now c.args.auditor.now now (g.W.Write.contents c.answer_last.new.writer) c.in_ok-outcome-in-Last.outcome) c.as_slice.ensures.value c.in_ok-outcome-in-Last.ensures.ok)
 
 pub returns-in_ok-refuse-in-TooLong-clause-ok : goal.returns-in_ok-refuse-in-TooLong-clause-ok
-returns-in_ok-refuse-in-TooLong-clause-ok g c = λ unread held so_far.
+returns-in_ok-refuse-in-TooLong-clause-ok g c = λ asked unread held so_far.
     let found = rw c.in-TooLong.is at c.in_ok-len.ensures.found in
     let left = g.R.Read.remaining c.read_line.new.reader in
     let now = g.W.Write.contents c.args.writer.now in
     let pending = c.read_line.new.pending.items in
-    let read = more_read c.args.aim unread (g.R.Read.remaining c.args.reader.now) held now c.args.state.now c.args.pending.now.items c.args.number so_far left pending c.in_ok-len.ensures.grown in
-    line_too_long c.args.aim unread left held now c.args.state.now pending c.args.number read (g.W.Write.contents c.refuse.new.writer) found
+    let read = more_read g.A.Auditor.tells g.A.Auditor.ends g.A.Auditor.knows asked unread (g.R.Read.remaining c.args.reader.now) held now c.args.state.now c.args.auditor.now c.args.pending.now.items c.args.number so_far left pending c.in_ok-len.ensures.grown in
+    line_too_long g.A.Auditor.tells g.A.Auditor.ends g.A.Auditor.knows asked unread left held now c.args.state.now c.args.auditor.now pending c.args.number read (g.W.Write.contents c.refuse.new.writer) found
     (subst (λ (fault : DocFault). Appends now (g.W.Write.contents c.refuse.new.writer) (refusal_line c.args.number fault)) c.nowhere.ensures c.in_ok-refuse-in-TooLong.ensures.ok)

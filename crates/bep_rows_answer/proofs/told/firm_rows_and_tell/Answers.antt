@@ -1,29 +1,12 @@
-use Rattle.std.proofs.Common.{◌∙◌, Ok, Err, ap}
-use Rattle.bep_answer.specs.Status.{firm_status_of}
-use Rattle.bep_answer.specs.declared.outcome.Firmness.{Firmness}
+use Rattle.bep_rows_answer.specs.UnderWinners.{TellsStanding}
+use Rattle.bep_rows_answer.proofs.Asked.{told_of_aim}
 use Rattle.bep_rows_answer.proofs.Settled.{firm_rows}
 use Rattle.bep_rows_answer.proofs.told.firm_rows_and_tell.Goals as goal
 
-pub returns-in-Ok-clause-told : goal.returns-in-Ok-clause-told
-returns-in-Ok-clause-told g c = record {
-  answer = Ok c.in-Ok.outcome;
-  told = c.end_firm.ensures.status ∙ ap (λ (outcome : Firmness). firm_status_of (Ok outcome)) c.firmness.ensures;
-  done = c.in-Ok.ensures.ok;
-}
+pub returns-clause-told : goal.returns-clause-told
+returns-clause-told g c = told_of_aim TellsStanding _ _ c.of-auditor.ensures _ _ _ _ _ _ c.answer_firm_and_tell.ensures.told
 
-pub returns-in-Err-clause-told : goal.returns-in-Err-clause-told
-returns-in-Err-clause-told g c = record { answer = Err c.in-Err.error; told = c.end_firm-in-Err.ensures.status; done = c.in-Err.ensures.err }
-
-pub returns-in-Ok-clause-firm : goal.returns-in-Ok-clause-firm
-returns-in-Ok-clause-firm g c =
-    firm_rows c.settled_stays_put.ensures c.settled_stays_settled.ensures c.firm_stays_firm.ensures c.firm_stays_put.ensures _ _ _ _ _
-    (record {
-      answer = Ok c.in-Ok.outcome;
-      told = c.end_firm.ensures.status ∙ ap (λ (outcome : Firmness). firm_status_of (Ok outcome)) c.firmness.ensures;
-      done = c.in-Ok.ensures.ok;
-    })
-
-pub returns-in-Err-clause-firm : goal.returns-in-Err-clause-firm
-returns-in-Err-clause-firm g c =
-    firm_rows c.settled_stays_put.ensures c.settled_stays_settled.ensures c.firm_stays_firm.ensures c.firm_stays_put.ensures _ _ _ _ _
-    (record { answer = Err c.in-Err.error; told = c.end_firm-in-Err.ensures.status; done = c.in-Err.ensures.err })
+pub returns-clause-firm : goal.returns-clause-firm
+returns-clause-firm g c =
+    firm_rows c.settled_stays_put.ensures c.settled_stays_settled.ensures c.firm_stays_firm.ensures c.firm_stays_put.ensures _ _ _ _ _ _
+    (told_of_aim TellsStanding _ _ c.of-auditor.ensures _ _ _ _ _ _ c.answer_firm_and_tell.ensures.told)

@@ -1,28 +1,12 @@
-use Rattle.std.proofs.Common.{◌∙◌, Ok, Err, ap}
-use Rattle.bep_answer.specs.Status.{status_of}
-use Rattle.bep_answer.specs.declared.outcome.Outcome.{Outcome}
+use Rattle.bep_rows_answer.specs.UnderWinners.{TellsStanding}
+use Rattle.bep_rows_answer.proofs.Asked.{told_of_aim}
 use Rattle.bep_rows_answer.proofs.Settled.{settled_rows}
 use Rattle.bep_rows_answer.proofs.told.rows_and_tell.Goals as goal
 
-pub returns-in-Ok-clause-told : goal.returns-in-Ok-clause-told
-returns-in-Ok-clause-told g c = record {
-  answer = Ok c.in-Ok.outcome;
-  told = c.end.ensures.status ∙ ap (λ (outcome : Outcome). status_of (Ok outcome)) c.settled.ensures;
-  done = c.in-Ok.ensures.ok;
-}
+pub returns-clause-told : goal.returns-clause-told
+returns-clause-told g c = told_of_aim TellsStanding _ _ c.of-auditor.ensures _ _ _ _ _ _ c.answer_and_tell.ensures.told
 
-pub returns-in-Err-clause-told : goal.returns-in-Err-clause-told
-returns-in-Err-clause-told g c = record { answer = Err c.in-Err.error; told = c.end-in-Err.ensures.status; done = c.in-Err.ensures.err }
-
-pub returns-in-Ok-clause-settled : goal.returns-in-Ok-clause-settled
-returns-in-Ok-clause-settled g c =
-    settled_rows c.settled_stays_put.ensures c.settled_stays_settled.ensures _ _ _ _ _
-    (record {
-      answer = Ok c.in-Ok.outcome;
-      told = c.end.ensures.status ∙ ap (λ (outcome : Outcome). status_of (Ok outcome)) c.settled.ensures;
-      done = c.in-Ok.ensures.ok;
-    })
-
-pub returns-in-Err-clause-settled : goal.returns-in-Err-clause-settled
-returns-in-Err-clause-settled g c =
-    settled_rows c.settled_stays_put.ensures c.settled_stays_settled.ensures _ _ _ _ _ (record { answer = Err c.in-Err.error; told = c.end-in-Err.ensures.status; done = c.in-Err.ensures.err })
+pub returns-clause-settled : goal.returns-clause-settled
+returns-clause-settled g c =
+    settled_rows c.settled_stays_put.ensures c.settled_stays_settled.ensures _ _ _ _ _ _
+    (told_of_aim TellsStanding _ _ c.of-auditor.ensures _ _ _ _ _ _ c.answer_and_tell.ensures.told)

@@ -1,5 +1,5 @@
 use Rattle.std.proofs.Common.{◌≡◌, inl, inr, Some, option_map, codes, sym, ap, subst, ◌∙◌, rules}
-use Rattle.bep_words.specs.Mode.{aim_of, ending_of, extent_of, form_of, goal_of, under_of}
+use Rattle.bep_words.specs.Mode.{ending_of, extent_of, form_of, goal_of, reasons_of, under_of}
 use Rattle.bep_words.specs.Turns.{turns_of}
 use Rattle.bep_words.proofs.ModeFacts.{fails_as, no_fault, name_told, rows_told, tells_mode, NamesMode, not_named}
 use Rattle.bep_words.proofs.mode.mode_of.Goals as goal
@@ -76,7 +76,8 @@ returns-in-Some-rows-clause-asked g c =
     let lent = sym (ap (option_map (λ s. s.now)) c.in-Some-rows.is) ∙ c.subcommand_name.ensures in
     let named : c.in-Some-rows.field-0.now ≡ codes "rows" = search (rules, c.in-Some-rows.is-rows) in (
       name_told _ _ _ c.in_ok-command.ensures c.in_ok-matches.ensures.matches ∙ sym lent ∙ ap Some named,
-      c.aim_of.ensures ∙ ap aim_of (rows_told _ _ _ c.in_ok-command.ensures c.in_ok-matches.ensures.matches),
+      c.goal_of-in-Some-rows.ensures ∙ ap goal_of (rows_told _ _ _ c.in_ok-command.ensures c.in_ok-matches.ensures.matches),
+      c.reasons_of.ensures ∙ ap reasons_of (rows_told _ _ _ c.in_ok-command.ensures c.in_ok-matches.ensures.matches),
     )
 
 pub returns-in-Some-run-clause-asked : goal.returns-in-Some-run-clause-asked

@@ -38,7 +38,7 @@ pub returns-in-Rows-clause-done : goal.returns-in-Rows-clause-done
 returns-in-Rows-clause-done g c = subst (λ mode. IsDone mode (g.R.Read.remaining c.args.reader.now) (g.R.Read.remaining c.read_rows.new.reader) (g.W.Write.contents c.args.writer.now) (g.W.Write.contents c.read_rows.new.writer) (g.H.Person.heard c.args.person.now) (g.H.Person.heard c.read_rows.new.person) c.read_rows.result) (sym c.in-Rows.is) c.read_rows.ensures.told
 
 pub returns-in-Rows-clause-says : goal.returns-in-Rows-clause-says
-returns-in-Rows-clause-says g c = subst (λ mode. c.read_rows.result ≡ 0 → SaysIn mode (g.R.Read.remaining c.args.reader.now) (g.R.Read.remaining c.read_rows.new.reader)) (sym c.in-Rows.is) (rows_say _ _ _ c.in-Rows.aim c.read_rows.ensures.settled c.read_rows.ensures.firm)
+returns-in-Rows-clause-says g c = subst (λ mode. c.read_rows.result ≡ 0 → SaysIn mode (g.R.Read.remaining c.args.reader.now) (g.R.Read.remaining c.read_rows.new.reader)) (sym c.in-Rows.is) (rows_say _ _ _ c.in-Rows.goal c.in-Rows.reasons c.read_rows.ensures.settled c.read_rows.ensures.firm c.read_rows.ensures.converging)
 
 pub returns-in-Run-clause-done : goal.returns-in-Run-clause-done
 returns-in-Run-clause-done g c = subst (λ mode. IsDone mode (g.R.Read.remaining c.args.reader.now) (g.R.Read.remaining c.run_scenario.new.reader) (g.W.Write.contents c.args.writer.now) (g.W.Write.contents c.run_scenario.new.writer) (g.H.Person.heard c.args.person.now) (g.H.Person.heard c.run_scenario.new.person) c.run_scenario.result) (sym c.in-Run.is) c.run_scenario.ensures.told

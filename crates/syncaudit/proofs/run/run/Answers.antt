@@ -1,5 +1,5 @@
 use Rattle.std.proofs.Common.{map, inr, refl}
-use Rattle.bep_words.specs.declared.mode.Aim.TheVariants as aims
+use Rattle.bep_words.specs.declared.mode.Goal.TheVariants as goals
 use Rattle.bep_words.specs.declared.mode.Ending.TheVariants.{Report}
 use Rattle.bep_words.specs.declared.mode.Mode.TheVariants.{Check, Converge, Firm, Rows, Run}
 use Rattle.bep_words.specs.declared.mode.Under.TheVariants.{Given, Winners}
@@ -35,10 +35,13 @@ pub returns-in-Ok-clause-converging : goal.returns-in-Ok-clause-converging
 returns-in-Ok-clause-converging g c = said _ _ _ (map g.S.AsStr.text c.args.words.now) c.in-Ok.mode Converge c.in-Ok.ensures.asked c.follow.ensures.says
 
 pub returns-in-Ok-clause-settled_rows : goal.returns-in-Ok-clause-settled_rows
-returns-in-Ok-clause-settled_rows g c = said _ _ _ (map g.S.AsStr.text c.args.words.now) c.in-Ok.mode (Rows aims.Settled) c.in-Ok.ensures.asked c.follow.ensures.says
+returns-in-Ok-clause-settled_rows g c = λ told. said _ _ _ (map g.S.AsStr.text c.args.words.now) c.in-Ok.mode (Rows goals.Settled told) c.in-Ok.ensures.asked c.follow.ensures.says
 
 pub returns-in-Ok-clause-firm_rows : goal.returns-in-Ok-clause-firm_rows
-returns-in-Ok-clause-firm_rows g c = said _ _ _ (map g.S.AsStr.text c.args.words.now) c.in-Ok.mode (Rows aims.Firm) c.in-Ok.ensures.asked c.follow.ensures.says
+returns-in-Ok-clause-firm_rows g c = λ told. said _ _ _ (map g.S.AsStr.text c.args.words.now) c.in-Ok.mode (Rows goals.Firm told) c.in-Ok.ensures.asked c.follow.ensures.says
+
+pub returns-in-Ok-clause-converging_rows : goal.returns-in-Ok-clause-converging_rows
+returns-in-Ok-clause-converging_rows g c = λ told. said _ _ _ (map g.S.AsStr.text c.args.words.now) c.in-Ok.mode (Rows goals.Converging told) c.in-Ok.ensures.asked c.follow.ensures.says
 
 pub returns-in-Ok-clause-ends_settled : goal.returns-in-Ok-clause-ends_settled
 returns-in-Ok-clause-ends_settled g c = λ asks zero. (said _ _ _ (map g.S.AsStr.text c.args.words.now) c.in-Ok.mode (Run Report 0) c.in-Ok.ensures.asked c.follow.ensures.says asks zero).0 refl

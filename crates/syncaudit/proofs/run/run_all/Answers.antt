@@ -19,6 +19,7 @@ returns-in-Ok g c =
       converging = c.run.ensures.converging;
       settled_rows = c.run.ensures.settled_rows;
       firm_rows = c.run.ensures.firm_rows;
+      converging_rows = c.run.ensures.converging_rows;
       ends_settled = c.run.ensures.ends_settled;
       lives_settled = c.run.ensures.lives_settled;
     })

@@ -1,0 +1,2 @@
+pub mod FirstVerdict
+pub mod Laws

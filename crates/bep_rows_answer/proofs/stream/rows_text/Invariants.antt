@@ -1,7 +1,0 @@
-use Rattle.bep_rows_answer.specs.inner.Answered.{IsStreamedTo}
-use Rattle.bep_rows_answer.proofs.stream.rows_text.Given as goal
-
--- the lines before this one were read and answered
-abbrev pub invariant-loop-number : goal.invariant-loop-number
-invariant-loop-number g l =
-    IsStreamedTo l.aim (g.R.Read.remaining l.fn.reader) (g.R.Read.remaining l.reader) (g.W.Write.contents l.fn.writer) (g.W.Write.contents l.writer) l.state l.pending.items l.number
