@@ -8,6 +8,7 @@ mod making;
 mod reading;
 mod row;
 mod text;
+mod within;
 
 pub use listed::Listed;
 pub use reading::read_row;

@@ -8,19 +8,18 @@ use bep_record::FolderName;
 use bep_tables::SharedFolder;
 use std::alloc::{AllocError, Global};
 
-/// How many names the rows so far have in a folder that are known there, of how many of these no store holds a file, how many devices
-/// share the folder, and how many pairs of a name and a device are still to come. A count stops at the greatest number of 64 bits.
+/// What the rows so far have of a folder. A count stops at the greatest number of 64 bits.
 #[derive(Debug, Drop)]
 pub struct FolderPairs {
     /// The folder.
     pub folder: FolderName,
-    /// The names.
+    /// The names that are known there.
     pub names: u64,
-    /// Those of which no store holds a file.
+    /// Those of these names of which no store holds a file.
     pub deleted: u64,
-    /// The devices.
+    /// The devices that share the folder.
     pub devices: u64,
-    /// The pairs.
+    /// The pairs of a name and a device that are still to come.
     pub to_come: u64,
 }
 
