@@ -8,6 +8,8 @@ mod ends;
 #[cfg(test)]
 mod full;
 #[cfg(test)]
+mod halves;
+#[cfg(test)]
 mod made;
 #[cfg(test)]
 mod memory;

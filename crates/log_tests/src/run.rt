@@ -72,7 +72,8 @@ fn verdict(alloc: Global, steps: &[&str], moments: Moments) -> Option<RunVerdict
     Some(check_run(&run_cut(alloc, &mut pair, steps, moments)?))
 }
 
-fn device(number: u64) -> Option<Object> {
+/// The device of this number, as an object of the run.
+pub(crate) fn device(number: u64) -> Option<Object> {
     Some(Object::Device(DeviceId::read(number)?))
 }
 
@@ -265,15 +266,20 @@ fn is_refused(alloc: Global, peers: Vec<PeerCopy>, links: Vec<LinkCopy>) -> Opti
     Some(RunCut::of(alloc, peers, links).ok()?.is_none())
 }
 
-fn two_copies(alloc: Global, first: PeerCopy, second: PeerCopy) -> Option<Vec<PeerCopy>> {
+/// Both copies.
+pub(crate) fn two_copies(
+    alloc: Global,
+    first: PeerCopy,
+    second: PeerCopy,
+) -> Option<Vec<PeerCopy>> {
     let mut peers = Vec::new(alloc);
     peers.push(first).ok()?;
     peers.push(second).ok()?;
     Some(peers)
 }
 
-// The link, copied so many times.
-fn links(alloc: Global, pair: &Pair, times: u64) -> Option<Vec<LinkCopy>> {
+/// The link, copied so many times.
+pub(crate) fn links(alloc: Global, pair: &Pair, times: u64) -> Option<Vec<LinkCopy>> {
     let mut links = Vec::new(alloc);
     for _time in 0..times {
         links.push(pair.link.copy().ok()?).ok()?;
