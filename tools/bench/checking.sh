@@ -45,7 +45,7 @@ fn main() {
 PROGRAM
 (cd "$work/serde" && cargo build --release --offline > "$work/log" 2>&1) || { cat "$work/log"; exit 1; }
 
-for kind in settled flights devices names bytes; do
+for kind in settled flights devices names long bytes; do
   make_document "$kind"
   measure serde_json "$work/serde/target/release/parse"
   measure check "$program" check

@@ -6,6 +6,7 @@ flights   one folder, 2 devices, 4096 files, and 160,000 records on their way: 4
 devices   one folder, 16 devices, 128 directories, each known to each device from each other one, and on its way over
           each of the 120 links in both directions as often as 64 MiB allow: many devices, many records of each name
 names     one folder, 16 devices, 4096 directories, and as many records on their way as 64 MiB allow: many rows
+long      one folder, 6 devices, 4096 directories whose names have 1000 bytes, of which the last four differ
 bytes     one folder, one device, three files of 16 MiB each: all the time goes into SHA-256
 """
 import hashlib
@@ -106,11 +107,20 @@ def devices():
     return filled([{"folder": "docs", "devices": shares}], rows_of("docs", own), {"folder": "docs", "full": False, "records": own})
 
 
-def names(limit=MAX_BYTES):
-    names = [f"{place:04}" for place in range(4096)]
+def shares_of(names, devices):
+    """The own records of these directories, and what so many devices have of them."""
     own = [directory_record(name, place) for place, name in enumerate(names)]
     store = [directory_node(name, place) for place, name in enumerate(names)]
-    shares = [device(one, own, store) for one in range(1, 17)]
+    return own, [device(one, own, store) for one in range(1, devices + 1)]
+
+
+def long():
+    own, shares = shares_of([f"{'n' * 996}{place:04}" for place in range(4096)], 6)
+    return document([{"folder": "docs", "devices": shares}], [], rows_of("docs", own))
+
+
+def names(limit=MAX_BYTES):
+    own, shares = shares_of([f"{place:04}" for place in range(4096)], 16)
     return filled([{"folder": "docs", "devices": shares}], rows_of("docs", own), {"folder": "docs", "full": False, "records": own[:1000]}, limit)
 
 
@@ -126,7 +136,7 @@ def text_of(tree):
     return json.dumps(tree, separators=(",", ":"))
 
 
-KINDS = {"settled": settled, "flights": flights, "devices": devices, "names": names, "bytes": files}
+KINDS = {"settled": settled, "flights": flights, "devices": devices, "names": names, "long": long, "bytes": files}
 
 if __name__ == "__main__":
     if len(sys.argv) != 2 or sys.argv[1] not in KINDS:
