@@ -3,7 +3,6 @@ use Rattle.std.proofs.Common.{◌≡◌, ◌∙◌, List, [], ◌∷◌, ◌++�
 use Rattle.bep_model.specs.Tables.{Tables}
 use Rattle.bep_parts.specs.Laws.{DocumentsSayOnly}
 use Rattle.bep_parts.specs.Parts.{only}
-use Rattle.bep_row.specs.Row.{cut_with}
 use Rattle.bep_row.specs.declared.row.NameRow.{NameRow}
 use Rattle.bep_rows.specs.AllRows.{key_of_row}
 use Rattle.bep_rows.specs.Names.{IsAbove, Key, is_name}
@@ -20,6 +19,7 @@ use Rattle.bep_rows_answer.specs.Counts.{counted, counts_after, no_count}
 use Rattle.bep_rows_answer.specs.UnderWinners.{KnowsStandings, StandsFor}
 use Rattle.bep_rows_answer.specs.declared.counts.FolderCount.{FolderCount}
 use Rattle.bep_rows_answer.specs.declared.under_winners.UnderWinners.{UnderWinners}
+use Rattle.bep_rows_answer.proofs.Alone.{alone_says}
 use Rattle.bep_rows_answer.proofs.CountFacts.{counts_more}
 use Rattle.bep_rows_answer.proofs.MoreRows.{last_more}
 
@@ -28,8 +28,7 @@ module _ (aim : Aim) (header : CutParts) (rows : List NameRow) (row : NameRow) (
   pub stands_here : (asked : Aim) → DocumentsSayOnly → asked ≡ aim → IsStanding asked (tables_of cut) here → StandsFor aim header row here
   stands_here asked says same is whole of =
       subst (λ (one : Aim). IsStanding one (only (is_name (key_of_row row)) (tables_of whole)) here) same
-      (subst (λ (t : Tables). IsStanding asked t here)
-      (ap tables_of next.alone ∙ says (is_name (key_of_row row)) whole (cut_with header row) of) is)
+      (alone_says says header rows row cut next (λ (t : Tables). IsStanding asked t here) is whole of)
 
   module _ (key : Key) (it_is : key ≡ key_of_row row) (stands : StandsFor aim header row here) (old new : UnderWinners) (known : KnowsStandings aim header rows old) where
     -- what a stream promises that took this

@@ -1,5 +1,7 @@
 mod Above
+pub mod Alone
 pub mod Asked
+pub mod Ended
 mod LineFacts
 pub mod MoreRows
 pub mod Settled

@@ -13,11 +13,9 @@ use Rattle.bep_facts.specs.Orders.{texts_total, not_less_itself}
 use Rattle.bep_model.specs.Foreign.{IsKnown}
 use Rattle.bep_model.specs.Settled.{key_cmp}
 use Rattle.bep_model.specs.Tables.{Tables, Folder, FileName}
-use Rattle.bep_parts.specs.Laws.{DocumentsSayOnly}
 use Rattle.bep_parts.specs.Parts.{IsInSome, Keeps, only}
 use Rattle.bep_parts.proofs.OnlyFacts.{known_kept}
 use Rattle.bep_row.specs.Fits.{AreQuiet}
-use Rattle.bep_row.specs.Row.{cut_with}
 use Rattle.bep_row.specs.declared.row.NameRow.{NameRow}
 use Rattle.bep_rows.specs.AllRows.{NamesAreOfRows, RowsAreOfTheirCut, cut_by, key_of_row}
 use Rattle.bep_rows.specs.Names.{IsUpTo, Key, among, is_name, nowhere}
@@ -39,12 +37,6 @@ use Rattle.bep_rows_converge.proofs.Order.{itself, joined_is, joined_up_to, verd
 pairs_more : (progress : List Progress) (here : Progress) (all : List FolderPairs) → pairs_after (progress ++ here ∷ []) all ≡ map (with_more here) (pairs_after progress all)
 pairs_more [] here all = refl
 pairs_more (first ∷ progress) here all = pairs_more progress here (map (with_more first) all)
-
--- what holds of the cut that has a row's name alone holds of what each cut says of that name of which this is a row
-pub alone_says : DocumentsSayOnly → (header : CutParts) (rows : List NameRow) (row : NameRow) (cut : CutParts) → IsNextRow header rows row cut →
-    (P : Tables → Type 0) → P (tables_of cut) → (whole : CutParts) → IsRowOf whole header row → P (only (is_name (row.folder, row.name)) (tables_of whole))
-alone_says says header rows row cut next P holds whole of =
-    subst P (ap tables_of next.alone ∙ says (is_name (row.folder, row.name)) whole (cut_with header row) of) holds
 
 -- ---- one more
 

@@ -2,10 +2,11 @@ use Rattle.std.proofs.Common.{◌∙◌, ◌++◌, map, ap}
 use Rattle.bep_converge.specs.ConvergeVerdict.{IsConvergeVerdict}
 use Rattle.bep_converge_check.specs.Progress.{IsProgress, progress_shown}
 use Rattle.bep_model.specs.Tables.{Tables}
+use Rattle.bep_rows_answer.proofs.Alone.{alone_says}
 use Rattle.bep_rows_converge.specs.Pairs.{with_more}
 use Rattle.bep_rows_converge.specs.Standing.{hindrance_line, joined, verdict_of}
 use Rattle.bep_rows_converge.specs.declared.standing.ConvergeStanding.{ConvergeStanding}
-use Rattle.bep_rows_converge.proofs.Given.{alone_says, one_more_known}
+use Rattle.bep_rows_converge.proofs.Given.{one_more_known}
 use Rattle.bep_rows_converge.proofs.converging.ConvergingAuditor.take.Goals as goal
 
 pub returns : goal.returns

@@ -1,6 +1,6 @@
 use Rattle.bep_model.specs.Tables.{Tables}
+use Rattle.bep_rows_answer.proofs.Alone.{alone_says}
 use Rattle.bep_rows_converge.specs.Explained.{ExplainsConverging}
-use Rattle.bep_rows_converge.proofs.Given.{alone_says}
 use Rattle.bep_rows_converge.proofs.explaining.ConvergeExplainingAuditor.take.Goals as goal
 
 pub returns : goal.returns

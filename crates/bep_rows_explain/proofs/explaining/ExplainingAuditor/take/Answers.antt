@@ -1,9 +1,7 @@
-use Rattle.std.proofs.Common.{◌∙◌, ap, subst}
+use Rattle.std.proofs.Common.{subst}
 use Rattle.bep_model.specs.Tables.{Tables}
-use Rattle.bep_row.specs.Row.{cut_with}
-use Rattle.bep_rows.specs.Names.{is_name}
 use Rattle.bep_rows.specs.declared.aim.Aim.{Aim}
-use Rattle.bep_tables.specs.Cut.{tables_of}
+use Rattle.bep_rows_answer.proofs.Alone.{alone_says}
 use Rattle.bep_rows_explain.specs.Explained.{Explains, ExplainsRow}
 use Rattle.bep_rows_explain.proofs.explaining.ExplainingAuditor.take.Goals as goal
 
@@ -12,9 +10,6 @@ returns c = λ asked header rows next known.
     let row = c.args.row.now in
     let aim = c.args.self.now.under.aim in (
       subst (λ (one : Aim). ExplainsRow one header row c.in_ok-text.text.items) known.asked
-          (λ whole of.
-          subst (λ (t : Tables). Explains aim t c.in_ok-text.text.items)
-          (ap tables_of next.alone ∙ c.documents_say_only.ensures (is_name (row.folder, row.name)) whole (cut_with header row) of)
-          c.in_ok-text.ensures),
+          (alone_says c.documents_say_only.ensures header rows row c.args.cut.now next (λ (t : Tables). Explains aim t c.in_ok-text.text.items) c.in_ok-text.ensures),
       (c.in_ok-_first.ensures asked.under header rows next known).1,
     )
