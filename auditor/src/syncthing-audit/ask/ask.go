@@ -64,24 +64,6 @@ func (p Program) Answer(asked *rows.Piece) (*Reply, error) {
 	return p.answerDocument(asked)
 }
 
-// answerStream asks what keeps names of a stream from being firm: what is firm is settled, too. Of the names that aren't firm it asks whether they
-// come right by themselves.
-func (p Program) answerStream(asked *rows.Piece) (*Reply, error) {
-	explained, err := p.text(asked.Written, "rows", "--explain", "--firm")
-	if err != nil {
-		return nil, err
-	}
-	reply, told, err := readExplained(asked, explained)
-	if err != nil || len(told) == 0 {
-		return reply, err
-	}
-	converging, err := p.text(asked.Some(told), "rows", "--converge")
-	if err == nil {
-		reply.Convergence, err = readConverging(asked, told, converging)
-	}
-	return reply, err
-}
-
 // answerDocument asks whether a document is firm and, where it isn't, all else. It is audited under the certificate that is made of it.
 func (p Program) answerDocument(asked *rows.Piece) (*Reply, error) {
 	const certifying = "--certify"

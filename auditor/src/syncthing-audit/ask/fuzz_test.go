@@ -4,6 +4,7 @@ import (
 	"strings"
 	"testing"
 
+	"syncthing-audit/finding"
 	"syncthing-audit/hang"
 )
 
@@ -21,7 +22,10 @@ func FuzzReplies(f *testing.F) {
 		if err == nil && (text[0] == 'n') != (len(reply.Failures) > 0) {
 			t.Errorf("%d failures of %q", len(reply.Failures), text)
 		}
-		checkRead(t, reply, err)
+		if err != nil {
+			reply = &Reply{}
+		}
+		checkRead(t, reply.Failures, settled, err)
 	})
 }
 
@@ -34,31 +38,27 @@ func FuzzStreams(f *testing.F) {
 	f.Add("ViewNotBelow docs a on 1\nVersionDiffers docs c on 1\nnot firm: VersionDiffers docs c on 1\n" + counts)
 	f.Fuzz(func(t *testing.T, text string) {
 		defer hang.Watch()()
-		reply, names, err := readExplained(asked, text)
-		for name := range names {
-			if name != "a" && name != "b b" && name != "c" {
-				t.Errorf("%q isn't asked", name)
+		all, _, err := readStream(asked, text, firm)
+		for _, one := range all {
+			if one.Name != "a" && one.Name != "b b" && one.Name != "c" {
+				t.Errorf("%q isn't asked", one.Name)
 			}
 		}
-		if err == nil && (len(names) == 0) != strings.HasPrefix(text, "firm\n") {
-			t.Errorf("%d names are told by %q", len(names), text)
+		if err == nil && (len(all) == 0) != strings.HasPrefix(text, "firm\n") {
+			t.Errorf("%v is told by %q", all, text)
 		}
-		checkRead(t, reply, err)
+		checkRead(t, all, firm, err)
 	})
 }
 
-// checkRead says which failure isn't written as it was read, and which error has no reason.
-func checkRead(t *testing.T, reply *Reply, err error) {
-	if err != nil {
-		if err.Error() == "" {
-			t.Error("refused without a reason")
-		}
-		return
+// checkRead says which failure of what an answer isn't yes for isn't written as it was read, and which error has no reason.
+func checkRead(t *testing.T, all []finding.Failure, yes string, err error) {
+	if err != nil && err.Error() == "" {
+		t.Error("refused without a reason")
 	}
-	for next := range reply.Failures {
-		one := &reply.Failures[next]
-		if read, is := readFailure("docs", Line("docs", one), settled); !is || read != *one {
-			t.Errorf("%+v is read again as %+v", *one, read)
+	for _, one := range all {
+		if read, is := readFailure("docs", Line("docs", &one), yes); !is || read != one {
+			t.Errorf("%+v is read again as %+v", one, read)
 		}
 	}
 }

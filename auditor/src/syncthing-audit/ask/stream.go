@@ -3,50 +3,53 @@ package ask
 import (
 	"strings"
 
+	"golang.org/x/exp/slices"
 	"syncthing-audit/finding"
 	"syncthing-audit/rows"
 )
 
-// readExplained reads what 'rows --explain --firm' writes: for each name that isn't firm a line for all that keeps it from that, with what is indented
-// below, and then a report. It gives these names, too.
-func readExplained(asked *rows.Piece, text string) (*Reply, map[string]bool, error) {
-	all, report, err := readStream(asked, text, firm)
+// answerStream asks which names of a stream aren't firm: what is firm is settled, too. Of these alone it asks for all that keeps them from that, which
+// takes longer, and whether they come right by themselves.
+func (p Program) answerStream(asked *rows.Piece) (*Reply, error) {
+	loose, report, err := p.stream(asked, firm, "--firm")
+	if err != nil {
+		return nil, err
+	}
+	unknown := int64(asked.Unknown)
+	if report.deleted < unknown {
+		return nil, refused("syncaudit's answer to %s counts %d names deleted, and nothing holds %d", asked.About(), report.deleted, unknown)
+	}
+	reply := &Reply{Names: report.names - unknown, Deleted: report.deleted - unknown}
+	if len(loose) == 0 {
+		return reply, nil
+	}
+	some := asked.Some(namesOf(loose))
+	explained, _, err := p.stream(some, firm, "--explain", "--firm")
+	if err != nil {
+		return nil, err
+	}
+	if !slices.Equal(firsts(explained), loose) {
+		return nil, refused("syncaudit's answers to %s differ", some.About())
+	}
+	_, comes, err := p.stream(some, converging, "--converge")
+	if err != nil {
+		return nil, err
+	}
+	reply.take(explained, comes)
+	return reply, nil
+}
+
+// stream asks this of a stream, and gives the lines on names and the report.
+func (p Program) stream(asked *rows.Piece, yes string, flags ...string) ([]finding.Failure, *report, error) {
+	text, err := p.text(asked.Written, append([]string{"rows"}, flags...)...)
 	if err != nil {
 		return nil, nil, err
 	}
-	if report.names != int64(len(asked.Rows)) || report.deleted < int64(asked.Unknown) {
-		return nil, nil, refused("syncaudit's answer to %s counts %d names, %d deleted, of %d", asked.About(), report.names, report.deleted, len(asked.Rows))
-	}
-	reply, names := &Reply{Names: report.names - int64(asked.Unknown), Deleted: report.deleted - int64(asked.Unknown)}, map[string]bool{}
-	for _, one := range all {
-		if names[one.Name] = true; !finding.IsFirmReason(one.Reason) {
-			reply.Failures = append(reply.Failures, one)
-		}
-	}
-	if len(reply.Failures) == 0 {
-		reply.NotFirm = report.first
-	}
-	return reply, names, nil
+	return readStream(asked, text, yes)
 }
 
-// readConverging reads what 'rows --converge' writes of some names of a stream: a line for each that doesn't converge, and then a report.
-func readConverging(asked *rows.Piece, names map[string]bool, text string) (finding.Convergence, error) {
-	all, report, err := readStream(asked, text, converging)
-	if err != nil {
-		return finding.Convergence{}, err
-	}
-	for _, one := range all {
-		if !names[one.Name] {
-			return finding.Convergence{}, refused("syncaudit's answer to %s has %q, which it wasn't asked", asked.About(), Line(asked.Folder, &one))
-		}
-	}
-	if report.names != int64(len(names)) {
-		return finding.Convergence{}, refused("syncaudit's answer to %s counts %d names of %d", asked.About(), report.names, len(names))
-	}
-	return finding.Convergence{First: report.first, Pairs: report.pairs}, nil
-}
-
-// readStream reads an answer to a stream: lines on names, which come in the stream's order, and a report, which begins with the first of all.
+// readStream reads an answer to a stream: lines on names, which come in the stream's order, with what is indented below, and a report on all its names,
+// which begins with the first of these lines.
 func readStream(asked *rows.Piece, text, yes string) ([]finding.Failure, *report, error) {
 	behind := beginOfReport(text)
 	report, err := readReport(asked.Folder, text[behind:], yes)
@@ -66,6 +69,9 @@ func readStream(asked *rows.Piece, text, yes string) ([]finding.Failure, *report
 	if first := finding.First(all, reasonsOf[yes]); !isSame(first, report.first) {
 		return nil, nil, refused("syncaudit's answer to %s ends with %q, and its first line says %q", asked.About(), told(asked.Folder, report.first, yes), told(asked.Folder, first, yes))
 	}
+	if report.names != int64(len(asked.Rows)) {
+		return nil, nil, refused("syncaudit's answer to %s counts %d names of %d", asked.About(), report.names, len(asked.Rows))
+	}
 	return all, report, nil
 }
 
@@ -76,4 +82,37 @@ func beginOfReport(text string) int {
 		begin = strings.LastIndexByte(text[:begin-1], '\n') + 1
 	}
 	return begin
+}
+
+// namesOf gives the names of failures.
+func namesOf(all []finding.Failure) map[string]bool {
+	names := map[string]bool{}
+	for _, one := range all {
+		names[one.Name] = true
+	}
+	return names
+}
+
+// firsts gives the first failure of each name.
+func firsts(all []finding.Failure) []finding.Failure {
+	found := []finding.Failure{}
+	for _, one := range all {
+		if len(found) == 0 || found[len(found)-1].Name != one.Name {
+			found = append(found, one)
+		}
+	}
+	return found
+}
+
+// take takes all that keeps names from being firm, and whether they come right. Of what isn't settled no more is told than that.
+func (r *Reply) take(explained []finding.Failure, comes *report) {
+	for _, one := range explained {
+		if !finding.IsFirmReason(one.Reason) {
+			r.Failures = append(r.Failures, one)
+		}
+	}
+	if len(r.Failures) == 0 {
+		r.NotFirm = finding.First(explained, finding.FirmReasons)
+	}
+	r.Convergence = finding.Convergence{First: comes.first, Pairs: comes.pairs}
 }

@@ -46,37 +46,52 @@ func paired(names, pairs int) string {
 	return fmt.Sprintf("echo 'folder docs: %d names, 0 deleted, 2 devices, %d pairs not yet at the winner'; ", names, pairs)
 }
 
-// Words of a shell for an answer to a stream of which one name isn't firm.
+// Words of a shell for answers to a stream of which one name isn't firm.
 const (
-	storeDiffers = `echo 'StoreDiffers docs b on 1'; echo '  store of 1: nothing'; `
-	notFirmB     = `echo 'not firm: StoreDiffers docs b on 1'; `
+	storeDiffers = "echo 'StoreDiffers docs b on 1'; "
+	notFirmB     = "echo 'not firm: StoreDiffers docs b on 1'; "
 )
+
+var (
+	isLoose   = storeDiffers + notFirmB + counted(3, 0) + "exit 1"
+	whyLoose  = storeDiffers + "echo '  store of 1: nothing'; " + notFirmB + counted(1, 0) + "exit 1"
+	comesSome = "echo converging; " + paired(1, 0)
+)
+
+// aReader makes a program that answers so to a stream, to whoever has names of it explained, and to whether these converge.
+func aReader(t *testing.T, firm, explain, converge string) Program {
+	return aProgram(t, "case $* in 'rows --firm') cat > /dev/null; "+firm+";; 'rows --explain --firm') cat > /dev/null; "+explain+";; 'rows --converge') cat > /dev/null; "+converge+";; *) exit 9;; esac")
+}
 
 // What is told of each name is in the reply, and what isn't firm is asked again, by its very line.
 func TestWhatIsAskedOfAStream(t *testing.T) {
+	const recordDiffers, notFirmForRecord = "echo 'RecordDiffers docs b on 2'; ", "echo 'not firm: RecordDiffers docs b on 2'; "
+	const versionDiffers, notFirmForVersion = "echo 'VersionDiffers docs b on 2'; ", "echo 'not firm: VersionDiffers docs b on 2'; "
 	const isB = `[ "$(grep -c '"name":"[acd]"' input)" = 0 ] && [ "$(grep -c '"name":"b"' input)" = 1 ] && [ "$(wc -l < input)" = 2 ] || exit 9; `
-	const both = "rows --explain --firm,rows --converge,"
+	const all = "rows --firm,rows --explain --firm,rows --converge,"
 	of := func(reason string, device uint64) finding.Failure {
 		return finding.Failure{Reason: reason, Name: "b", Device: device}
 	}
 	pairs := func(count int64) *int64 { return &count }
 	hindrance, loose := of("WouldCopy", 2), of("VersionDiffers", 2)
 	for _, row := range []struct {
-		why, explain, converge string
-		reply                  Reply
-		asked                  string
+		why, firm, explain, converge string
+		reply                        Reply
+		asked                        string
 	}{
-		{"all is firm", "echo firm; " + counted(3, 1), "exit 9", Reply{Names: 3, Deleted: 1}, "rows --explain --firm,"},
-		{"one isn't settled", storeDiffers + notFirmB + counted(3, 0) + "exit 1", isB + "echo converging; " + paired(1, 2),
-			Reply{Names: 3, Failures: []finding.Failure{of("StoreDiffers", 1)}, Convergence: finding.Convergence{Pairs: pairs(2)}}, both},
-		{"one isn't settled for several reasons", "echo 'RecordDiffers docs b on 2'; " + storeDiffers + "echo 'VersionDiffers docs b on 2'; echo 'not firm: RecordDiffers docs b on 2'; " + counted(3, 0) + "exit 1",
+		{"all is firm", "echo firm; " + counted(3, 1), "exit 9", "exit 9", Reply{Names: 3, Deleted: 1}, "rows --firm,"},
+		{"one isn't settled", isLoose, isB + whyLoose, isB + "echo converging; " + paired(1, 2),
+			Reply{Names: 3, Failures: []finding.Failure{of("StoreDiffers", 1)}, Convergence: finding.Convergence{Pairs: pairs(2)}}, all},
+		{"one isn't settled for several reasons", recordDiffers + notFirmForRecord + counted(3, 0) + "exit 1",
+			isB + recordDiffers + storeDiffers + versionDiffers + notFirmForRecord + counted(1, 0) + "exit 1",
 			isB + "echo 'WouldCopy docs b on 2'; echo 'not converging: WouldCopy docs b on 2'; " + paired(1, 1) + "exit 1",
-			Reply{Names: 3, Failures: []finding.Failure{of("RecordDiffers", 2), of("StoreDiffers", 1)}, Convergence: finding.Convergence{First: &hindrance, Pairs: pairs(1)}}, both},
-		{"one is settled, and not firm", "echo 'VersionDiffers docs b on 2'; echo 'ViewNotBelow docs b on 1'; echo 'not firm: VersionDiffers docs b on 2'; " + counted(3, 0) + "exit 1",
-			isB + "echo converging; " + paired(1, 0), Reply{Names: 3, NotFirm: &loose, Convergence: finding.Convergence{Pairs: pairs(0)}}, both},
+			Reply{Names: 3, Failures: []finding.Failure{of("RecordDiffers", 2), of("StoreDiffers", 1)}, Convergence: finding.Convergence{First: &hindrance, Pairs: pairs(1)}}, all},
+		{"one is settled, and not firm", versionDiffers + notFirmForVersion + counted(3, 0) + "exit 1",
+			isB + versionDiffers + "echo 'ViewNotBelow docs b on 1'; " + notFirmForVersion + counted(1, 0) + "exit 1",
+			isB + comesSome, Reply{Names: 3, NotFirm: &loose, Convergence: finding.Convergence{Pairs: pairs(0)}}, all},
 	} {
 		log := filepath.Join(t.TempDir(), "log")
-		program := aProgram(t, "cd '"+filepath.Dir(log)+"'; cat > input; printf '%s,' \"$*\" >> log\ncase \"$*\" in *explain*) "+row.explain+";; *) "+row.converge+";; esac")
+		program := aProgram(t, "cd '"+filepath.Dir(log)+"'; cat > input; printf '%s,' \"$*\" >> log\ncase \"$*\" in *explain*) "+row.explain+";; *firm*) "+row.firm+";; *) "+row.converge+";; esac")
 		reply, err := program.Answer(aStream("a", "b", "c"))
 		asked, _ := os.ReadFile(log)
 		if err != nil || !reflect.DeepEqual(*reply, row.reply) || string(asked) != row.asked {
@@ -124,8 +139,7 @@ func TestAnswersToStreamsThatAreNone(t *testing.T) {
 		"a reason of converging":           "echo 'WouldCopy docs b on 1'; echo 'not firm: WouldCopy docs b on 1'; " + counted(3, 0),
 		"the answer twice":                 "echo firm; " + counted(3, 0) + "echo firm; " + counted(3, 0),
 	} {
-		program := aProgram(t, "case $* in *explain*) cat > /dev/null; "+said+";; *) exit 9;; esac")
-		checkRefused(t, why, program)
+		checkRefused(t, why, aReader(t, said, "exit 9", "exit 9"))
 	}
 }
 
@@ -135,6 +149,23 @@ func checkRefused(t *testing.T, why string, program Program) {
 	if reply, err := program.Answer(aStream("a", "b", "c")); !errors.As(err, &failed) || failed.Status != statusRefused || err.Error() == "" {
 		t.Errorf("%s: %+v, %v", why, reply, err)
 	}
+}
+
+// Why names aren't firm goes with what was told of them before.
+func TestExplanationsThatAreNone(t *testing.T) {
+	for why, said := range map[string]string{
+		"nothing":                      "",
+		"all is firm now":              "echo firm; " + counted(1, 0),
+		"fewer names":                  storeDiffers + notFirmB + counted(0, 0),
+		"all names of the stream":      storeDiffers + notFirmB + counted(3, 0),
+		"another name of the stream":   "echo 'StoreDiffers docs a on 1'; echo 'not firm: StoreDiffers docs a on 1'; " + counted(1, 0),
+		"another device":               "echo 'StoreDiffers docs b on 2'; echo 'not firm: StoreDiffers docs b on 2'; " + counted(1, 0),
+		"something that stands before": "echo 'LocalOnly docs b on 1'; " + storeDiffers + "echo 'not firm: LocalOnly docs b on 1'; " + counted(1, 0),
+	} {
+		checkRefused(t, why, aReader(t, isLoose, said, comesSome))
+	}
+	twice := storeDiffers + "echo 'VersionDiffers docs b on 1'; " + notFirmB
+	checkRefused(t, "two lines of a name before it is explained", aReader(t, twice+counted(3, 0), twice+counted(1, 0), comesSome))
 }
 
 // What is said of how the names come right goes with the names that were asked.
@@ -152,8 +183,7 @@ func TestAnswersOnConvergenceThatAreNone(t *testing.T) {
 		"no verdict":                      would("b") + "echo converging; " + paired(1, 0),
 		"a reason of firm":                "echo 'VersionDiffers docs b on 1'; echo 'not converging: VersionDiffers docs b on 1'; " + paired(1, 0),
 	} {
-		program := aProgram(t, "case $* in *explain*) cat > /dev/null; "+storeDiffers+notFirmB+counted(3, 0)+"exit 1;; *) cat > /dev/null; "+said+";; esac")
-		checkRefused(t, why, program)
+		checkRefused(t, why, aReader(t, isLoose, whyLoose, said))
 	}
 }
 
@@ -170,8 +200,9 @@ func TestAProgramThatFailsInAStream(t *testing.T) {
 		"echo 'StoreDiffers docs b on 1'; kill -9 $$":                           {StatusCannotRun, "ended with signal: killed: StoreDiffers docs b on 1"},
 	} {
 		for asked, program := range map[string]Program{
-			"rows --explain --firm": aProgram(t, words),
-			"rows --converge":       aProgram(t, "case $* in *explain*) "+storeDiffers+notFirmB+counted(3, 0)+"exit 1;; esac; "+words),
+			"rows --firm":           aProgram(t, words),
+			"rows --explain --firm": aReader(t, isLoose, words, comesSome),
+			"rows --converge":       aReader(t, isLoose, whyLoose, words),
 		} {
 			_, err := program.Answer(aStream("a", "b", "c"))
 			var failed *Failed
@@ -214,7 +245,7 @@ func TestAProgramThatHangsInAStream(t *testing.T) {
 
 // What was written for the program is in memory no more once it is answered.
 func TestWhatIsAnsweredIsNotKept(t *testing.T) {
-	program := aProgram(t, "case $* in *explain*) "+storeDiffers+notFirmB+counted(3, 0)+"exit 1;; *) echo converging; "+paired(1, 0)+";; esac")
+	program := aReader(t, isLoose, whyLoose, comesSome)
 	var pool *Pool
 	var all []*rows.Piece
 	pool = NewPool(program, 2, func(one *rows.Piece, _ *Reply) {

@@ -31,12 +31,14 @@ func (p *Piece) About() string {
 // IsStream says whether it is a stream of rows.
 func (p *Piece) IsStream() bool { return p.ends != nil }
 
-// Some gives the stream of some of its names: the header, and these names' very lines.
-func (p *Piece) Some(names map[string]bool) []byte {
-	some := append([]byte(nil), p.Written[:p.ends[0]]...)
+// Some gives the stream of some of its names: the header, and these names' very lines. It doesn't count those that nothing holds.
+func (p *Piece) Some(names map[string]bool) *Piece {
+	some := &Piece{Folder: p.Folder, Own: p.Own, Written: append([]byte(nil), p.Written[:p.ends[0]]...), ends: p.ends[:1:1]}
 	for place, row := range p.Rows {
 		if names[row.Name] {
-			some = append(some, p.Written[p.ends[place]:p.ends[place+1]]...)
+			some.Rows = append(some.Rows, row)
+			some.Written = append(some.Written, p.Written[p.ends[place]:p.ends[place+1]]...)
+			some.ends = append(some.ends, len(some.Written))
 		}
 	}
 	return some

@@ -317,8 +317,8 @@ func TestSomeNamesOfAStream(t *testing.T) {
 				some = append(some, row)
 			}
 		}
-		if due, _ := streamed(threeDevices(), some); !bytes.Equal(made[0].Some(names), due[0].Written) {
-			t.Fatalf("%v: %s, not %s", names, made[0].Some(names), due[0].Written)
+		if due, _ := streamed(threeDevices(), some); !reflect.DeepEqual(made[0].Some(names), due[0]) {
+			t.Fatalf("%v: %+v, not %+v", names, made[0].Some(names), due[0])
 		}
 	}
 }
