@@ -17,6 +17,7 @@ type cut struct {
 // member is what is said of one device.
 type member struct {
 	join.Member
+	begin      string // of what a row says of it
 	own, store list
 	views      []viewed // by their places in the device's part
 }
@@ -25,6 +26,7 @@ type member struct {
 type viewed struct {
 	about  part.View
 	number uint64
+	begin  string // of what a row says of it
 	list
 }
 
@@ -32,16 +34,20 @@ type viewed struct {
 func cutOf(folder *join.Folder) *cut {
 	made := &cut{folder: folder}
 	for _, from := range folder.Members {
-		next := &member{Member: from, views: make([]viewed, len(from.About.Views))}
+		next := &member{Member: from, begin: beginOf(from.Number), views: make([]viewed, len(from.About.Views))}
 		for place, of := range from.About.Views {
 			if folder.Member(of.Device) >= 0 {
-				next.views[place] = viewed{about: of, number: part.Number(of.Device)}
+				number := part.Number(of.Device)
+				next.views[place] = viewed{about: of, number: number, begin: beginOf(number)}
 			}
 		}
 		made.members = append(made.members, next)
 	}
 	return made
 }
+
+// beginOf begins a list whose first item is a device.
+func beginOf(device uint64) string { return fmt.Sprintf("[%d,", device) }
 
 // takeSequences takes the sequence numbers of a name, and says whether another name has one of them.
 func (c *cut) takeSequences(row *join.Row) *part.LeftOut {

@@ -203,9 +203,7 @@ func (r *row) addCell(in *cut, of *cell) {
 		r.text(",")
 	}
 	from := in.members[of.member]
-	r.text("[")
-	r.written = strconv.AppendUint(r.written, from.Number, 10)
-	r.text(",")
+	r.text(from.begin)
 	r.written = strconv.AppendInt(r.written, int64(of.own), 10)
 	r.text(",")
 	r.written = strconv.AppendInt(r.written, int64(of.node), 10)
@@ -214,9 +212,7 @@ func (r *row) addCell(in *cut, of *cell) {
 		if place > 0 {
 			r.text(",")
 		}
-		r.text("[")
-		r.written = strconv.AppendUint(r.written, from.views[seen.view].number, 10)
-		r.text(",")
+		r.text(from.views[seen.view].begin)
 		r.written = strconv.AppendInt(r.written, int64(seen.record), 10)
 		r.text("]")
 	}
