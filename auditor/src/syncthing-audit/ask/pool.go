@@ -47,7 +47,7 @@ func (p *Pool) work() {
 			continue
 		}
 		reply, err := p.program.Answer(piece)
-		piece.Written = nil
+		piece.Drop()
 		p.put(answered{piece, reply}, err)
 	}
 }

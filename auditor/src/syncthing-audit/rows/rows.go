@@ -31,6 +31,14 @@ func (p *Piece) About() string {
 // IsStream says whether it is a stream of rows.
 func (p *Piece) IsStream() bool { return p.ends != nil }
 
+// Drop gives up what is written, once it is answered. A later stream is written in the room of one.
+func (p *Piece) Drop() {
+	if p.IsStream() {
+		rooms.Put(p.Written)
+	}
+	p.Written = nil
+}
+
 // Some gives the stream of some of its names: the header, and these names' very lines. It doesn't count those that nothing holds.
 func (p *Piece) Some(names map[string]bool) *Piece {
 	some := &Piece{Folder: p.Folder, Own: p.Own, Written: append([]byte(nil), p.Written[:p.ends[0]]...), ends: p.ends[:1:1]}

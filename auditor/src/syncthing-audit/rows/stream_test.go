@@ -322,3 +322,19 @@ func TestSomeNamesOfAStream(t *testing.T) {
 		}
 	}
 }
+
+// A later stream is written in the room of one that is answered, and in no other one's.
+func TestTheRoomOfAnAnsweredStream(t *testing.T) {
+	of := func(name string) *Piece {
+		made, _ := streamed(twoDevices(), []*join.Row{rowOf(name, 1, 5)})
+		return made[0]
+	}
+	kept, dropped := of("kept"), of("dropped")
+	due := string(kept.Written)
+	dropped.Drop()
+	for place := 0; place < 9; place++ {
+		if next := of("later"); dropped.Written != nil || string(kept.Written) != due || string(next.Written) != strings.ReplaceAll(due, "kept", "later") {
+			t.Fatalf("%q is dropped, %q is kept, %q comes later", dropped.Written, kept.Written, next.Written)
+		}
+	}
+}
