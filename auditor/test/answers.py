@@ -5,7 +5,7 @@ import subprocess
 import sys
 from pathlib import Path
 
-from exporting import in_step
+from exporting import IN_STEP
 from syncthing import FOLDER
 
 SCHEMA = Path(__file__).with_name("audit_schema.py")
@@ -28,7 +28,7 @@ class Answers:
     def test_a_person_reads_that_all_is_in_step(self):
         status, text = self.answer()
         self.assertEqual(status, 0)
-        self.assertRegex(text.splitlines()[0], rf"^{FOLDER}: {in_step()}; 6 names \(1 deleted\), .* hashed on ")
+        self.assertRegex(text.splitlines()[0], rf"^{FOLDER}: {IN_STEP}; 6 names \(1 deleted\), .* hashed on ")
         self.assertNotIn("to do:", text)
 
     def test_a_person_reads_of_a_file_once(self):

@@ -13,7 +13,7 @@ from contextlib import contextmanager
 from pathlib import Path
 
 from answers import SCHEMA, STATUS_MISSING
-from exporting import in_step, main, run
+from exporting import IN_STEP, main, run
 from live_looks import Live
 from syncthing import FOLDER, wait_until, wait_until_in_step
 
@@ -113,7 +113,7 @@ class ScanUnderWay(Live):
             self.one.api("PATCH", f"config/folders/{FOLDER}", {"paused": False})
             wait_until_in_step(*self.devices)
         self.assertEqual(ran.returncode, 0, ran.stdout + ran.stderr)
-        self.assertIn(in_step(), ran.stdout)
+        self.assertIn(IN_STEP, ran.stdout)
         self.assertIn(f"not running: Syncthing on {self.two.id[:7]} ({FOLDER})", " ".join(ran.stdout.split()))
 
 

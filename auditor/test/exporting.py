@@ -1,7 +1,6 @@
 """Real Syncthing devices in step, stopped, and the audit run on them."""
 
 import contextlib
-import functools
 import json
 import os
 import shutil
@@ -25,7 +24,8 @@ BUILT = SOURCES.parent / "crates/syncaudit/out/syncaudit"
 STAND_IN = Path(__file__).with_name("stand_in.py")
 # The variable with the time, by the monotonic clock, from which on no case is begun.
 UNTIL = "SYNCTHING_AUDIT_UNTIL"
-STATUS_OF_USAGE = 3
+# What a person reads of a folder that is in step and firm.
+IN_STEP = "in step and firm"
 NOT_SIGNED = "not signed: the part of "
 STATUSES = {"settled": 0, "settled as far as audited": 6}
 
@@ -86,21 +86,17 @@ def auditor():
     return os.environ.get("SYNCAUDIT") or str(BUILT if BUILT.exists() else STAND_IN)
 
 
-@functools.cache
-def knows_firm():
-    """Whether the program that audits says whether a cut is firm; an older one doesn't know what that is."""
-    asked = subprocess.run([auditor(), "firm"], stdin=subprocess.DEVNULL, capture_output=True)
-    return asked.returncode != STATUS_OF_USAGE
-
-
-def in_step():
-    """What a person reads of a folder that is in step, and firm where that is asked."""
-    return "in step and firm" if knows_firm() else "in step"
+def put_replies(documents):
+    """Puts the whole answer to each exported document beside it."""
+    for document in documents.glob("cut-*.json"):
+        replies = [subprocess.run([auditor(), *words], input=document.read_bytes(), capture_output=True).stdout
+                   for words in (["check", "--certify"], ["explain", "--certify"], ["firm", "--certify"], ["converge"])]
+        document.with_suffix(".reply").write_bytes(b"".join(replies))
 
 
 def is_on_firmness(line):
-    """Whether a line says that a folder is firm, what keeps it from that, or that it wasn't asked."""
-    return line.startswith(("firm: ", "not firm: ", "not known to be firm: ", "may change by itself: ", "firm wasn't asked: "))
+    """Whether a line says that a folder is firm, or what keeps it from that."""
+    return line.startswith(("firm: ", "not firm: ", "not known to be firm: ", "may change by itself: "))
 
 
 def without_devices(lines):
@@ -110,7 +106,7 @@ def without_devices(lines):
 
 def is_on_convergence(line):
     """Whether a line says whether a folder comes right by itself."""
-    return line.startswith(("converging: ", "not converging: ", "not known to converge: ", "converging wasn't asked: "))
+    return line.startswith(("converging: ", "not converging: ", "not known to converge: "))
 
 
 def without_firmness(lines):

@@ -8,11 +8,9 @@ $SECONDS_OF_STANDING says how long firm devices are let run, which is 20 where i
 
 import json
 import os
-import subprocess
 import time
-import unittest
 
-from exporting import STAND_IN, Exporting, in_step, knows_firm, main, run, without_devices, without_firmness
+from exporting import IN_STEP, STAND_IN, Exporting, main, put_replies, run, without_devices
 from syncthing import FOLDER, wait_until, wait_until_in_step
 
 SECONDS_OF_STANDING = float(os.environ.get("SECONDS_OF_STANDING", 20))
@@ -29,8 +27,6 @@ class Firm(Exporting):
 
     @classmethod
     def setUpClass(cls):
-        if not knows_firm():
-            raise unittest.SkipTest("the program that answers is too old to say whether a cut is firm")
         super().setUpClass()
         cls.three = cls.devices[2]
 
@@ -47,7 +43,7 @@ class Firm(Exporting):
     def test_in_step_is_firm(self):
         self.assert_firm()
         ran = self.answer()
-        self.assertIn(f"{FOLDER}: {in_step()}; 6 names", ran.stdout)
+        self.assertIn(f"{FOLDER}: {IN_STEP}; 6 names", ran.stdout)
         self.assertNotIn("merge versions", ran.stdout + ran.stderr)
         self.assertEqual(json.loads(self.answer("--json").stdout)["firm"], "firm")
 
@@ -87,34 +83,25 @@ class Firm(Exporting):
         self.assert_firm()
 
     def assert_sum(self):
-        """The sum of the answers to exported documents is what 'check' says; without those on firmness it says that these are
-        missing."""
+        """The sum of the answers to exported documents is what 'check' says; one that isn't whole is refused."""
         into = self.room / "documents"
         self.assertEqual(self.export("--into", into).returncode, 0)
-        alone = without_devices(self.check().stdout.splitlines())
-        for words, said in ((("check", "explain", "firm"), alone), (("check", "explain"), without_firmness(alone) + [f"firm wasn't asked: {FOLDER}"])):
-            for document in into.glob("cut-*.json"):
-                certified = self.answered("certify", document.read_bytes())
-                document.with_suffix(".reply").write_bytes(b"".join(self.answered(word, certified) for word in words))
-            ran = run([self.program, "sum", into, "--lines"])
-            self.assertEqual((ran.returncode, without_devices(ran.stdout.splitlines())), (0, said), ran.stderr)
+        put_replies(into)
+        ran = run([self.program, "sum", into, "--lines"])
+        self.assertEqual((ran.returncode, without_devices(ran.stdout.splitlines())), (0, without_devices(self.check().stdout.splitlines())), ran.stderr)
+        reply, = into.glob("cut-*.reply")
+        reply.write_text(reply.read_text().split("not firm: ")[0])
+        ran = run([self.program, "sum", into, "--lines"])
+        self.assertEqual((ran.returncode, ran.stdout), (2, ""))
+        self.assertIn("isn't all there", ran.stderr)
 
-    def answered(self, word, document):
-        """What the program that answers writes of a document."""
-        return subprocess.run([self.auditor, word], input=document, capture_output=True).stdout
-
-    def test_an_older_program_is_asked_what_it_knows(self):
-        if self.auditor != str(STAND_IN):
-            self.skipTest("another program than what stands for it answers")
-        os.environ["WITHOUT_FIRM"] = "1"
-        try:
-            self.assertEqual((self.verdict(), self.firmness), ("settled", [f"firm wasn't asked: {FOLDER}"]))
-            ran = self.answer()
-            self.assertIn(f"{FOLDER}: in step; 6 names", ran.stdout)
-            self.assertIn("is firm, too: this syncaudit is too old", ran.stdout)
-            self.assertEqual(json.loads(self.answer("--json").stdout)["firm"], "not-asked")
-        finally:
-            del os.environ["WITHOUT_FIRM"]
+    def test_an_older_program_is_too_old(self):
+        older = self.room / "older"
+        older.write_text(f'#!/bin/sh\nOLDER=1 exec "{STAND_IN}" "$@"\n')
+        older.chmod(0o755)
+        ran = self.on_homes("check", [device.home for device in self.devices], "--syncaudit", older)
+        self.assertEqual((ran.returncode, ran.stdout), (127, ""))
+        self.assertIn(f"{older} is too old to answer: it doesn't know 'rows ", ran.stderr)
 
     @staticmethod
     def version(device, name):

@@ -21,7 +21,8 @@ SECONDS_OF_PROCESSOR = 60
 # A machine that does much else takes longer by the clock. What hangs in one execution is ended by the target itself.
 SECONDS = 600
 SECONDS_OF_GRACE = 10
-PACKAGES = {"FuzzParts": "audit", "FuzzPackedParts": "part", "FuzzJoins": "audit", "FuzzLooks": "audit", "FuzzReplies": "ask", "FuzzRecord": "wire"}
+PACKAGES = {"FuzzParts": "audit", "FuzzPackedParts": "part", "FuzzJoins": "audit", "FuzzLooks": "audit", "FuzzReplies": "ask", "FuzzStreams": "ask",
+            "FuzzRecord": "wire"}
 
 
 def targets():
@@ -97,6 +98,9 @@ class Fuzzing(unittest.TestCase):
 
     def test_replies(self):
         self.fuzz("FuzzReplies")
+
+    def test_streams(self):
+        self.fuzz("FuzzStreams")
 
     def test_records(self):
         self.fuzz("FuzzRecord")

@@ -10,7 +10,7 @@ import tempfile
 import unittest
 from pathlib import Path
 
-from exporting import PROGRAM, Exporting, auditor, built, is_over, main, run, without_firmness
+from exporting import PROGRAM, Exporting, auditor, built, is_over, main, put_replies, run, without_firmness
 from syncthing import FOLDER
 
 MEGA = 1 << 20
@@ -160,9 +160,7 @@ class ManyFiles(unittest.TestCase):
         ran = run([self.programs / PROGRAM, "sum", into, "--lines"])
         self.assertEqual((ran.returncode, ran.stdout), (2, ""))
         self.assertIn("a document has no answer yet", ran.stderr)
-        answer = f"{auditor()} certify < $1 > $1.c; {auditor()} check < $1.c; {auditor()} explain < $1.c; {auditor()} firm < $1.c; {auditor()} converge < $1"
-        for one in documents:
-            one.with_suffix(".reply").write_text(run(["sh", "-c", answer, "-", one]).stdout)
+        put_replies(into)
         ran = run([self.programs / PROGRAM, "sum", into, "--lines"])
         self.assertEqual((ran.returncode, without_firmness(ran.stdout.splitlines())), (1, lines), ran.stderr)
 

@@ -6,7 +6,7 @@
 
 import os
 
-from exporting import Exporting, in_step, main, run
+from exporting import IN_STEP, Exporting, main, run
 from live_looks import rot
 from syncthing import FOLDER, wait_until
 from unasked import LABEL, OTHER, add_folder
@@ -53,7 +53,7 @@ class LeftOut(Exporting):
         status, lines, stderr = self.told(parts)
         self.assertEqual(status, 1, stderr)
         self.assertTrue([line for line in lines if line.startswith(f"{OTHER} ({LABEL}): NOT in step, 1 name is wrong;")], lines)
-        self.assertTrue([line for line in lines if line.startswith(f"{FOLDER}: {in_step()} as far as audited") and line.endswith("; in motion: 2")], lines)
+        self.assertTrue([line for line in lines if line.startswith(f"{FOLDER}: {IN_STEP} as far as audited") and line.endswith("; in motion: 2")], lines)
         for name in ("late", "text"):
             self.assertIn(f"  {name}: {self.one.id[:7]}: it changed after this part was made", lines)
         earlier, = [line for line in lines if line.startswith("of another moment: ")]

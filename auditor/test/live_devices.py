@@ -9,7 +9,7 @@ import os
 import signal
 import subprocess
 
-from exporting import in_step, main, run
+from exporting import IN_STEP, main, put_replies, run
 from live_looks import Live, rot
 from syncthing import FOLDER, SECONDS_TO_WAIT, wait_until, wait_until_in_step
 
@@ -24,7 +24,7 @@ class LiveDevices(Live):
         self.assertEqual((status, lines), (0, ["settled", f"folder {FOLDER}: 6 names, 1 deleted, 3 devices", "in motion: 0 names"]))
         ran = run([self.program, "check", *self.looks(), "--syncaudit", self.auditor])
         self.assertRegex(ran.stdout.splitlines()[0],
-                         rf"^{FOLDER}: {in_step()}; still for \d+ s: 6 names \(1 deleted\), .* hashed on .*; in motion: 0$")
+                         rf"^{FOLDER}: {IN_STEP}; still for \d+ s: 6 names \(1 deleted\), .* hashed on .*; in motion: 0$")
 
     def test_other_bytes_while_running(self):
         with rot(self.two.files / "folder" / "large", 1000):
@@ -57,10 +57,7 @@ class LiveDevices(Live):
         ran = run([self.program, "export", *self.looks(), "--into", documents])
         self.assertEqual(ran.returncode, 0, ran.stderr)
         self.assertIn("in motion: docs waits,\\x20too on ", ran.stderr)
-        for document in documents.glob("cut-*.json"):
-            certified = subprocess.run([self.auditor, "certify"], input=document.read_bytes(), capture_output=True, check=True).stdout
-            document.with_suffix(".reply").write_bytes(b"".join(subprocess.run([self.auditor, word], input=certified, capture_output=True).stdout
-                                                                for word in ("check", "explain", "firm", "converge")))
+        put_replies(documents)
         ran = run([self.program, "sum", documents, "--lines"])
         self.assertEqual((ran.returncode, self.without_times(ran)), (status, lines))
 

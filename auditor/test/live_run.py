@@ -15,7 +15,7 @@ import sys
 from pathlib import Path
 
 from answers import SCHEMA, STATUS_MISSING
-from exporting import in_step, main, make_endless, run, to_the_end
+from exporting import IN_STEP, main, make_endless, run, to_the_end
 from live_looks import Live, rot
 from syncthing import FOLDER, SECONDS_TO_WAIT, wait_until, wait_until_in_step
 
@@ -78,7 +78,7 @@ cd "{room}/$machine/user" && HOME=$PWD PATH={programs}:$PATH exec sh -c "$*"
     def test_in_step(self):
         ran = self.run_on()
         self.assertEqual(ran.returncode, 0, ran.stderr)
-        self.assertRegex(ran.stdout.splitlines()[0], rf"^{FOLDER}: {in_step()}; still for \d+ s: 6 names .*; in motion: 0$")
+        self.assertRegex(ran.stdout.splitlines()[0], rf"^{FOLDER}: {IN_STEP}; still for \d+ s: 6 names .*; in motion: 0$")
 
     def test_a_machine_keeps_its_device(self):
         """Which device each machine is, is told and kept as it is met first. Another one there is refused before any look."""

@@ -15,12 +15,12 @@ import unittest
 from pathlib import Path
 from types import SimpleNamespace
 
-from exporting import PROGRAM, auditor, built, in_step, is_over, main, make_endless, run, shown, to_the_end
+from exporting import IN_STEP, PROGRAM, auditor, built, is_over, main, make_endless, run, shown, to_the_end
 from syncthing import SECONDS_TO_WAIT, wait_until
 
 FILES = 2000
 SIGNALS = (signal.SIGINT, signal.SIGTERM, signal.SIGHUP)
-SETTLED = f"docs: {in_step()}; {FILES + FILES // 100:,} names (0 deleted), "
+SETTLED = f"docs: {IN_STEP}; {FILES + FILES // 100:,} names (0 deleted), "
 
 
 def has_open_below(process, directory):

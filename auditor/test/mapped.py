@@ -8,7 +8,7 @@ import subprocess
 import unittest
 import xml.etree.ElementTree as xml
 
-from exporting import Exporting, in_step, main, run
+from exporting import IN_STEP, Exporting, main, run
 from live_looks import rot
 from syncthing import FOLDER
 
@@ -67,7 +67,7 @@ class Mapped(Exporting):
 
     def test_a_stopped_container(self):
         status, told, stderr = self.of_homes(*self.maps)
-        self.assertEqual((status, told.startswith(f"{FOLDER}: {in_step()};")), (0, True), told + stderr)
+        self.assertEqual((status, told.startswith(f"{FOLDER}: {IN_STEP};")), (0, True), told + stderr)
         with rot(self.two.files / "folder" / "large", 1000):
             status, told, stderr = self.of_homes(*self.maps)
         self.assertEqual((status, "folder/large" in told), (1, True), told + stderr)
@@ -83,7 +83,7 @@ class Mapped(Exporting):
         finally:
             self.stop()
         for status, told, stderr in (still, rescanned):
-            self.assertEqual((status, told.startswith(f"{FOLDER}: {in_step()};")), (0, True), told + stderr)
+            self.assertEqual((status, told.startswith(f"{FOLDER}: {IN_STEP};")), (0, True), told + stderr)
         status, told, stderr = rotten
         self.assertEqual((status, "folder/large" in told), (1, True), told + stderr)
 
@@ -92,7 +92,7 @@ class Mapped(Exporting):
         maps = f'<map from="~" to="{self.outside}"/><map from="{self.inside}" to="{self.outside}"/>'
         configuration.write_text(f'<watch><device place="{self.one.home}"/><device place="{self.two.home}">{maps}</device><state path="{self.room}/state"/></watch>')
         status, told, stderr = self.told("watch", configuration, "--still", "0", "--syncaudit", self.auditor)
-        self.assertEqual((status, told.startswith(f"{FOLDER}: {in_step()};")), (0, True), told + stderr)
+        self.assertEqual((status, told.startswith(f"{FOLDER}: {IN_STEP};")), (0, True), told + stderr)
 
     def test_without_its_maps(self):
         """The device is left out, and told; with a map that lacks a folder, too."""

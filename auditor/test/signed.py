@@ -11,7 +11,7 @@ import shutil
 import subprocess
 import unittest
 
-from exporting import NOT_SIGNED, Exporting, main, run, shown
+from exporting import NOT_SIGNED, Exporting, main, put_replies, run, shown
 from syncthing import FOLDER
 
 
@@ -87,9 +87,7 @@ class Signed(Exporting):
         documents = self.room / "documents"
         for named in ((), ("--allowed-signers", self.signers)):
             ran = run([self.program, "export", *self.parts, "--into", documents, *named], check=True)
-            for document in documents.glob("cut-*.json"):
-                text = "".join(run([self.auditor, command, "--certify"], input=document.read_text()).stdout for command in ("check", "explain", "firm"))
-                document.with_suffix(".reply").write_text(text)
+            put_replies(documents)
             told = run([self.program, "sum", documents]).stdout
             self.assertEqual(("not signed: 2 parts" in told, f"{FOLDER}: in step" in told), (not named, True), told)
             shutil.rmtree(documents)

@@ -10,7 +10,7 @@ import json
 import os
 import re
 
-from exporting import Exporting, in_step, main, run, shown, without_firmness
+from exporting import IN_STEP, Exporting, main, put_replies, run, shown, without_firmness
 from live_looks import Live, rot
 from syncthing import FOLDER
 
@@ -186,9 +186,7 @@ class Slices(Exporting):
             ran = run([self.program, "export", *parts, *words, "--into", into])
             self.assertEqual(ran.returncode, 0, ran.stderr)
             self.assertIn(f"not asked for: names of {FOLDER} outside slice {number} of 7\n", ran.stderr)
-            for document in into.glob("cut-*.json"):
-                text = "".join(run([self.auditor, command, "--certify"], input=document.read_text()).stdout for command in ("check", "explain", "firm"))
-                document.with_suffix(".reply").write_text(text)
+            put_replies(into)
             ran = run([self.program, "sum", into])
             self.assertEqual(ran.returncode, status, ran.stderr)
             self.assertIn(f"names outside slice {number} of 7", ran.stdout)
@@ -245,7 +243,7 @@ class SlicesOfRunningDevices(Live):
                 self.assertEqual(ran.returncode, int(number == slice_of(name)), ran.stderr + ran.stdout)
                 self.assertIn(f"\nnot asked for: names outside slice {number} of 7 (in all: ", ran.stdout)
                 if number != slice_of(name):
-                    self.assertTrue(ran.stdout.startswith(f"{FOLDER}: {in_step()}; still for "), ran.stdout)
+                    self.assertTrue(ran.stdout.startswith(f"{FOLDER}: {IN_STEP}; still for "), ran.stdout)
 
 
 if __name__ == "__main__":

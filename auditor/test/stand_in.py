@@ -1,5 +1,5 @@
 #!/usr/bin/env python3
-"""Stands for the program `syncaudit` where it isn't built: `certify`, `converge`, `rows --firm`, and `check`, `firm` and
+"""Stands for the program `syncaudit` where it isn't built: `certify`, `converge`, `rows`, and `check`, `firm` and
 `explain`, each also with `--certify`, by the second reading in second/. It explains without what is indented.
 
     auditor/test/stand_in.py certify < CUT
@@ -8,10 +8,9 @@
     auditor/test/stand_in.py explain < DOCUMENT
     auditor/test/stand_in.py check --certify < CUT
     auditor/test/stand_in.py converge < CUT
-    auditor/test/stand_in.py rows --firm < ROWS
+    auditor/test/stand_in.py rows [--firm | --converge] [--explain] < ROWS
 
-CUT is what is exported, without a certificate. Where $WITHOUT_FIRM is set, it doesn't know
-`firm`, `converge`, `rows` and `--certify`, as an older program.
+CUT is what is exported, without a certificate. Where $OLDER is set, it knows no stream of rows, as an older program.
 """
 
 import os
@@ -53,17 +52,23 @@ def say_whether_it_converges(written):
     return converge.answers(written)[0]
 
 
+def answer_rows(stream, flags):
+    """What `syncaudit rows` writes for the stream with these flags but for what is indented, and its exit status."""
+    aim = "converging" if "--converge" in flags else "firm" if "--firm" in flags else "settled"
+    return row_stream.answer(stream, aim, "--explain" in flags)
+
+
 COMMANDS = {"certify": certify, "check": answer, "explain": explain, "firm": say_whether_firm, "converge": say_whether_it_converges}
 STATUS_OF_USAGE = 3
 
 
 def main():
     word, *flags = sys.argv[1:]
-    if word not in (*COMMANDS, "rows") or (word in ("firm", "converge", "rows") or flags) and "WITHOUT_FIRM" in os.environ:
+    if word not in (*COMMANDS, "rows") or word == "rows" and "OLDER" in os.environ:
         sys.exit(STATUS_OF_USAGE)
     document = sys.stdin.buffer.read()
     if word == "rows":
-        said, status = row_stream.answer(document, "firm" if flags else "settled")
+        said, status = answer_rows(document, flags)
     else:
         said, status = under_winners.answers(document)[word] if flags else COMMANDS[word](document)
     sys.stdout.buffer.write(said)

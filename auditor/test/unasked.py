@@ -8,7 +8,7 @@ import gzip
 import json
 import xml.etree.ElementTree as xml
 
-from exporting import Exporting, in_step, main, run, shown
+from exporting import IN_STEP, Exporting, main, put_replies, run, shown
 from live_looks import rot
 from syncthing import FOLDER, Device
 
@@ -183,7 +183,7 @@ class AwayFolders(Exporting):
         self.assertEqual(ran.returncode, 6, ran.stderr)
         told = f"left out: {OTHER} ({LABEL}) of {self.two.id}: it is paused there, and {why or f'there is no {self.files}'}: mount its disk, and audit again\n"
         self.assertEqual(ran.stdout.count(told), 1, ran.stdout)
-        self.assertRegex(ran.stdout, rf"(?m)^{FOLDER}: {in_step()}[;,] ")
+        self.assertRegex(ran.stdout, rf"(?m)^{FOLDER}: {IN_STEP}[;,] ")
         self.assertNotIn("not audited:", ran.stdout)
 
     def test_it_is_left_out_and_told(self):
@@ -221,7 +221,7 @@ class AwayFolders(Exporting):
             self.pause(self.two, True)
         why = f"{OTHER} ({LABEL}) of {self.two.id}: there is no {self.files}: mount its disk, and audit again. Syncthing has stopped the folder there\n"
         self.assertEqual((ran.returncode, ran.stdout.count(f"left out: {why}")), (6, 1), ran.stdout)
-        self.assertRegex(ran.stdout, rf"(?m)^{FOLDER}: .*{in_step()}[;,] ")
+        self.assertRegex(ran.stdout, rf"(?m)^{FOLDER}: .*{IN_STEP}[;,] ")
         self.assertEqual((strict.returncode, strict.stdout), (2, ""))
         self.assertIn(f"there is no {self.files}: mount its disk", strict.stderr)
         self.assertEqual(part.returncode, 2)
@@ -309,7 +309,7 @@ class OwnFolders(Exporting):
                 for words in ([], ["--folder", FOLDER]):
                     status, text = self.told("check", *inputs, *words)
                     self.assertEqual(status, 6, text)
-                    self.assertEqual(len([line for line in text.splitlines() if line.startswith(f"{FOLDER}: {in_step()} as far as audited")]), 2, text)
+                    self.assertEqual(len([line for line in text.splitlines() if line.startswith(f"{FOLDER}: {IN_STEP} as far as audited")]), 2, text)
                     self.assertIn(f"\nnot shared with one another: {FOLDER} on {names}: each has a folder of this id, and shares it with no device. ", text)
                     self.assertIn("alone, and not with what the others have\n", text)
             self.assertEqual(self.told("run", *(device.home for device in self.devices), "--still", "0", "--folder", FOLDER)[0], 6)
@@ -321,9 +321,7 @@ class OwnFolders(Exporting):
     def test_the_sum_of_their_documents(self):
         into = self.room / "documents"
         self.assertEqual(run([self.program, "export", *self.inputs()[1], "--into", into]).returncode, 0)
-        for document in into.glob("cut-*.json"):
-            replies = [run([self.auditor, *words, "--certify"], input=document.read_text()).stdout for words in (["check"], ["explain"], ["firm"])]
-            document.with_suffix(".reply").write_text("".join(replies))
+        put_replies(into)
         ran = run([self.program, "sum", into])
         self.assertEqual((ran.returncode, ran.stdout), self.told("check", *self.inputs()[1]))
 

@@ -16,7 +16,7 @@ import time
 import unittest
 from pathlib import Path
 
-from exporting import PROGRAM, auditor, built, in_step, is_over, main, run
+from exporting import IN_STEP, PROGRAM, auditor, built, is_over, main, run
 from large_folders import rot
 
 CONTRIB = Path(__file__).resolve().parents[1] / "nightly"
@@ -90,7 +90,7 @@ class Watched(Nights):
         status, text, mails = self.night()
         self.assertEqual((status, self.subjects(mails)), (0, ["first night: in step"]), self.printed)
         self.assertIn("\n2 devices, 0 MB read\ndocs: ", mails)
-        self.assertTrue(text.startswith(f"docs: {in_step()}; still for 0 s: 21 names "), text)
+        self.assertTrue(text.startswith(f"docs: {IN_STEP}; still for 0 s: 21 names "), text)
         self.assertEqual(self.night()[::2], (0, ""))
         state = json.loads((self.state / "watch.json").read_text())
         self.assertEqual((state["month"], state["untold"]), (time.strftime("%Y-%m"), False))

@@ -7,7 +7,7 @@
 import os
 import xml.etree.ElementTree as xml
 
-from exporting import Exporting, knows_firm, main
+from exporting import IN_STEP, Exporting, main
 from syncthing import wait_until
 
 YEARS_AGO = 1600000000
@@ -42,8 +42,7 @@ class OldVersionsInside(Exporting):
         self.keep_versions_in("old")
         self.assertIn(f"written by others: docs by the old versions of docs on {self.two.id[:7]}: Syncthing writes and deletes in its directory",
                       self.told())
-        if knows_firm():
-            self.assertIn("in step and firm", self.told())
+        self.assertIn(IN_STEP, self.told())
         self.start()
         wait_until("old versions are cleaned", lambda: not (self.two.files / "old" / "letter").exists())
         self.two.scan()

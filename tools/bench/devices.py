@@ -193,9 +193,8 @@ def measure_export(room, asked):
 
 def answer(document, auditor):
     """Has an exported document answered, as `sum` wants it."""
-    certified = subprocess.run([auditor, "certify"], input=document.read_bytes(), stdout=subprocess.PIPE, check=True).stdout
-    answers = [subprocess.run([auditor, word], input=certified, stdout=subprocess.PIPE).stdout
-               for word in ("check", "explain", "firm")]
+    answers = [subprocess.run([auditor, *words], input=document.read_bytes(), stdout=subprocess.PIPE).stdout
+               for words in (["check", "--certify"], ["explain", "--certify"], ["firm", "--certify"], ["converge"])]
     document.with_suffix(".reply").write_bytes(b"".join(answers))
 
 

@@ -6,11 +6,11 @@ import (
 	"syncthing-audit/ask"
 	"syncthing-audit/audit"
 	"syncthing-audit/commandline"
-	"syncthing-audit/document"
 	"syncthing-audit/exit"
 	"syncthing-audit/finding"
 	"syncthing-audit/inputs"
 	"syncthing-audit/join"
+	"syncthing-audit/rows"
 )
 
 // Check joins homes and parts, and answers.
@@ -53,13 +53,13 @@ func Of(opened *inputs.Inputs, asked commandline.Options, program ask.Program) (
 		return nil, err
 	}
 	replies := audit.NewReplies()
-	pool := ask.NewPool(program, asked.Jobs, func(next *document.Document, reply *ask.Reply) {
+	pool := ask.NewPool(program, asked.Jobs, func(next *rows.Piece, reply *ask.Reply) {
 		replies.Take(next, reply)
 		opened.Work.Answered.Store(int64(next.Place) + 1)
 	})
 	options := opened.Options(asked)
-	options.AsStreams = !asked.Bytes
-	answer, err := audit.Collect(plan, options, func(next *document.Document) error {
+	options.AsRows = !asked.Bytes
+	answer, err := audit.Collect(plan, options, func(next *rows.Piece) error {
 		opened.Work.Asked.Add(1)
 		return pool.Ask(next)
 	})

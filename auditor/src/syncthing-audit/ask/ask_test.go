@@ -5,19 +5,125 @@ import (
 	"fmt"
 	"os"
 	"path/filepath"
-	"reflect"
 	"strings"
 	"testing"
 
-	"syncthing-audit/document"
 	"syncthing-audit/finding"
+	"syncthing-audit/release"
+	"syncthing-audit/rows"
 )
 
 // Whoever has no program is told how to name it.
 func TestWhatIsToldWithoutAProgram(t *testing.T) {
-	err := Program{Path: "/nowhere/syncaudit"}.Find()
-	if err == nil || !strings.Contains(err.Error(), "--syncaudit FILE or $SYNCAUDIT") {
+	none := filepath.Join(t.TempDir(), "none")
+	err := Program{Path: none}.Find()
+	if err == nil || !strings.HasPrefix(err.Error(), none+" can't be run: ") || !strings.Contains(err.Error(), "--syncaudit FILE or $SYNCAUDIT") {
 		t.Error(err)
+	}
+	if found := (Program{Path: "/bin/sh"}).Find(); found != nil {
+		t.Error(found)
+	}
+}
+
+// aDocument gives a document of a folder.
+func aDocument() *rows.Piece { return &rows.Piece{Folder: "docs", Written: []byte("{}")} }
+
+// Words of a shell for what a program writes of a document of one name.
+const (
+	countsOfOne = "echo 'folder docs: 1 names, 0 deleted, 2 devices'; "
+	pairsOfOne  = "echo 'folder docs: 1 names, 0 deleted, 2 devices, 1 pairs not yet at the winner'; "
+	isFirm      = "echo firm; " + countsOfOne
+	isSettled   = "echo settled; " + countsOfOne
+	converges   = "echo converging; " + pairsOfOne
+)
+
+// What is firm is asked no more: it is settled. Of other documents all is asked.
+func TestWhatAProgramIsAskedOfADocument(t *testing.T) {
+	const all = "firm --certify,check --certify,explain --certify,converge,"
+	for _, row := range []struct {
+		firm, check, explain string
+		asked                string
+		failures             int
+		notFirm              bool
+	}{
+		{isFirm, "exit 9", "exit 9", "firm --certify,", 0, false},
+		{"echo 'not firm: ViewNotBelow docs a on 1'; " + countsOfOne + "exit 1", isSettled, "echo settled", all, 0, true},
+		{"echo 'not firm: NotWinner docs a'; " + countsOfOne + "exit 1", "echo 'not settled: NotWinner docs a'; " + countsOfOne + "exit 1", "echo NotWinner docs a; exit 1", all, 1, false},
+	} {
+		log := filepath.Join(t.TempDir(), "log")
+		program := aProgram(t, "printf '%s,' \"$*\" >> '"+log+"'\n[ \"$(cat)\" = {} ] || exit 9; case $1 in firm) "+row.firm+";; check) "+row.check+";; explain) "+row.explain+
+			";; converge) "+converges+";; esac")
+		reply, err := program.Answer(aDocument())
+		asked, _ := os.ReadFile(log)
+		if err != nil || string(asked) != row.asked || reply.Names != 1 || len(reply.Failures) != row.failures || (reply.NotFirm != nil) != row.notFirm ||
+			(reply.Convergence.Pairs == nil) != (row.asked != all) {
+			t.Errorf("%s: %+v, %v, asked %s", row.firm, reply, err, asked)
+		}
+	}
+}
+
+// Whatever a program fails in is told with its status, in the words that it was asked by.
+func TestAProgramThatFailsInEachCommand(t *testing.T) {
+	const loose = `firm) echo "not firm: VersionDiffers docs a on 1"; ` + countsOfOne + `exit 1;; `
+	for word, answers := range map[string]string{
+		"firm --certify":    "",
+		"check --certify":   loose,
+		"explain --certify": loose + "check) " + isSettled + ";; ",
+		"converge":          loose + "check) " + isSettled + ";; explain) echo settled;; ",
+	} {
+		for _, status := range []int{2, 4, 5, 126} {
+			program := aProgram(t, fmt.Sprintf(`case $1 in %s *) echo "it is out of luck" >&2; exit %d;; esac`, answers, status))
+			_, err := program.Answer(aDocument())
+			due := fmt.Sprintf("'%s %s' ended with exit status %d: it is out of luck", program.Path, word, status)
+			var failed *Failed
+			if !errors.As(err, &failed) || failed.Status != status || err.Error() != due {
+				t.Errorf("%s: %v", word, err)
+			}
+		}
+	}
+	var failed *Failed
+	if _, err := aProgram(t, "kill -9 $$").Answer(aDocument()); !errors.As(err, &failed) || failed.Status != StatusCannotRun {
+		t.Errorf("a program that is killed: %v", err)
+	}
+}
+
+// A program that doesn't know what it is asked is too old, and that is told as of one that can't be run.
+func TestAProgramThatIsTooOld(t *testing.T) {
+	for words, row := range map[string]struct {
+		knows string
+		asked *rows.Piece
+	}{
+		"rows --firm":           {"check | firm | explain | converge", aStream("a", "b", "c")},
+		"rows --explain --firm": {"rows --firm", aStream("a", "b", "c")},
+		"rows --converge":       {"rows --firm | rows --explain --firm", aStream("a", "b", "c")},
+		"firm --certify":        {"check", aDocument()},
+		"converge":              {"firm --certify | check --certify | explain --certify", aDocument()},
+	} {
+		program := aProgram(t, `case "$*" in `+strings.ReplaceAll(row.knows, " --", `\ --`)+`) ;; *) exit 3;; esac; case "$*" in 'rows --firm') `+isLoose+";; rows*) "+whyLoose+";; firm*) "+
+			"echo 'not firm: ViewNotBelow docs a on 1'; "+countsOfOne+"exit 1;; check*) "+isSettled+";; explain*) echo settled;; esac")
+		_, err := program.Answer(row.asked)
+		var failed *Failed
+		if due := program.Path + " is too old to answer: it doesn't know '" + words + "'."; !errors.As(err, &failed) || failed.Status != StatusCannotRun || !strings.HasPrefix(err.Error(), due) ||
+			!strings.Contains(err.Error(), release.Version) {
+			t.Errorf("%s: %v", words, err)
+		}
+	}
+}
+
+// What is no answer is refused, whatever the status is with which the program ends.
+func TestProgramsThatAnswerNothing(t *testing.T) {
+	cases := []struct {
+		program string
+		status  int
+	}{{"/nowhere/syncaudit", StatusCannotRun}, {"/bin/false", statusRefused}, {"/bin/true", statusRefused}}
+	for _, one := range cases {
+		for _, asked := range []*rows.Piece{aDocument(), aStream("a")} {
+			_, err := Program{Path: one.program}.Answer(asked)
+			var failed *Failed
+			if !errors.As(err, &failed) || failed.Status != one.status {
+				t.Errorf("%s: %v", one.program, err)
+			}
+		}
 	}
 }
 
@@ -33,201 +139,44 @@ func TestLines(t *testing.T) {
 		if line := Line("docs", &one.one); line != one.line {
 			t.Errorf("%q, not %q", line, one.line)
 		}
-		if read, is := readFailure("docs", one.line); !is || read != one.one {
+		if read, is := readFailure("docs", one.line, settled); !is || read != one.one {
 			t.Errorf("%q: %v", one.line, read)
 		}
 	}
 	for _, line := range []string{"", "Odd docs a", "NotWinner pics a", "NotWinner docs", `NotWinner docs a\x2`, `NotWinner docs a\y20`, `NotWinner docs a\x2g`,
-		"StoreDiffers docs a at 1", "StoreDiffers docs a on you"} {
-		if read, is := readFailure("docs", line); is {
+		"StoreDiffers docs a at 1", "StoreDiffers docs a on you", "ViewNotBelow docs a on 1", "WouldCopy docs a on 1"} {
+		if read, is := readFailure("docs", line, settled); is {
 			t.Errorf("%q was read as %v", line, read)
 		}
 	}
 }
 
-func TestExplanations(t *testing.T) {
-	failures, err := readFailures("docs", "StoreDiffers docs a on 1\n  winner: device 1\n  store of 1: nothing\nStoreDiffers docs b on 2\n")
-	if err != nil || len(failures) != 2 || failures[1] != (finding.Failure{Reason: "StoreDiffers", Name: "b", Device: 2}) {
-		t.Errorf("%v, %v", failures, err)
-	}
-	for _, report := range []string{"", "  winner: none\n", "settled\n", "StoreDiffers docs b on 1\nStoreDiffers docs a on 1\n",
-		"ViewAhead docs a on 1\nStoreDiffers docs a on 1\n", "StoreDiffers docs a on 1\nStoreDiffers docs a on 1\n"} {
-		if failures, err := readFailures("docs", report); err == nil {
-			t.Errorf("%q was read as %v", report, failures)
+// Each byte of a name is written so that it is read again, and what parts words or ends lines is written by its number.
+func TestEachByteOfAName(t *testing.T) {
+	for number := 0; number < 256; number++ {
+		name := string([]byte{byte(number)})
+		written := Printed(name)
+		isPlain := number >= 0x21 && number != '\\' && number != 0x7f
+		if read, is := unprinted(written); !is || read != name || (written == name) != isPlain {
+			t.Errorf("%q is written as %q, and read as %q", name, written, read)
 		}
 	}
 }
 
-func TestReports(t *testing.T) {
-	reply, line, err := readReport("docs", "settled\nfolder docs: 2 names, 1 deleted, 3 devices\n", settled)
-	if err != nil || line != "settled" || reply.Names != 2 || reply.Deleted != 1 {
-		t.Errorf("%v, %q, %v", reply, line, err)
-	}
-	for _, report := range []string{"", "refused: 184 Range\n", "settled\n", "settled\nfolder pics: 2 names, 1 deleted, 3 devices\n",
-		"odd\nfolder docs: 2 names, 1 deleted, 3 devices\n"} {
-		if _, _, err := readReport("docs", report, settled); err == nil {
-			t.Errorf("%q was taken", report)
-		}
-	}
-}
-
-func TestReplies(t *testing.T) {
-	const counts = "folder docs: 2 names, 1 deleted, 3 devices\n"
-	cases := []struct {
-		text     string
-		good     bool
-		failures int
-	}{
-		{"settled\n" + counts, true, 0},
-		{"settled\n" + counts + "settled\n", true, 0},
-		{"not settled: NotWinner docs a\n" + counts + "NotWinner docs a\n  winner: none\nLocalOnly docs b on 1\n", true, 2},
-		{"not settled: NotWinner docs a\n" + counts, false, 0},
-		{"not settled: NotWinner docs a\n" + counts + "NotWinner docs b\n", false, 0},
-		{"settled\n" + counts + "NotWinner docs b\n", false, 0},
-		{"settled\n", false, 0}, {"settled", false, 0}, {"", false, 0},
-	}
-	for _, one := range cases {
-		reply, err := ReadReply("docs", one.text)
-		if (err == nil) != one.good || err == nil && (len(reply.Failures) != one.failures || reply.Firmness.Asked) {
-			t.Errorf("%q: %v, %v", one.text, reply, err)
-		}
-	}
-}
-
-// What 'firm' says goes with what 'check' and 'explain' say, or isn't taken.
-func TestRepliesOnFirmness(t *testing.T) {
-	const (
-		counts    = "folder docs: 2 names, 1 deleted, 3 devices\n"
-		isSettled = "settled\n" + counts
-		isnt      = "not settled: NotWinner docs a\n" + counts + "NotWinner docs a\n"
-		differs   = "not firm: VersionDiffers docs a on 1\n" + counts
-	)
-	first := &finding.Failure{Reason: "VersionDiffers", Name: "a", Device: 1}
-	cases := []struct {
-		text  string
-		good  bool
-		first *finding.Failure
-	}{
-		{isSettled + "firm\n" + counts, true, nil},
-		{isSettled + "settled\nfirm\n" + counts, true, nil},
-		{isSettled + differs, true, first},
-		{isSettled + "settled\n" + differs, true, first},
-		{isnt + "not firm: NotWinner docs a\n" + counts, true, nil},
-		{isnt + "firm\n" + counts, false, nil},
-		{isnt + differs, false, nil},
-		{isnt + "not firm: NotWinner docs b\n" + counts, false, nil},
-		{isSettled + "not firm: NotWinner docs a\n" + counts, false, nil},
-		{isSettled + "NotWinner docs a\nnot firm: NotWinner docs a\n" + counts, false, nil},
-		{isSettled + "not firm: Odd docs a\n" + counts, false, nil},
-		{isSettled + "firm\nfolder docs: 3 names, 1 deleted, 3 devices\n", false, nil},
-		{isSettled + "firm\n", false, nil},
-		{"not settled: VersionDiffers docs a on 1\n" + counts + "VersionDiffers docs a on 1\n", false, nil},
-	}
-	for _, one := range cases {
-		reply, err := ReadReply("docs", one.text)
-		if (err == nil) != one.good {
-			t.Errorf("%q: %v, %v", one.text, reply, err)
-		}
-		if err == nil && (!reply.Firmness.Asked || !reflect.DeepEqual(reply.Firmness.First, one.first)) {
-			t.Errorf("%q: %+v", one.text, reply.Firmness)
-		}
-	}
-}
-
-// A program is asked for no more than its answers ask for: what is firm is settled, and what isn't settled isn't firm.
-func TestWhatAProgramIsAsked(t *testing.T) {
-	const counts = "echo 'folder docs: 1 names, 0 deleted, 2 devices'"
-	const firm, settled, loose, unwon = "echo firm; " + counts, "echo settled; " + counts,
-		"echo 'not firm: ViewNotBelow docs a on 1'; " + counts + "; exit 1", "echo 'not firm: NotWinner docs a'; " + counts + "; exit 1"
-	const unsettled, explained = "echo 'not settled: NotWinner docs a'; " + counts + "; exit 1", "echo NotWinner docs a; exit 1"
-	cases := []struct{ flag, firm, check, explain, asked string }{
-		{"", firm, "exit 9", "exit 9", "firm --certify,"},
-		{"", loose, settled, "exit 9", "firm --certify,check --certify,converge,"},
-		{"", unwon, "exit 9", explained, "firm --certify,explain --certify,converge,"},
-		// A program that is too old for the flag.
-		{"exit 3", firm, "exit 9", "exit 9", "firm --certify,certify,firm,"},
-		{"exit 3", loose, settled, "exit 9", "firm --certify,certify,firm,check,converge,"},
-		{"exit 3", unwon, "exit 9", explained, "firm --certify,certify,firm,explain,converge,"},
-		// One that is too old for firm.
-		{"exit 3", "exit 3", settled, "exit 9", "firm --certify,certify,firm,check,converge,"},
-		{"exit 3", "exit 3", unsettled, explained, "firm --certify,certify,firm,check,explain,converge,"},
-	}
-	for _, one := range cases {
-		log := filepath.Join(t.TempDir(), "log")
-		program := aProgram(t, "printf '%s,' \"$*\" >> '"+log+"'\ncase \"$2\" in --certify) "+one.flag+";; esac\n"+
-			"case $1 in certify) cat;; firm) "+one.firm+";; check) "+one.check+";; explain) "+one.explain+";; converge) exit 3;; esac")
-		_, err := program.Ask("docs", []byte("{}"))
-		asked, _ := os.ReadFile(log)
-		if err != nil || string(asked) != one.asked {
-			t.Errorf("%s: %q was asked, not %q: %v", one.firm, asked, one.asked, err)
-		}
-	}
-}
-
-// What fails in 'firm' fails, unless it is the usage.
-func TestAProgramThatFailsInFirm(t *testing.T) {
-	for _, status := range []int{2, 4, 5, 126} {
-		program := aProgram(t, fmt.Sprintf(`case $1 in certify) cat;; firm) exit %d;; *) echo settled; echo "folder docs: 1 names, 0 deleted, 2 devices";; esac`, status))
-		_, err := program.Ask("docs", []byte("{}"))
-		var failed *Failed
-		if !errors.As(err, &failed) || failed.Status != status {
-			t.Errorf("%d: %v", status, err)
-		}
-	}
-}
-
-// A program that is too old to audit under the certificate that it makes, and to say whether something is firm, is asked for
-// each of these once.
-func TestAnOldProgram(t *testing.T) {
-	log := filepath.Join(t.TempDir(), "log")
-	program := aProgram(t, "echo $* >> '"+log+`'
-case $1 in certify) cat;; firm | converge) exit 3;; *) echo settled; echo "folder docs: 1 names, 0 deleted, 2 devices";; esac`)
-	unasked := 0
-	pool := NewPool(program, 1, func(_ *document.Document, reply *Reply) {
-		if !reply.Firmness.Asked && !reply.Convergence.Asked {
-			unasked++
-		}
-	})
-	for place := 0; place < 3; place++ {
-		if err := pool.Ask(&document.Document{Folder: "docs", Place: place, Written: []byte("{}")}); err != nil {
-			t.Fatal(err)
-		}
-	}
-	err := pool.Close()
-	asked, _ := os.ReadFile(log)
-	if err != nil || unasked != 3 || strings.Count(string(asked), "firm\n") != 1 || strings.Count(string(asked), "firm --certify\n") != 1 ||
-		strings.Count(string(asked), "converge\n") != 1 {
-		t.Errorf("%d weren't asked, by %q: %v", unasked, asked, err)
-	}
-}
-
-// A program that knows what is firm, and is too old to audit under the certificate that it makes, is asked for that once.
-func TestAProgramWithoutCertificatesOfItsOwn(t *testing.T) {
-	log := filepath.Join(t.TempDir(), "log")
-	program := aProgram(t, "printf '%s,' \"$*\" >> '"+log+`'
-case "$*" in certify) cat;; firm) echo firm; echo "folder docs: 1 names, 0 deleted, 2 devices";; *) exit 3;; esac`)
-	pool := NewPool(program, 1, func(*document.Document, *Reply) {})
-	for place := 0; place < 3; place++ {
-		if err := pool.Ask(&document.Document{Folder: "docs", Place: place, Written: []byte("{}")}); err != nil {
-			t.Fatal(err)
-		}
-	}
-	err := pool.Close()
-	if asked, _ := os.ReadFile(log); err != nil || string(asked) != "firm --certify,certify,firm,certify,firm,certify,firm," {
-		t.Errorf("%s was asked: %v", asked, err)
-	}
-}
-
-func TestProgramsThatFail(t *testing.T) {
-	cases := []struct {
-		program string
-		status  int
-	}{{"/nowhere/syncaudit", StatusCannotRun}, {"/bin/false", statusRefused}, {"/bin/true", statusRefused}}
-	for _, one := range cases {
-		_, err := Program{Path: one.program}.Ask("docs", []byte("{}"))
-		var failed *Failed
-		if !errors.As(err, &failed) || failed.Status != one.status {
-			t.Errorf("%s: %v", one.program, err)
+// A failure for each reason is read as it is written, where an answer may have it.
+func TestEachReason(t *testing.T) {
+	for yes, reasons := range reasonsOf {
+		for _, reason := range reasons {
+			for device := uint64(0); device < 2; device++ {
+				failure := finding.Failure{Reason: reason, Name: "a b", Device: device}
+				if read, is := readFailure("docs", Line("docs", &failure), yes); !is || read != failure {
+					t.Errorf("%v is read as %v", failure, read)
+				}
+				first, is := readVerdict("docs", "not "+yes+": "+Line("docs", &failure), yes)
+				if !is || *first != failure {
+					t.Errorf("%v is read as the verdict %v", failure, first)
+				}
+			}
 		}
 	}
 }

@@ -6,6 +6,7 @@ import (
 	"strconv"
 	"strings"
 
+	"golang.org/x/exp/slices"
 	"syncthing-audit/finding"
 )
 
@@ -52,41 +53,32 @@ func unprinted(text string) (string, bool) {
 	return name.String(), true
 }
 
-// readFailures reads what 'syncaudit explain' writes: what is indented is only said.
-func readFailures(folder, report string) ([]finding.Failure, error) {
+// readFailures reads lines of what an answer isn't yes for; what is indented below is only said. Each one goes behind the last one, which isn't there
+// for the first.
+func readFailures(folder, text, yes string, goesBehind func(last, next *finding.Failure) bool) ([]finding.Failure, error) {
 	failures := []finding.Failure{}
-	for _, line := range strings.Split(strings.TrimSuffix(report, "\n"), "\n") {
-		if strings.HasPrefix(line, " ") {
+	var last *finding.Failure
+	for rest := text; rest != ""; {
+		var line string
+		if line, rest, _ = strings.Cut(rest, "\n"); strings.HasPrefix(line, " ") {
 			continue
 		}
-		failure, is := readFailure(folder, line)
-		if !is || finding.Place(failure.Reason) < 0 {
-			return nil, &Failed{statusRefused, fmt.Sprintf("syncaudit explains %q", line)}
+		next, is := readFailure(folder, line, yes)
+		if !is {
+			return nil, refused("syncaudit tells %q", line)
 		}
-		if last := len(failures) - 1; last >= 0 && !finding.IsBefore(&failures[last], &failure) {
-			return nil, &Failed{statusRefused, fmt.Sprintf("syncaudit explains %q out of its order", line)}
+		if !goesBehind(last, &next) {
+			return nil, refused("syncaudit tells %q out of its order", line)
 		}
-		failures = append(failures, failure)
-	}
-	if len(failures) == 0 {
-		return nil, &Failed{statusRefused, "syncaudit explains nothing"}
+		failures, last = append(failures, next), &next
 	}
 	return failures, nil
 }
 
-// readFailure reads one of its lines.
-func readFailure(folder, line string) (finding.Failure, bool) {
-	failure, is := readLine(folder, line)
-	if !is || finding.Place(failure.Reason) < 0 && !finding.IsFirmReason(failure.Reason) {
-		return finding.Failure{}, false
-	}
-	return failure, true
-}
-
-// readLine reads a line of a reason, whichever that is.
-func readLine(folder, line string) (finding.Failure, bool) {
+// readFailure reads such a line, of a reason for this.
+func readFailure(folder, line, yes string) (finding.Failure, bool) {
 	words := strings.Split(line, " ")
-	if len(words) != 3 && len(words) != 5 || words[1] != folder {
+	if len(words) != 3 && len(words) != 5 || words[1] != folder || !slices.Contains(reasonsOf[yes], words[0]) {
 		return finding.Failure{}, false
 	}
 	name, is := unprinted(words[2])

@@ -3,30 +3,35 @@ package ask
 import (
 	"sync"
 
-	"syncthing-audit/document"
+	"syncthing-audit/rows"
 )
 
-// Pool has several programs at once answer to documents.
+// Pool has several programs at once answer to pieces.
 type Pool struct {
 	program Program
-	asked   chan *document.Document
+	asked   chan *rows.Piece
 	workers sync.WaitGroup
 	mutex   sync.Mutex
 	changed *sync.Cond
-	most    int // how many documents may be asked beyond the one whose reply is due: each is in memory
-	take    func(*document.Document, *Reply)
-	next    int                // the place of the document whose reply is due
-	early   map[int][]Answered // by their documents' places
+	most    int // how many pieces may be asked beyond the one whose reply is due: each is in memory
+	take    func(*rows.Piece, *Reply)
+	next    int              // the place of the piece whose reply is due
+	early   map[int]answered // by their pieces' places
 	err     error
 }
 
-// ahead is how many documents there are at most for each worker, while the reply to an earlier one is awaited.
+// answered is a piece with its reply.
+type answered struct {
+	piece *rows.Piece
+	reply *Reply
+}
+
+// ahead is how many pieces there are at most for each worker, while the reply to an earlier one is awaited.
 const ahead = 3
 
-// NewPool starts so many workers; each reply is given to take, one at a time, in the order of the documents' places.
-func NewPool(program Program, workers int, take func(*document.Document, *Reply)) *Pool {
-	program.lacks = &lacks{}
-	pool := &Pool{program: program, asked: make(chan *document.Document), most: ahead * workers, take: take, early: map[int][]Answered{}}
+// NewPool starts so many workers; each reply is given to take, one at a time, in the order of the pieces' places.
+func NewPool(program Program, workers int, take func(*rows.Piece, *Reply)) *Pool {
+	pool := &Pool{program: program, asked: make(chan *rows.Piece), most: ahead * workers, take: take, early: map[int]answered{}}
 	pool.changed = sync.NewCond(&pool.mutex)
 	for next := 0; next < workers; next++ {
 		pool.workers.Add(1)
@@ -37,18 +42,18 @@ func NewPool(program Program, workers int, take func(*document.Document, *Reply)
 
 func (p *Pool) work() {
 	defer p.workers.Done()
-	for document := range p.asked {
+	for piece := range p.asked {
 		if p.failed() != nil {
 			continue
 		}
-		answered, err := p.program.Answer(document)
-		document.Written = nil
-		p.put(document.Place, answered, err)
+		reply, err := p.program.Answer(piece)
+		piece.Drop()
+		p.put(answered{piece, reply}, err)
 	}
 }
 
-// put takes the replies to a document, and gives on those that are due.
-func (p *Pool) put(place int, answered []Answered, err error) {
+// put takes the reply to a piece, and gives on those that are due.
+func (p *Pool) put(one answered, err error) {
 	p.mutex.Lock()
 	defer p.mutex.Unlock()
 	defer p.changed.Broadcast()
@@ -58,7 +63,7 @@ func (p *Pool) put(place int, answered []Answered, err error) {
 		}
 		return
 	}
-	p.early[place] = answered
+	p.early[one.piece.Place] = one
 	for {
 		due, is := p.early[p.next]
 		if !is {
@@ -66,10 +71,7 @@ func (p *Pool) put(place int, answered []Answered, err error) {
 		}
 		delete(p.early, p.next)
 		p.next++
-		for _, one := range due {
-			one.Document.Written = nil
-			p.take(one.Document, one.Reply)
-		}
+		p.take(due.piece, due.reply)
 	}
 }
 
@@ -80,10 +82,10 @@ func (p *Pool) failed() error {
 	return p.err
 }
 
-// Ask has a document answered to, once a worker is free and not too many replies wait for an earlier one.
-func (p *Pool) Ask(document *document.Document) error {
+// Ask has a piece answered to, once a worker is free and not too many replies wait for an earlier one.
+func (p *Pool) Ask(piece *rows.Piece) error {
 	p.mutex.Lock()
-	for p.err == nil && document.Place-p.next >= p.most {
+	for p.err == nil && piece.Place-p.next >= p.most {
 		p.changed.Wait()
 	}
 	err := p.err
@@ -91,7 +93,7 @@ func (p *Pool) Ask(document *document.Document) error {
 	if err != nil {
 		return err
 	}
-	p.asked <- document
+	p.asked <- piece
 	return nil
 }
 

@@ -8,7 +8,7 @@ import (
 	"sync/atomic"
 	"testing"
 
-	"syncthing-audit/document"
+	"syncthing-audit/rows"
 )
 
 // aProgram gives a program that does what these lines of a shell do.
@@ -23,10 +23,10 @@ func aProgram(t *testing.T, lines string) Program {
 // answersOf gives the places of the documents in the order in which their replies come.
 func answersOf(program Program, count int) ([]int, error) {
 	var places []int
-	var documents []*document.Document
-	pool := NewPool(program, 4, func(one *document.Document, _ *Reply) { places = append(places, one.Place) })
+	var documents []*rows.Piece
+	pool := NewPool(program, 4, func(one *rows.Piece, _ *Reply) { places = append(places, one.Place) })
 	for place := 0; place < count; place++ {
-		documents = append(documents, &document.Document{Folder: "docs", Place: place, Written: []byte{byte('0' + place%10)}})
+		documents = append(documents, &rows.Piece{Folder: "docs", Place: place, Written: []byte{byte('0' + place%10)}})
 		if pool.Ask(documents[place]) != nil {
 			break
 		}
@@ -65,7 +65,7 @@ func TestRepliesThatWaitAreFew(t *testing.T) {
 	program := aProgram(t, `read -r text; case $text in 0) while [ ! -e '`+allowed+`' ]; do sleep 0.1; done; sleep 1;; esac
 echo firm; echo "folder docs: 1 names, 0 deleted, 2 devices"`)
 	var asked, before int64
-	pool := NewPool(program, workers, func(one *document.Document, _ *Reply) {
+	pool := NewPool(program, workers, func(one *rows.Piece, _ *Reply) {
 		if one.Place == 0 {
 			before = atomic.LoadInt64(&asked)
 		}
@@ -78,7 +78,7 @@ echo firm; echo "folder docs: 1 names, 0 deleted, 2 devices"`)
 		if place > 0 {
 			text = "1"
 		}
-		if err := pool.Ask(&document.Document{Folder: "docs", Place: place, Written: []byte(text)}); err != nil {
+		if err := pool.Ask(&rows.Piece{Folder: "docs", Place: place, Written: []byte(text)}); err != nil {
 			t.Fatal(err)
 		}
 		atomic.AddInt64(&asked, 1)

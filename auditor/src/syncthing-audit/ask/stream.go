@@ -1,168 +1,118 @@
 package ask
 
 import (
-	"fmt"
 	"strings"
 
-	"syncthing-audit/document"
+	"golang.org/x/exp/slices"
 	"syncthing-audit/finding"
+	"syncthing-audit/rows"
 )
 
-// Answered is a document with its reply.
-type Answered struct {
-	Document *document.Document
-	Reply    *Reply
-}
-
-// said is what the program says of a stream of rows.
-type said struct {
-	reply *Reply                     // to all names but those that are told; nothing where the program is too old to read a stream
-	told  map[string]finding.Failure // of each name that isn't firm, the first thing that fails
-}
-
-// Answer has the program answer to a document or to a stream of rows. Of a stream it is asked which names aren't firm: what is firm is settled,
-// too. Of these names alone documents are made, and more is asked of them: names are judged apart. A program that is too old to read a stream
-// is asked documents of all names.
-func (p Program) Answer(asked *document.Document) ([]Answered, error) {
-	if !asked.IsStream() {
-		reply, err := p.Ask(asked.Folder, asked.Written)
-		return []Answered{{asked, reply}}, err
-	}
-	said, err := p.readStream(asked)
+// answerStream asks which names of a stream aren't firm: what is firm is settled, too. Of these alone it asks for all that keeps them from that, which
+// takes longer, and whether they come right by themselves.
+func (p Program) answerStream(asked *rows.Piece) (*Reply, error) {
+	loose, report, err := p.stream(asked, firm, "--firm")
 	if err != nil {
 		return nil, err
 	}
-	answered := []Answered{}
-	if said.reply != nil {
-		answered = append(answered, Answered{asked, said.reply})
+	unknown := int64(asked.Unknown)
+	if report.deleted < unknown {
+		return nil, refused("syncaudit's answer to %s counts %d names deleted, and nothing holds %d", asked.About(), report.deleted, unknown)
 	}
-	documents, err := said.documents(asked)
+	reply := &Reply{Names: report.names - unknown, Deleted: report.deleted - unknown}
+	if len(loose) == 0 {
+		return reply, nil
+	}
+	some := asked.Some(namesOf(loose))
+	explained, _, err := p.stream(some, firm, "--explain", "--firm")
 	if err != nil {
 		return nil, err
 	}
-	for _, one := range documents {
-		reply, err := p.Ask(one.Folder, one.Written)
-		if err == nil {
-			err = said.check(one, reply)
-		}
-		if err != nil {
-			return nil, err
-		}
-		answered = append(answered, Answered{one, reply})
+	if !slices.Equal(firsts(explained), loose) {
+		return nil, refused("syncaudit's answers to %s differ", some.About())
 	}
-	return answered, nil
+	_, comes, err := p.stream(some, converging, "--converge")
+	if err != nil {
+		return nil, err
+	}
+	reply.take(explained, comes)
+	return reply, nil
 }
 
-// documents gives documents of the names of which more is to be asked.
-func (s *said) documents(asked *document.Document) ([]*document.Document, error) {
-	if s.reply != nil && len(s.told) == 0 {
-		return nil, nil
+// stream asks this of a stream, and gives the lines on names and the report.
+func (p Program) stream(asked *rows.Piece, yes string, flags ...string) ([]finding.Failure, *report, error) {
+	text, err := p.text(asked.Written, append([]string{"rows"}, flags...)...)
+	if err != nil {
+		return nil, nil, err
 	}
-	made, err := asked.Documents(func(name string) bool {
-		_, isTold := s.told[name]
-		return isTold || s.reply == nil
+	return readStream(asked, text, yes)
+}
+
+// readStream reads an answer to a stream: lines on names, which come in the stream's order, with what is indented below, and a report on all its names,
+// which begins with the first of these lines.
+func readStream(asked *rows.Piece, text, yes string) ([]finding.Failure, *report, error) {
+	behind := beginOfReport(text)
+	report, err := readReport(asked.Folder, text[behind:], yes)
+	if err != nil {
+		return nil, nil, err
+	}
+	at := 0
+	all, err := readFailures(asked.Folder, text[:behind], yes, func(last, next *finding.Failure) bool {
+		for at < len(asked.Rows) && asked.Rows[at].Name != next.Name {
+			at++
+		}
+		return at < len(asked.Rows) && (last == nil || last.Name != next.Name || finding.IsBefore(last, next, reasonsOf[yes]))
 	})
 	if err != nil {
-		return nil, &Failed{statusRefused, err.Error()}
+		return nil, nil, err
 	}
-	return made, nil
+	if first := finding.First(all, reasonsOf[yes]); !isSame(first, report.first) {
+		return nil, nil, refused("syncaudit's answer to %s ends with %q, and its first line says %q", asked.About(), told(asked.Folder, report.first, yes), told(asked.Folder, first, yes))
+	}
+	if report.names != int64(len(asked.Rows)) {
+		return nil, nil, refused("syncaudit's answer to %s counts %d names of %d", asked.About(), report.names, len(asked.Rows))
+	}
+	return all, report, nil
 }
 
-// check says where a reply to a document of some names doesn't begin with the first thing that was told of them. The stream has counted them.
-func (s *said) check(one *document.Document, reply *Reply) error {
-	if s.reply == nil {
-		return nil
+// beginOfReport gives where the last two lines begin.
+func beginOfReport(text string) int {
+	begin := len(text)
+	for lines := 0; lines < 2 && begin > 0; lines++ {
+		begin = strings.LastIndexByte(text[:begin-1], '\n') + 1
 	}
-	all := []finding.Failure{}
-	for _, row := range one.Rows {
-		all = append(all, s.told[row.Name])
-	}
-	first := finding.First(all)
-	if is := reply.First(); is == nil || *is != *first {
-		return &Failed{statusRefused, fmt.Sprintf("syncaudit's answers differ: %q, and %s", Line(one.Folder, first), quotedFirst(one.Folder, is))}
-	}
-	reply.Names, reply.Deleted = 0, 0
-	return nil
+	return begin
 }
 
-func quotedFirst(folder string, first *finding.Failure) string {
-	if first == nil {
-		return "that it is firm"
-	}
-	return fmt.Sprintf("%q", Line(folder, first))
-}
-
-// First gives the first thing that keeps a document from being firm; nothing where it is firm.
-func (r *Reply) First() *finding.Failure {
-	if len(r.Failures) > 0 {
-		return &r.Failures[0]
-	}
-	return r.Firmness.First
-}
-
-// readStream has the program read a stream of rows.
-func (p Program) readStream(asked *document.Document) (*said, error) {
-	if p.lacks != nil && p.lacks.rows.Load() {
-		return &said{}, nil
-	}
-	text, err := p.text(asked.Written, "rows", []string{"--firm"})
-	switch {
-	case isUsage(err):
-		if p.lacks != nil {
-			p.lacks.rows.Store(true)
-		}
-		return &said{}, nil
-	case err != nil:
-		return nil, err
-	}
-	return readAnswer(asked, text)
-}
-
-// readAnswer reads what 'rows --firm' writes: a line for each name that isn't firm, and then a report.
-func readAnswer(asked *document.Document, text string) (*said, error) {
-	lines := strings.SplitAfter(text, "\n")
-	behind := len(lines) - 3 // the report has two, and behind the last end nothing stands
-	if behind < 0 || lines[len(lines)-1] != "" {
-		return nil, &Failed{statusRefused, fmt.Sprintf("syncaudit's answer to %s isn't whole", asked.About())}
-	}
-	all, err := readTold(asked, lines[:behind])
-	if err != nil {
-		return nil, err
-	}
-	reply, line, err := readReport(asked.Folder, strings.Join(lines[behind:], ""), firm)
-	if err != nil {
-		return nil, err
-	}
-	due := firm
-	if len(all) > 0 {
-		due = "not " + firm + ": " + Line(asked.Folder, finding.First(all))
-	}
-	if line != due || reply.Names != int64(len(asked.Rows)) || reply.Deleted < int64(asked.Unknown) {
-		return nil, &Failed{statusRefused, fmt.Sprintf("syncaudit's answer to %s, %d names, ends with %q and %q", asked.About(), len(asked.Rows), line, lines[behind+1])}
-	}
-	reply.Names -= int64(asked.Unknown)
-	reply.Deleted -= int64(asked.Unknown)
-	reply.Firmness.Asked, reply.Convergence.Asked = true, true
-	made := &said{reply, map[string]finding.Failure{}}
+// namesOf gives the names of failures.
+func namesOf(all []finding.Failure) map[string]bool {
+	names := map[string]bool{}
 	for _, one := range all {
-		made.told[one.Name] = one
+		names[one.Name] = true
 	}
-	return made, nil
+	return names
 }
 
-// readTold reads the lines on names that aren't firm: they are names of the stream, in its order.
-func readTold(asked *document.Document, lines []string) ([]finding.Failure, error) {
-	all, next := []finding.Failure{}, 0
-	for _, line := range lines {
-		one, is := readFailure(asked.Folder, strings.TrimSuffix(line, "\n"))
-		for is && next < len(asked.Rows) && asked.Rows[next].Name != one.Name {
-			next++
+// firsts gives the first failure of each name.
+func firsts(all []finding.Failure) []finding.Failure {
+	found := []finding.Failure{}
+	for _, one := range all {
+		if len(found) == 0 || found[len(found)-1].Name != one.Name {
+			found = append(found, one)
 		}
-		if !is || next == len(asked.Rows) {
-			return nil, &Failed{statusRefused, fmt.Sprintf("syncaudit's answer to %s has the line %q", asked.About(), line)}
-		}
-		next++
-		all = append(all, one)
 	}
-	return all, nil
+	return found
+}
+
+// take takes all that keeps names from being firm, and whether they come right. Of what isn't settled no more is told than that.
+func (r *Reply) take(explained []finding.Failure, comes *report) {
+	for _, one := range explained {
+		if !finding.IsFirmReason(one.Reason) {
+			r.Failures = append(r.Failures, one)
+		}
+	}
+	if len(r.Failures) == 0 {
+		r.NotFirm = finding.First(explained, finding.FirmReasons)
+	}
+	r.Convergence = finding.Convergence{First: comes.first, Pairs: comes.pairs}
 }

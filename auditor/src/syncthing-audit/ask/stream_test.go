@@ -5,26 +5,26 @@ import (
 	"fmt"
 	"os"
 	"path/filepath"
-	"strings"
+	"reflect"
 	"testing"
 	"time"
 
 	"github.com/syncthing/syncthing/lib/protocol"
-	"syncthing-audit/document"
 	"syncthing-audit/finding"
 	"syncthing-audit/join"
 	"syncthing-audit/part"
+	"syncthing-audit/rows"
 )
 
 // aStream gives a stream of directories that one device has; the one called "?" is known nowhere.
-func aStream(names ...string) *document.Document {
+func aStream(names ...string) *rows.Piece {
 	about := &part.Folder{ID: "docs", Kind: "send-receive", IndexID: 1, Max: 99}
 	other := protocol.DeviceID{7: 2}.String()
 	about.Views = []part.View{{Device: other, IndexID: 2, Max: 99}}
 	device := func(number byte, about *part.Folder) join.Member {
 		return join.Member{Device: &join.Device{Head: &part.Head{Device: protocol.DeviceID{7: number}.String()}, Number: uint64(number)}, About: about}
 	}
-	stream := document.NewStream(&join.Folder{ID: "docs", Members: []join.Member{device(1, about), device(2, &part.Folder{ID: "docs"})}})
+	stream := rows.NewStream(&join.Folder{ID: "docs", Members: []join.Member{device(1, about), device(2, &part.Folder{ID: "docs"})}})
 	for place, name := range names {
 		record := &part.Record{Type: 1, Sequence: int64(place + 1), Invalid: name == "?"}
 		has := &part.Name{Name: part.Bytes(name), Own: record}
@@ -33,9 +33,7 @@ func aStream(names ...string) *document.Document {
 		}
 		stream.Add(&join.Row{Name: name, At: []*part.Name{has, nil}})
 	}
-	made := stream.Take()
-	made.Place = 4
-	return made
+	return stream.Take()
 }
 
 // counted gives the line of a report that counts names, as a shell writes it.
@@ -43,96 +41,73 @@ func counted(names, deleted int) string {
 	return fmt.Sprintf("echo 'folder docs: %d names, %d deleted, 2 devices'; ", names, deleted)
 }
 
-// Words of a shell for answers to a document of one name.
+// paired gives the same line of 'rows --converge'.
+func paired(names, pairs int) string {
+	return fmt.Sprintf("echo 'folder docs: %d names, 0 deleted, 2 devices, %d pairs not yet at the winner'; ", names, pairs)
+}
+
+// Words of a shell for answers to a stream of which one name isn't firm.
 const (
-	storeDiffers = `echo 'StoreDiffers docs b on 1'; `
-	notFirmB     = `echo 'not firm: StoreDiffers docs b on 1'; `
-	notSettledB  = `echo 'not settled: StoreDiffers docs b on 1'; `
+	storeDiffers = "echo 'StoreDiffers docs b on 1'; "
+	notFirmB     = "echo 'not firm: StoreDiffers docs b on 1'; "
 )
 
-// told gives what a program says of a stream in words, and the error.
-func told(program Program, asked *document.Document) (string, error) {
-	answered, err := program.Answer(asked)
-	words := []string{}
-	for _, one := range answered {
-		if one.Reply == nil {
-			continue
-		}
-		names := ""
-		for _, row := range one.Document.Rows {
-			names += row.Name
-		}
-		words = append(words, fmt.Sprintf("%s at %d: %d names, %d deleted, %d failures, firm %v %v", names, one.Document.Place, one.Reply.Names, one.Reply.Deleted,
-			len(one.Reply.Failures), one.Reply.Firmness.Asked, one.Reply.First() == nil))
-		if !one.Reply.Convergence.Asked {
-			words = append(words, "it isn't asked whether it comes right")
-		}
-	}
-	return strings.Join(words, "; "), err
+var (
+	isLoose   = storeDiffers + notFirmB + counted(3, 0) + "exit 1"
+	whyLoose  = storeDiffers + "echo '  store of 1: nothing'; " + notFirmB + counted(1, 0) + "exit 1"
+	comesSome = "echo converging; " + paired(1, 0)
+)
+
+// aReader makes a program that answers so to a stream, to whoever has names of it explained, and to whether these converge.
+func aReader(t *testing.T, firm, explain, converge string) Program {
+	return aProgram(t, "case $* in 'rows --firm') cat > /dev/null; "+firm+";; 'rows --explain --firm') cat > /dev/null; "+explain+";; 'rows --converge') cat > /dev/null; "+converge+";; *) exit 9;; esac")
 }
 
-// A stream's names that aren't firm are asked in documents of these names alone, and nothing more is asked of the others.
+// What is told of each name is in the reply, and what isn't firm is asked again, by its very line.
 func TestWhatIsAskedOfAStream(t *testing.T) {
-	const isB = `[ "$(cat | grep -c '"name":"[acd]"')" = 0 ] || exit 9; `
-	for _, row := range []struct{ why, rows, firm, told, asked string }{
-		{"all is firm", "echo firm; " + counted(3, 1), "exit 9", "abc at 4: 3 names, 1 deleted, 0 failures, firm true true", "rows --firm,"},
-		{"one isn't", storeDiffers + notFirmB + counted(3, 0) + "exit 1", isB + notFirmB + counted(1, 0) + "exit 1",
-			"abc at 4: 3 names, 0 deleted, 0 failures, firm true true; b at 4: 0 names, 0 deleted, 1 failures, firm true false",
-			"rows --firm,firm --certify,explain --certify,converge,"},
-		{"it is too old", "exit 3", "echo firm; " + counted(3, 1), "abc at 4: 3 names, 1 deleted, 0 failures, firm true true", "rows --firm,firm --certify,"},
+	const recordDiffers, notFirmForRecord = "echo 'RecordDiffers docs b on 2'; ", "echo 'not firm: RecordDiffers docs b on 2'; "
+	const versionDiffers, notFirmForVersion = "echo 'VersionDiffers docs b on 2'; ", "echo 'not firm: VersionDiffers docs b on 2'; "
+	const isB = `[ "$(grep -c '"name":"[acd]"' input)" = 0 ] && [ "$(grep -c '"name":"b"' input)" = 1 ] && [ "$(wc -l < input)" = 2 ] || exit 9; `
+	const all = "rows --firm,rows --explain --firm,rows --converge,"
+	of := func(reason string, device uint64) finding.Failure {
+		return finding.Failure{Reason: reason, Name: "b", Device: device}
+	}
+	pairs := func(count int64) *int64 { return &count }
+	hindrance, loose := of("WouldCopy", 2), of("VersionDiffers", 2)
+	for _, row := range []struct {
+		why, firm, explain, converge string
+		reply                        Reply
+		asked                        string
+	}{
+		{"all is firm", "echo firm; " + counted(3, 1), "exit 9", "exit 9", Reply{Names: 3, Deleted: 1}, "rows --firm,"},
+		{"one isn't settled", isLoose, isB + whyLoose, isB + "echo converging; " + paired(1, 2),
+			Reply{Names: 3, Failures: []finding.Failure{of("StoreDiffers", 1)}, Convergence: finding.Convergence{Pairs: pairs(2)}}, all},
+		{"one isn't settled for several reasons", recordDiffers + notFirmForRecord + counted(3, 0) + "exit 1",
+			isB + recordDiffers + storeDiffers + versionDiffers + notFirmForRecord + counted(1, 0) + "exit 1",
+			isB + "echo 'WouldCopy docs b on 2'; echo 'not converging: WouldCopy docs b on 2'; " + paired(1, 1) + "exit 1",
+			Reply{Names: 3, Failures: []finding.Failure{of("RecordDiffers", 2), of("StoreDiffers", 1)}, Convergence: finding.Convergence{First: &hindrance, Pairs: pairs(1)}}, all},
+		{"one is settled, and not firm", versionDiffers + notFirmForVersion + counted(3, 0) + "exit 1",
+			isB + versionDiffers + "echo 'ViewNotBelow docs b on 1'; " + notFirmForVersion + counted(1, 0) + "exit 1",
+			isB + comesSome, Reply{Names: 3, NotFirm: &loose, Convergence: finding.Convergence{Pairs: pairs(0)}}, all},
 	} {
 		log := filepath.Join(t.TempDir(), "log")
-		program := aProgram(t, "printf '%s,' \"$*\" >> '"+log+"'\ncase $1 in rows) "+row.rows+";; firm) "+row.firm+";; explain) "+storeDiffers+"exit 1;; converge) echo converging; "+
-			counted(1, 0)+";; esac")
-		is, err := told(program, aStream("a", "b", "c"))
+		program := aProgram(t, "cd '"+filepath.Dir(log)+"'; cat > input; printf '%s,' \"$*\" >> log\ncase \"$*\" in *explain*) "+row.explain+";; *firm*) "+row.firm+";; *) "+row.converge+";; esac")
+		reply, err := program.Answer(aStream("a", "b", "c"))
 		asked, _ := os.ReadFile(log)
-		if err != nil || is != row.told || string(asked) != row.asked {
-			t.Errorf("%s: %s, %v, asked %s", row.why, is, err, asked)
+		if err != nil || !reflect.DeepEqual(*reply, row.reply) || string(asked) != row.asked {
+			t.Errorf("%s: %+v, %v, asked %s", row.why, reply, err, asked)
 		}
 	}
 }
 
-// What was written for the program of a stream and of its names is in memory no more once it is answered.
-func TestWhatIsAnsweredIsNotKept(t *testing.T) {
-	program := aProgram(t, "case $1 in rows) "+storeDiffers+notFirmB+counted(3, 0)+"exit 1;; firm) "+notFirmB+counted(1, 0)+"exit 1;; explain) "+storeDiffers+
-		"exit 1;; converge) echo converging; "+counted(1, 0)+";; esac")
-	answered := 0
-	pool := NewPool(program, 1, func(one *document.Document, _ *Reply) {
-		if answered++; one.Written != nil {
-			t.Errorf("%s is kept", one.About())
-		}
-	})
-	one := aStream("a", "b", "c")
-	one.Place = 0
-	err := pool.Ask(one)
-	if failed := pool.Close(); err != nil || failed != nil || answered != 2 {
-		t.Errorf("%d answers, %v, %v", answered, err, failed)
-	}
-}
-
-// A program that is too old for streams is asked for one once.
-func TestAnOldProgramIsAskedForAStreamOnce(t *testing.T) {
-	log := filepath.Join(t.TempDir(), "log")
-	program := aProgram(t, "printf '%s,' \"$*\" >> '"+log+"'\ncase $1 in rows) exit 3;; *) echo firm; "+counted(1, 0)+";; esac")
-	program.lacks = &lacks{}
-	for round := 0; round < 2; round++ {
-		if _, err := program.Answer(aStream("a")); err != nil {
-			t.Error(err)
-		}
-	}
-	if asked, _ := os.ReadFile(log); string(asked) != "rows --firm,firm --certify,firm --certify," {
-		t.Errorf("asked %s", asked)
-	}
-}
-
-// A name that nothing holds is none that a document counts.
+// A name that nothing holds is none that is counted.
 func TestNamesThatNothingHoldsAreNotCounted(t *testing.T) {
-	is, err := told(aProgram(t, "echo firm; "+counted(2, 1)), aStream("?", "a"))
-	if due := "?a at 4: 1 names, 0 deleted, 0 failures, firm true true"; err != nil || is != due {
-		t.Errorf("%s, %v", is, err)
+	reply, err := aProgram(t, "echo firm; "+counted(2, 1)).Answer(aStream("?", "a"))
+	if err != nil || reply.Names != 1 || reply.Deleted != 0 {
+		t.Errorf("%+v, %v", reply, err)
 	}
-	if is, err := told(aProgram(t, "echo firm; "+counted(2, 0)), aStream("?", "a")); err == nil {
-		t.Errorf("a program that counts it as stored: %s", is)
+	if reply, err := aProgram(t, "echo firm; "+counted(2, 0)).Answer(aStream("?", "a")); err == nil {
+		t.Errorf("a program that counts it as stored: %+v", reply)
 	}
 }
 
@@ -145,6 +120,7 @@ func TestAnswersToStreamsThatAreNone(t *testing.T) {
 		"half a line":                      "printf firm",
 		"no counts":                        "echo firm",
 		"counts without an end":            "echo firm; printf 'folder docs: 3 names, 0 deleted, 2 devices'",
+		"counts of pairs":                  "echo firm; " + paired(3, 0),
 		"fewer names than it was asked":    "echo firm; " + counted(2, 0),
 		"more names than it was asked":     "echo firm; " + counted(4, 0),
 		"another folder":                   "echo firm; echo 'folder pics: 3 names, 0 deleted, 2 devices'",
@@ -153,33 +129,61 @@ func TestAnswersToStreamsThatAreNone(t *testing.T) {
 		"nonsense before":                  "echo hello; echo firm; " + counted(3, 0),
 		"a name that wasn't asked":         line("d") + verdict("d") + counted(3, 0),
 		"names out of their order":         line("b") + line("a") + verdict("a") + counted(3, 0),
-		"a name twice":                     line("b") + line("b") + verdict("b") + counted(3, 0),
+		"a line twice":                     line("b") + line("b") + verdict("b") + counted(3, 0),
+		"reasons out of their order":       line("b") + "echo 'LocalOnly docs b on 1'; echo 'not firm: LocalOnly docs b on 1'; " + counted(3, 0),
+		"a name once more":                 line("a") + line("b") + line("a") + verdict("a") + counted(3, 0),
 		"firm, and what isn't":             line("b") + "echo firm; " + counted(3, 0),
 		"not firm, and nothing that fails": verdict("b") + counted(3, 0),
 		"not firm for the second one":      line("a") + line("b") + verdict("b") + counted(3, 0),
 		"a reason that it doesn't know":    "echo 'Odd docs b on 1'; echo 'not firm: Odd docs b on 1'; " + counted(3, 0),
+		"a reason of converging":           "echo 'WouldCopy docs b on 1'; echo 'not firm: WouldCopy docs b on 1'; " + counted(3, 0),
 		"the answer twice":                 "echo firm; " + counted(3, 0) + "echo firm; " + counted(3, 0),
 	} {
-		program := aProgram(t, "case $1 in rows) cat > /dev/null; "+said+";; *) exit 9;; esac")
-		var failed *Failed
-		if is, err := told(program, aStream("a", "b", "c")); !errors.As(err, &failed) || failed.Status != statusRefused || is != "" {
-			t.Errorf("%s: %s, %v", why, is, err)
-		}
+		checkRefused(t, why, aReader(t, said, "exit 9", "exit 9"))
 	}
 }
 
-// What a document says of a name is what the stream said of it, or isn't taken.
-func TestDocumentsThatDifferFromTheirStream(t *testing.T) {
-	for why, firm := range map[string]string{
-		"firm":           "echo firm; " + counted(1, 0),
-		"another device": "echo 'not firm: StoreDiffers docs b on 2'; " + counted(1, 0) + "exit 1",
-		"another reason": "echo 'not firm: VersionDiffers docs b on 1'; " + counted(1, 0) + "exit 1",
+// checkRefused says which program has an answer to a stream that is none.
+func checkRefused(t *testing.T, why string, program Program) {
+	var failed *Failed
+	if reply, err := program.Answer(aStream("a", "b", "c")); !errors.As(err, &failed) || failed.Status != statusRefused || err.Error() == "" {
+		t.Errorf("%s: %+v, %v", why, reply, err)
+	}
+}
+
+// Why names aren't firm goes with what was told of them before.
+func TestExplanationsThatAreNone(t *testing.T) {
+	for why, said := range map[string]string{
+		"nothing":                      "",
+		"all is firm now":              "echo firm; " + counted(1, 0),
+		"fewer names":                  storeDiffers + notFirmB + counted(0, 0),
+		"all names of the stream":      storeDiffers + notFirmB + counted(3, 0),
+		"another name of the stream":   "echo 'StoreDiffers docs a on 1'; echo 'not firm: StoreDiffers docs a on 1'; " + counted(1, 0),
+		"another device":               "echo 'StoreDiffers docs b on 2'; echo 'not firm: StoreDiffers docs b on 2'; " + counted(1, 0),
+		"something that stands before": "echo 'LocalOnly docs b on 1'; " + storeDiffers + "echo 'not firm: LocalOnly docs b on 1'; " + counted(1, 0),
 	} {
-		program := aProgram(t, "case $1 in rows) "+storeDiffers+notFirmB+counted(3, 0)+"exit 1;; firm) "+firm+";; check) echo settled; "+counted(1, 0)+
-			";; explain) echo 'StoreDiffers docs b on 2'; exit 1;; converge) exit 3;; esac")
-		if is, err := told(program, aStream("a", "b", "c")); err == nil || !strings.HasPrefix(err.Error(), "syncaudit's answers differ: \"StoreDiffers docs b on 1\", and ") {
-			t.Errorf("%s: %s, %v", why, is, err)
-		}
+		checkRefused(t, why, aReader(t, isLoose, said, comesSome))
+	}
+	twice := storeDiffers + "echo 'VersionDiffers docs b on 1'; " + notFirmB
+	checkRefused(t, "two lines of a name before it is explained", aReader(t, twice+counted(3, 0), twice+counted(1, 0), comesSome))
+}
+
+// What is said of how the names come right goes with the names that were asked.
+func TestAnswersOnConvergenceThatAreNone(t *testing.T) {
+	would := func(name string) string { return "echo 'WouldCopy docs " + name + " on 2'; " }
+	hinders := func(name string) string { return "echo 'not converging: WouldCopy docs " + name + " on 2'; " }
+	for why, said := range map[string]string{
+		"nothing":                         "",
+		"no pairs":                        "echo converging; " + counted(1, 0),
+		"more names":                      "echo converging; " + paired(3, 0),
+		"no names":                        "echo converging; " + paired(0, 0),
+		"a name that wasn't asked":        would("a") + hinders("a") + paired(1, 0),
+		"another name of the stream, too": would("b") + would("c") + hinders("b") + paired(1, 0),
+		"a verdict of its own":            hinders("b") + paired(1, 0),
+		"no verdict":                      would("b") + "echo converging; " + paired(1, 0),
+		"a reason of firm":                "echo 'VersionDiffers docs b on 1'; echo 'not converging: VersionDiffers docs b on 1'; " + paired(1, 0),
+	} {
+		checkRefused(t, why, aReader(t, isLoose, whyLoose, said))
 	}
 }
 
@@ -193,17 +197,19 @@ func TestAProgramThatFailsInAStream(t *testing.T) {
 		"echo firm; " + counted(3, 0) + "exit 5":                                {5, "ended with exit status 5: folder docs: 3 names, 0 deleted, 2 devices"},
 		"echo it is out of luck >&2; exit 6":                                    {6, "ended with exit status 6: it is out of luck"},
 		"read -r line; kill -9 $$":                                              {StatusCannotRun, "ended with signal: killed: "},
-		storeDiffers + "kill -9 $$":                                             {StatusCannotRun, "ended with signal: killed: StoreDiffers docs b on 1"},
+		"echo 'StoreDiffers docs b on 1'; kill -9 $$":                           {StatusCannotRun, "ended with signal: killed: StoreDiffers docs b on 1"},
 	} {
-		program := aProgram(t, words)
-		is, err := told(program, aStream("a", "b", "c"))
-		var failed *Failed
-		if !errors.As(err, &failed) || failed.Status != row.status || err.Error() != "'"+program.Path+" rows --firm' "+row.told || is != "" {
-			t.Errorf("%s: %s, %v", words, is, err)
+		for asked, program := range map[string]Program{
+			"rows --firm":           aProgram(t, words),
+			"rows --explain --firm": aReader(t, isLoose, words, comesSome),
+			"rows --converge":       aReader(t, isLoose, whyLoose, words),
+		} {
+			_, err := program.Answer(aStream("a", "b", "c"))
+			var failed *Failed
+			if !errors.As(err, &failed) || failed.Status != row.status || err.Error() != "'"+program.Path+" "+asked+"' "+row.told {
+				t.Errorf("%s: %v", words, err)
+			}
 		}
-	}
-	if _, err := told(Program{Path: filepath.Join(t.TempDir(), "none")}, aStream("a")); err == nil || !strings.Contains(err.Error(), " can't be run: ") {
-		t.Errorf("no program: %v", err)
 	}
 }
 
@@ -212,10 +218,8 @@ func TestAProgramThatHangsInAStream(t *testing.T) {
 	number := filepath.Join(t.TempDir(), "number")
 	program := aProgram(t, "echo firm; "+counted(1, 0)+"echo $$ > '"+number+"'; exec sleep 600")
 	ended := make(chan error, 1)
-	pool := NewPool(program, 1, func(*document.Document, *Reply) { t.Error("it was answered") })
-	one := aStream("a")
-	one.Place = 0
-	if err := pool.Ask(one); err != nil {
+	pool := NewPool(program, 1, func(*rows.Piece, *Reply) { t.Error("it was answered") })
+	if err := pool.Ask(aStream("a")); err != nil {
 		t.Fatal(err)
 	}
 	go func() { ended <- pool.Close() }()
@@ -239,7 +243,38 @@ func TestAProgramThatHangsInAStream(t *testing.T) {
 	}
 }
 
-// Of a stream and its documents the first thing that fails is found in the order in which one document of all tells it.
+// What was written for the program is in memory no more once it is answered.
+func TestWhatIsAnsweredIsNotKept(t *testing.T) {
+	program := aReader(t, isLoose, whyLoose, comesSome)
+	var pool *Pool
+	var all []*rows.Piece
+	pool = NewPool(program, 2, func(one *rows.Piece, _ *Reply) {
+		if one.Written != nil {
+			t.Errorf("%s, %d, is in memory still", one.About(), one.Place)
+		}
+		if len(pool.early) > ahead*2 {
+			t.Errorf("%d pieces wait", len(pool.early))
+		}
+	})
+	for place := 0; place < 12; place++ {
+		one := aStream("a", "b", "c")
+		one.Place = place
+		all = append(all, one)
+		if err := pool.Ask(one); err != nil {
+			t.Fatal(err)
+		}
+	}
+	if err := pool.Close(); err != nil || len(pool.early) > 0 {
+		t.Errorf("%v, %d wait", err, len(pool.early))
+	}
+	for _, one := range all {
+		if one.Written != nil {
+			t.Errorf("%d is in memory still", one.Place)
+		}
+	}
+}
+
+// The first thing that fails is found in the order in which a report tells it.
 func TestTheFirstOfSeveral(t *testing.T) {
 	of := func(reason, name string, device uint64) finding.Failure {
 		return finding.Failure{Reason: reason, Name: name, Device: device}
@@ -249,12 +284,12 @@ func TestTheFirstOfSeveral(t *testing.T) {
 		for turn := 0; turn < 2; turn++ {
 			all := append([]finding.Failure{}, rising[place:]...)
 			all[0], all[(len(all)-1)*turn] = all[(len(all)-1)*turn], all[0]
-			if first := finding.First(all); *first != rising[place] {
+			if first := finding.First(all, finding.AllReasons); *first != rising[place] {
 				t.Errorf("%v comes first of %v", first, all)
 			}
 		}
 	}
-	if finding.First(nil) != nil {
+	if finding.First(nil, finding.AllReasons) != nil {
 		t.Error("nothing has a first thing")
 	}
 }

@@ -1,4 +1,4 @@
-// Package audit goes through all names of the folders and tells what is found; documents go to those who answer them.
+// Package audit goes through all names of the folders and tells what is found; what is to be asked of them goes to those who answer it.
 package audit
 
 import (
@@ -7,7 +7,6 @@ import (
 	"time"
 
 	"golang.org/x/exp/slices"
-	"syncthing-audit/document"
 	"syncthing-audit/finding"
 	"syncthing-audit/forecast"
 	"syncthing-audit/forecast/read"
@@ -15,6 +14,7 @@ import (
 	"syncthing-audit/limits"
 	"syncthing-audit/outlook"
 	"syncthing-audit/part"
+	"syncthing-audit/rows"
 	"syncthing-audit/shell"
 )
 
@@ -22,14 +22,14 @@ import (
 type Options struct {
 	Consent   Consent       // what may be left out
 	WithBytes bool          // documents with bytes in place of stand-ins
-	AsStreams bool          // streams of rows in place of documents
+	AsRows    bool          // streams of rows in place of documents
 	ByNames   bool          // whether the names were asked for by how they begin
 	Refused   func()        // called once there is something without which no answer is given
 	Joined    *atomic.Int64 // counts the names; not needed
 }
 
-// Collect goes through the folders of a plan. Each document is given to take, as long as nothing was refused.
-func Collect(plan *join.Plan, options Options, take func(*document.Document) error) (*finding.Answer, error) {
+// Collect goes through the folders of a plan. Each piece of their names is given to take, as long as nothing was refused.
+func Collect(plan *join.Plan, options Options, take func(*rows.Piece) error) (*finding.Answer, error) {
 	to := &collector{plan: plan, options: options, take: take, foretells: outlook.NewForeteller(budget, time.Now().UnixNano()), answer: &finding.Answer{IsByName: plan.IsByName, ByNames: options.ByNames}}
 	to.refusePlan()
 	for _, observer := range plan.Observers {
@@ -95,11 +95,11 @@ func label(refusal join.Refusal) string {
 type collector struct {
 	plan      *join.Plan
 	options   Options
-	take      func(*document.Document) error
+	take      func(*rows.Piece) error
 	answer    *finding.Answer
-	documents int
+	pieces    int
 	names     int64
-	audited   int64 // names that documents have, or that are told to have no winner
+	audited   int64 // names that pieces have, or that are told to have no winner
 	room      finding.Room
 	foretells *outlook.Foreteller
 }
@@ -149,11 +149,11 @@ func (c *collector) checkSomething() error {
 func (c *collector) folder(folder *join.Folder) error {
 	next := &names{collector: c, folder: folder, found: &finding.Folder{ID: folder.ID, Label: folder.Label, Own: folder.Own, Members: folder.Members,
 		Live: liveOf(folder), Rows: map[string]*join.Row{}}, filled: c.filled(folder)}
-	rows := read.NewRows(folder)
+	foretold := read.NewRows(folder)
 	c.answer.Folders = append(c.answer.Folders, next.found)
 	var err error
 	if next.found.Bytes, err = folder.Rows(func(row *join.Row) error {
-		rows.Take(row)
+		foretold.Take(row)
 		return next.row(row)
 	}); err != nil {
 		return err
@@ -162,26 +162,29 @@ func (c *collector) folder(folder *join.Folder) error {
 		return err
 	}
 	if len(c.answer.Refusals) == 0 {
-		next.found.Outlook = c.foretells.Of(rows)
+		next.found.Outlook = c.foretells.Of(foretold)
 	}
 	return nil
 }
 
-// filled is what is filled with names: documents, or streams of rows.
+// filled is what is filled with names: streams of rows, or documents.
 type filled interface {
-	Add(row *join.Row) (*document.Document, *part.LeftOut)
-	Take() *document.Document
+	Add(row *join.Row) (*rows.Piece, *part.LeftOut)
+	Take() *rows.Piece
 }
+
+// bytesOfOne is how long a document of stand-ins grows: small enough that several are in memory at once.
+const bytesOfOne = 4 << 20
 
 // filled begins to fill what is asked of a folder.
 func (c *collector) filled(folder *join.Folder) filled {
 	switch {
-	case c.options.AsStreams:
-		return document.NewStream(folder)
+	case c.options.AsRows:
+		return rows.NewStream(folder)
 	case c.options.WithBytes:
-		return document.NewBuilder(folder, true, limits.MostBytes)
+		return rows.NewDocuments(folder, true, limits.MostBytes)
 	}
-	return document.NewBuilder(folder, false, document.BytesOfOne)
+	return rows.NewDocuments(folder, false, bytesOfOne)
 }
 
 // budget is that of what is foretold of all folders together: some 10 s of one core.

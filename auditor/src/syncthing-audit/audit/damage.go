@@ -6,8 +6,8 @@ import (
 	"syncthing-audit/part"
 )
 
-// addDamaged adds a name of which a disk itself fails to give what it has. A file goes into a document all the same, with bytes
-// of no file, so that the other devices are compared. What else fails so has no document: a directory's names aren't known, say.
+// addDamaged adds a name of which a disk itself fails to give what it has. A file goes into a row all the same, with bytes
+// of no file, so that the other devices are compared. What else fails so has no row: a directory's names aren't known, say.
 func (n *names) addDamaged(row *join.Row) {
 	if damaged := damagedOf(row); len(damaged.At) > 0 {
 		damaged.IsFile = damaged.IsFile && !hasOut(row)

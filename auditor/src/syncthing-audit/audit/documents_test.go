@@ -7,9 +7,9 @@ import (
 	"testing"
 
 	"syncthing-audit/choice"
-	"syncthing-audit/document"
 	"syncthing-audit/limits"
 	"syncthing-audit/part"
+	"syncthing-audit/rows"
 )
 
 // namesOfBoth gives as many names, which both devices have alike.
@@ -28,7 +28,7 @@ func TestEachNameIsInOneDocument(t *testing.T) {
 		one, other := namesOfBoth(count)
 		plan := planOfNames(t, false, one, other)
 		met, places := 0, 0
-		answer, err := Collect(plan, Options{}, func(one *document.Document) error {
+		answer, err := Collect(plan, Options{}, func(one *rows.Piece) error {
 			if len(one.Rows) == 0 && count > 0 || len(one.Written) > limits.MostBytes {
 				t.Errorf("%d names: a document of %d names and %d bytes", count, len(one.Rows), len(one.Written))
 			}
@@ -54,15 +54,44 @@ func TestEachNameIsInOneDocument(t *testing.T) {
 func TestANameThatNoDocumentHas(t *testing.T) {
 	one, other := namesOfBoth(3)
 	one[1].Own.Sequence = one[0].Own.Sequence
-	one[2].Disk.Data = make([]byte, document.BytesOfOne)
+	one[2].Disk.Data = make([]byte, bytesOfOne)
 	asked := 0
-	answer, err := Collect(planOfNames(t, false, one, other), Options{WithBytes: true}, func(one *document.Document) error { asked += len(one.Rows); return nil })
+	answer, err := Collect(planOfNames(t, false, one, other), Options{WithBytes: true}, func(one *rows.Piece) error { asked += len(one.Rows); return nil })
 	if err != nil {
 		t.Fatal(err)
 	}
 	out := answer.Folders[0].LeftOut
 	if asked != 2 || len(out) != 1 || out[0].Name != "000001" || len(out[0].Why) != 1 || out[0].Why[0].Device != "" || out[0].Why[0].Kind != part.OddRecord {
 		t.Errorf("%d asked, %+v", asked, out)
+	}
+}
+
+// A name that no line of rows has room for is told as left out, of no device, and a strict audit refuses it. All others are asked.
+func TestANameThatNoLineHas(t *testing.T) {
+	for _, consent := range []Consent{{}, Of(part.Large), Of(part.OddName)} {
+		one, other := namesOfBoth(3)
+		for _, name := range []*part.Name{one[1], other[1]} {
+			linked(name)
+			name.Own.Target = strings.Repeat(string(name.Name), 100000)
+		}
+		other[1].Own.ModifiedS++
+		asked := ""
+		answer, err := Collect(planOfNames(t, false, one, other), Options{AsRows: true, Consent: consent}, func(piece *rows.Piece) error {
+			for _, row := range piece.Rows {
+				asked += row.Name + " "
+			}
+			return nil
+		})
+		if err != nil {
+			t.Fatal(err)
+		}
+		out := answer.Folders[0].LeftOut
+		isRefused := len(answer.Refusals) == 1 && answer.Refusals[0].Kind == part.Large && answer.Refusals[0].Name == "000001" && asked == ""
+		isOut := len(answer.Refusals) == 0 && len(out) == 1 && out[0].Name == "000001" && len(out[0].Why) == 1 && out[0].Why[0].Device == "" && out[0].Why[0].Kind == part.Large &&
+			asked == "000000 000002 " && answer.IsPartial()
+		if isRefused != consent.Kinds[part.OddName] || isOut == isRefused {
+			t.Errorf("%+v: %q asked, %+v, %+v", consent, asked, out, answer.Refusals)
+		}
 	}
 }
 
@@ -84,7 +113,7 @@ func TestNoNameOfThoseThatWereAskedFor(t *testing.T) {
 		for _, device := range plan.Devices {
 			device.Head.Names = row.names
 		}
-		_, err := Collect(plan, Options{}, func(*document.Document) error { return nil })
+		_, err := Collect(plan, Options{}, func(*rows.Piece) error { return nil })
 		if err == nil || !strings.HasPrefix(err.Error(), row.told) || errors.Is(err, ErrNothing) != (row.told == ErrNothing.Error()) {
 			t.Errorf("%+v: %v", row, err)
 		}
@@ -107,13 +136,13 @@ func TestFoldersThatAreLeftOutAreNotUnasked(t *testing.T) {
 func TestDocumentsAreAsAskedFor(t *testing.T) {
 	whole := func(name *part.Name) { name.Disk.Data = []byte("bytes") }
 	told := map[string]bool{}
-	for _, options := range []Options{{}, {WithBytes: true}, {AsStreams: true}} {
+	for _, options := range []Options{{}, {WithBytes: true}, {AsRows: true}} {
 		plan := planOf(t, with(whole), with(whole))
 		written := ""
-		if _, err := Collect(plan, options, func(one *document.Document) error {
-			due := filled(document.NewBuilder(plan.Folders[0], options.WithBytes, limits.MostBytes))
-			if options.AsStreams {
-				due = document.NewStream(plan.Folders[0])
+		if _, err := Collect(plan, options, func(one *rows.Piece) error {
+			due := filled(rows.NewDocuments(plan.Folders[0], options.WithBytes, limits.MostBytes))
+			if options.AsRows {
+				due = rows.NewStream(plan.Folders[0])
 			}
 			for _, row := range one.Rows {
 				due.Add(row)
@@ -138,7 +167,7 @@ func TestNamesAreForetold(t *testing.T) {
 		one, other *part.Name
 		names      int64
 	}{{with(), with(concurrent), 1}, {nil, nil, 0}} {
-		answer, err := Collect(planOf(t, row.one, row.other), Options{}, func(*document.Document) error { return nil })
+		answer, err := Collect(planOf(t, row.one, row.other), Options{}, func(*rows.Piece) error { return nil })
 		if answer == nil || answer.Folders[0].Outlook == nil || answer.Folders[0].Outlook.Names != row.names {
 			t.Errorf("%+v, %v", answer, err)
 		}

@@ -9,10 +9,10 @@ import (
 
 	"github.com/syncthing/syncthing/lib/protocol"
 	"golang.org/x/exp/slices"
-	"syncthing-audit/document"
 	"syncthing-audit/finding"
 	"syncthing-audit/join"
 	"syncthing-audit/part"
+	"syncthing-audit/rows"
 )
 
 // lines is a part in memory.
@@ -248,7 +248,7 @@ func TestEachKindOfName(t *testing.T) {
 		joined := atomic.Int64{}
 		plan := planOf(t, row.one, row.other)
 		answer, err := Collect(plan, Options{Consent: Of(part.Special), Refused: func() { refused++ }, Joined: &joined},
-			func(one *document.Document) error { count += len(one.Rows); return nil })
+			func(one *rows.Piece) error { count += len(one.Rows); return nil })
 		if answer == nil || len(answer.Folders) != 1 {
 			t.Fatalf("%s: %v", row.why, err)
 		}

@@ -3,8 +3,8 @@ package audit
 import (
 	"testing"
 
-	"syncthing-audit/document"
 	"syncthing-audit/part"
+	"syncthing-audit/rows"
 )
 
 // Parts of earlier moments are told as that where they may be, and refused where nobody agreed to it. Their names are in motion then.
@@ -14,7 +14,7 @@ func TestPartsOfEarlierMoments(t *testing.T) {
 		earlier, refusals int
 	}{{Consent{}, 2, 0}, {Of(part.Moment), 2, 0}, {Of(part.Absent), 0, 2}} {
 		plan := planWith(t, with(), with(), func(head *part.Head) { head.Folders[0].Max = 8 }) // each knows of the other's change 9
-		answer, err := Collect(plan, Options{Consent: row.consent}, func(*document.Document) error { return nil })
+		answer, err := Collect(plan, Options{Consent: row.consent}, func(*rows.Piece) error { return nil })
 		before := Refused(plan, row.consent)
 		if err != nil || len(answer.Earlier) != row.earlier || len(answer.Refusals) != row.refusals || len(before.Earlier) != row.earlier || len(before.Refusals) != row.refusals {
 			t.Errorf("%+v: %+v, %+v, %v", row, answer.Earlier, answer.Refusals, err)
@@ -34,7 +34,7 @@ func TestWhatIsToldBesideANameThatIsAudited(t *testing.T) {
 		return func(n *part.Name) { n.Own.Permissions, n.Disk.Permissions = &bits, bits }
 	}
 	plan := planOfNames(t, false, []*part.Name{named(copied, with(mode(0o600)))}, []*part.Name{named(copied, with(mode(0o644)))})
-	answer, err := Collect(plan, Options{}, func(*document.Document) error { return nil })
+	answer, err := Collect(plan, Options{}, func(*rows.Piece) error { return nil })
 	if err != nil {
 		t.Fatal(err)
 	}

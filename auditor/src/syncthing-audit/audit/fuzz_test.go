@@ -11,12 +11,12 @@ import (
 	"time"
 
 	"github.com/syncthing/syncthing/lib/protocol"
-	"syncthing-audit/document"
 	"syncthing-audit/finding"
 	"syncthing-audit/hang"
 	"syncthing-audit/join"
 	"syncthing-audit/limits"
 	"syncthing-audit/part"
+	"syncthing-audit/rows"
 )
 
 // aPart gives the lines of JSON of a small part: a file, a symlink, a deletion, a local change, and a name that is left out.
@@ -95,7 +95,7 @@ func answerOfDevices(t *testing.T, devices []*join.Device) (*finding.Answer, err
 	if err != nil {
 		return nil, err
 	}
-	answer, err := Collect(plan, Options{}, func(one *document.Document) error {
+	answer, err := Collect(plan, Options{}, func(one *rows.Piece) error {
 		if !json.Valid(one.Written) || len(one.Written) > limits.MostBytes {
 			t.Errorf("no document: %s", one.Written)
 		}

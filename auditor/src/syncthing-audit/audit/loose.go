@@ -2,7 +2,6 @@ package audit
 
 import (
 	"golang.org/x/exp/slices"
-	"syncthing-audit/document"
 	"syncthing-audit/finding"
 	"syncthing-audit/join"
 	"syncthing-audit/part"
@@ -92,5 +91,5 @@ func isAlike(record, other *part.Record) bool {
 	case record.Content == nil:
 		return record.Target == other.Target
 	}
-	return document.IsSame(record.Content, other.Content)
+	return record.Content.IsSame(other.Content)
 }

@@ -3,10 +3,10 @@ package audit
 import (
 	"strings"
 
-	"syncthing-audit/document"
 	"syncthing-audit/finding"
 	"syncthing-audit/join"
 	"syncthing-audit/part"
+	"syncthing-audit/rows"
 )
 
 // names goes through the names of one folder.
@@ -80,15 +80,15 @@ func (n *names) keep(row *join.Row) {
 	}
 }
 
-// give gives a document to those who answer it. Where something was refused there is no answer, so it isn't asked for.
-func (n *names) give(document *document.Document) error {
+// give gives a piece to those who answer it. Where something was refused there is no answer, so it isn't asked for.
+func (n *names) give(piece *rows.Piece) error {
 	n.found.Documents++
-	document.Place = n.documents
-	n.documents++
+	piece.Place = n.pieces
+	n.pieces++
 	if len(n.answer.Refusals) > 0 {
 		return nil
 	}
-	return n.take(document)
+	return n.take(piece)
 }
 
 // isBelow says whether a name stands below a directory that couldn't be read somewhere, and counts it.
@@ -150,7 +150,7 @@ func outsOf(name *part.Name) []part.LeftOut {
 	return name.Out
 }
 
-// hasOut says whether a member has something of the name that no document says.
+// hasOut says whether a member has something of the name that no row says.
 func hasOut(row *join.Row) bool {
 	for _, name := range row.At {
 		if len(outsOf(name)) > 0 {

@@ -15,7 +15,7 @@ const whyRot = "other bytes on the disk than its own index records; size and tim
 // can't be read, and what a device's own disk and index say is so whatever others say.
 func (n *names) addOwnFaults(row *join.Row) {
 	damaged := damagedOf(row)
-	damaged.IsFile = false // no document has it
+	damaged.IsFile = false // no row has it
 	for member, name := range row.At {
 		if name != nil && isRotten(name, n.found.Members[member].About) {
 			damaged.At = append(damaged.At, finding.DamagedAt{Member: member, Why: whyRot, IsRot: true})

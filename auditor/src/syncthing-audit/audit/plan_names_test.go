@@ -8,16 +8,16 @@ import (
 	"testing"
 
 	"syncthing-audit/ask"
-	"syncthing-audit/document"
 	"syncthing-audit/finding"
 	"syncthing-audit/join"
 	"syncthing-audit/part"
+	"syncthing-audit/rows"
 )
 
 // What a part or whoever takes documents fails with ends an audit.
 func TestAnAuditThatFails(t *testing.T) {
 	failed := errors.New("it fails")
-	take := func(*document.Document) error { return failed }
+	take := func(*rows.Piece) error { return failed }
 	if _, err := Collect(planOf(t, with(), with()), Options{}, take); err != failed {
 		t.Error(err)
 	}
@@ -26,40 +26,52 @@ func TestAnAuditThatFails(t *testing.T) {
 			plan := planOf(t, with(), with())
 			stream := plan.Devices[place].Stream.(*lines)
 			stream.left, stream.err = stream.left[:end], failed
-			if _, err := Collect(plan, Options{}, func(*document.Document) error { return nil }); !errors.Is(err, failed) {
+			if _, err := Collect(plan, Options{}, func(*rows.Piece) error { return nil }); !errors.Is(err, failed) {
 				t.Errorf("device %d without line %d: %v", place, end, err)
 			}
 		}
 	}
 }
 
-// A folder without a name is asked as a document, and so is one whose names are all told otherwise. Replies to several documents are added.
+// Replies to several pieces are added. A folder of which one isn't answered has no answer.
 func TestRepliesAreAdded(t *testing.T) {
 	plan := planOf(t, with(rotten), with())
-	var documents []*document.Document
-	answer, err := Collect(plan, Options{}, func(one *document.Document) error { documents = append(documents, one); return nil })
+	var documents []*rows.Piece
+	answer, err := Collect(plan, Options{}, func(one *rows.Piece) error { documents = append(documents, one); return nil })
 	if err != nil || len(documents) != 1 || documents[0].Place != 0 || answer.Folders[0].Documents != 1 {
 		t.Fatal(err, documents)
 	}
+	answer.Folders[0].Documents = 2 // as if there had been two
 	replies := NewReplies()
 	failures := []finding.Failure{{Reason: "StoreDiffers", Name: "a", Device: 1}}
 	pairs := int64(5)
-	replies.Take(documents[0], &ask.Reply{Names: 1, Deleted: 2, Failures: failures, Firmness: finding.Firmness{Asked: true}, Convergence: finding.Convergence{Pairs: &pairs}})
-	replies.Take(&document.Document{Folder: "docs", Rows: []*join.Row{{Name: "b"}}}, &ask.Reply{Names: 3, Deleted: 4, Firmness: finding.Firmness{Asked: true}})
-	replies.Take(&document.Document{Folder: "docs", Own: "another's"}, &ask.Reply{Names: 7, Failures: failures})
+	replies.Take(documents[0], &ask.Reply{Names: 1, Deleted: 2, Failures: failures, Convergence: finding.Convergence{Pairs: &pairs}})
+	if err := replies.AddTo(answer); err == nil || !strings.Contains(err.Error(), "syncaudit didn't answer to all of it") {
+		t.Error(err)
+	}
+	if err := NewReplies().AddTo(answer); err == nil {
+		t.Error("without a reply there is an answer")
+	}
+	refused := *answer
+	refused.Refusals = []finding.Refusal{{Kind: part.Absent}}
+	if err := NewReplies().AddTo(&refused); err != nil {
+		t.Error(err)
+	}
+	replies.Take(&rows.Piece{Folder: "docs", Rows: []*join.Row{{Name: "b"}}}, &ask.Reply{Names: 3, Deleted: 4})
+	replies.Take(&rows.Piece{Folder: "docs", Own: "another's"}, &ask.Reply{Names: 7, Failures: failures})
 	if err := replies.AddTo(answer); err != nil {
 		t.Fatal(err)
 	}
 	folder := answer.Folders[0]
 	var told []finding.Failure
 	folder.EachFailure(func(one *finding.Failure) { told = append(told, *one) })
-	if folder.Names != 4 || folder.Deleted != 6 || !reflect.DeepEqual(told, failures) || len(folder.Rows) != 1 || folder.Rows["a"] == nil || !folder.Firmness.Asked ||
+	if folder.Names != 4 || folder.Deleted != 6 || !reflect.DeepEqual(told, failures) || len(folder.Rows) != 1 || folder.Rows["a"] == nil || folder.NotFirm != nil ||
 		folder.Convergence.Pairs == nil || *folder.Convergence.Pairs != pairs {
 		t.Errorf("%+v, %v", folder, told)
 	}
-	loose := &finding.Answer{Folders: []*finding.Folder{{ID: "docs", Rows: map[string]*join.Row{}}}}
+	loose := &finding.Answer{Folders: []*finding.Folder{{ID: "docs", Documents: 1, Rows: map[string]*join.Row{}}}}
 	firm := NewReplies()
-	firm.Take(&document.Document{Folder: "docs"}, &ask.Reply{Firmness: finding.Firmness{Asked: true, First: &finding.Failure{Reason: finding.VersionDiffers, Name: "z"}}})
+	firm.Take(&rows.Piece{Folder: "docs"}, &ask.Reply{NotFirm: &finding.Failure{Reason: finding.VersionDiffers, Name: "z"}})
 	if err := firm.AddTo(loose); err == nil || !strings.Contains(err.Error(), `keeps it from being firm, and this program that nothing does`) {
 		t.Errorf("syncaudit says what this program hasn't found: %v", err)
 	}
@@ -72,7 +84,7 @@ func TestWhatAPlanRefuses(t *testing.T) {
 	plan.LeftOut = []join.Refusal{{Kind: part.Unshared, Folder: "pics", Device: idOf(5), Why: "y"}}
 	plan.Observers = []join.Observer{{Folder: "docs", Device: "o"}, {Folder: "music", Device: "o"}}
 	asked := 0
-	answer, err := Collect(plan, Options{Consent: Of(part.Absent), Refused: func() { asked++ }}, func(*document.Document) error { t.Error("a document is asked"); return nil })
+	answer, err := Collect(plan, Options{Consent: Of(part.Absent), Refused: func() { asked++ }}, func(*rows.Piece) error { t.Error("a document is asked"); return nil })
 	if err != nil || asked != 1 {
 		t.Fatal(err, asked)
 	}
@@ -119,7 +131,7 @@ func TestWhatIsBelowADirectoryThatCannotBeRead(t *testing.T) {
 	}
 	plan := planOfNames(t, false, []*part.Name{below(), named("e", with())},
 		[]*part.Name{named("d", with()), named("d/x", with()), named("d/y", with(rotten)), named("d0", with()), named("e", with())})
-	answer, err := Collect(plan, Options{Consent: Of(part.Unreadable)}, func(*document.Document) error { return nil })
+	answer, err := Collect(plan, Options{Consent: Of(part.Unreadable)}, func(*rows.Piece) error { return nil })
 	if err != nil {
 		t.Fatal(err)
 	}
@@ -134,7 +146,7 @@ func TestWhatIsBelowADirectoryThatCannotBeRead(t *testing.T) {
 // Of devices that ran it is counted which hadn't heard of another's record. What is told of a name is kept with all that the devices have of it.
 func TestWhatIsNotHeardOf(t *testing.T) {
 	plan := planOfNames(t, true, []*part.Name{named("a", with()), named("b", with(unscanned))}, []*part.Name{named("a", with(seeing(1, false)))})
-	answer, err := Collect(plan, Options{}, func(*document.Document) error { return nil })
+	answer, err := Collect(plan, Options{}, func(*rows.Piece) error { return nil })
 	if err != nil {
 		t.Fatal(err)
 	}
@@ -150,7 +162,7 @@ func TestTheOrderOfDevicesWithDamage(t *testing.T) {
 		*n = part.Name{Out: []part.LeftOut{{Kind: part.Damaged, Why: "why"}, {Kind: part.Damaged, Why: "and why"}}}
 	})
 	plan := planOfNames(t, false, []*part.Name{named("a", with(rotten)), named("b", with())}, []*part.Name{named("a", twice), named("b", with())})
-	answer, err := Collect(plan, Options{}, func(*document.Document) error { return nil })
+	answer, err := Collect(plan, Options{}, func(*rows.Piece) error { return nil })
 	if err != nil {
 		t.Fatal(err)
 	}

@@ -1,13 +1,16 @@
 package audit
 
 import (
+	"fmt"
+
 	"syncthing-audit/ask"
-	"syncthing-audit/document"
 	"syncthing-audit/finding"
 	"syncthing-audit/join"
+	"syncthing-audit/rows"
+	"syncthing-audit/shell"
 )
 
-// Replies gathers what syncaudit says of documents, beside what is found in other ways.
+// Replies gathers what syncaudit says of pieces, beside what is found in other ways.
 type Replies struct {
 	folders map[folderKey]*replied
 	room    finding.Room
@@ -18,8 +21,9 @@ type folderKey struct{ id, own string }
 
 // replied is what it says of one folder.
 type replied struct {
+	pieces         int
 	names, deleted int64
-	firmness       finding.Firmness
+	notFirm        []finding.Failure // what each piece tells first
 	convergence    finding.Convergence
 	failures       finding.Failures
 	rows           []*join.Row // of names that fail, as far as there is room
@@ -28,24 +32,27 @@ type replied struct {
 // NewReplies begins to gather.
 func NewReplies() *Replies { return &Replies{folders: map[folderKey]*replied{}} }
 
-// Take adds a reply. They come in the order of their documents.
-func (r *Replies) Take(document *document.Document, reply *ask.Reply) {
-	key := folderKey{document.Folder, document.Own}
+// Take adds a reply. They come in the order of their pieces.
+func (r *Replies) Take(piece *rows.Piece, reply *ask.Reply) {
+	key := folderKey{piece.Folder, piece.Own}
 	to := r.folders[key]
 	if to == nil {
-		to = &replied{firmness: finding.Firmness{Asked: true}, convergence: finding.Convergence{Asked: true}}
+		to = &replied{}
 		r.folders[key] = to
 	}
+	to.pieces++
 	to.names += reply.Names
 	to.deleted += reply.Deleted
-	to.firmness.Take(reply.Firmness)
+	if reply.NotFirm != nil {
+		to.notFirm = append(to.notFirm, *reply.NotFirm)
+	}
 	to.convergence.Take(reply.Convergence)
 	failed := map[string]bool{}
 	for _, failure := range reply.Failures {
 		to.failures.Add(failure)
 		failed[failure.Name] = true
 	}
-	for _, row := range document.Rows {
+	for _, row := range piece.Rows {
 		if !failed[row.Name] {
 			continue
 		}
@@ -55,18 +62,23 @@ func (r *Replies) Take(document *document.Document, reply *ask.Reply) {
 	}
 }
 
-// AddTo adds all replies to what was found, and says why that isn't whole, if so.
+// AddTo adds all replies to what was found, and says why that isn't whole, if so. Where something was refused nobody is asked any more.
 func (r *Replies) AddTo(answer *finding.Answer) error {
+	if len(answer.Refusals) > 0 {
+		return answer.Err()
+	}
 	for _, folder := range answer.Folders {
-		if from := r.folders[folderKey{folder.ID, folder.Own}]; from != nil {
-			folder.Names += from.names
-			folder.Deleted += from.deleted
-			folder.Failures = from.failures
-			folder.Firmness = from.firmness
-			folder.Convergence = from.convergence
-			for _, row := range from.rows {
-				folder.Rows[row.Name] = row
-			}
+		from := r.folders[folderKey{folder.ID, folder.Own}]
+		if from == nil || from.pieces != folder.Documents {
+			return fmt.Errorf("refused: folder %s: syncaudit didn't answer to all of it", shell.Folder(folder.ID, folder.Label))
+		}
+		folder.Names += from.names
+		folder.Deleted += from.deleted
+		folder.Failures = from.failures
+		folder.NotFirm = finding.First(from.notFirm, finding.FirmReasons)
+		folder.Convergence = from.convergence
+		for _, row := range from.rows {
+			folder.Rows[row.Name] = row
 		}
 	}
 	for _, folder := range answer.Folders {

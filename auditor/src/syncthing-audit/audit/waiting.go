@@ -40,11 +40,5 @@ func hasRecorded(at *part.Name, record *part.Record) bool {
 	case record.Content == nil: // then neither has one, as both are of one type
 		return true
 	}
-	return isContent(at.Own.Content, record.Content) && slices.IndexFunc(at.Disk.Contents, func(found part.Content) bool { return isContent(&found, record.Content) }) >= 0
-}
-
-// isContent says whether two contents are of the same bytes, cut in the same way.
-func isContent(content, other *part.Content) bool {
-	isOneBlock := part.CountOfBlocks(content.Size, content.BlockSize) == 1 && part.CountOfBlocks(other.Size, other.BlockSize) == 1
-	return content.Size == other.Size && content.Hash == other.Hash && (isOneBlock || content.BlockSize == other.BlockSize)
+	return at.Own.Content.IsSame(record.Content) && slices.IndexFunc(at.Disk.Contents, func(found part.Content) bool { return found.IsSame(record.Content) }) >= 0
 }

@@ -49,22 +49,3 @@ func TestWhatStandsOnTheDiskOfWhatWaits(t *testing.T) {
 		}
 	}
 }
-
-// One block is the same in each block size; of more, and of other bytes, none is the same as one that is cut otherwise.
-func TestContentsOfTheSameBytes(t *testing.T) {
-	small, large := part.Content{Size: 131072, BlockSize: 131072, Hash: part.Hash{1}}, part.Content{Size: 131073, BlockSize: 131072, Hash: part.Hash{1}}
-	for _, row := range []struct {
-		of     part.Content
-		change func(*part.Content)
-		is     bool
-	}{
-		{small, func(*part.Content) {}, true}, {large, func(*part.Content) {}, true}, {small, func(c *part.Content) { c.BlockSize *= 2 }, true},
-		{large, func(c *part.Content) { c.BlockSize *= 2 }, false}, {small, func(c *part.Content) { c.Size-- }, false}, {large, func(c *part.Content) { c.Hash[0]++ }, false},
-	} {
-		other := row.of
-		row.change(&other)
-		if isContent(&row.of, &other) != row.is || isContent(&other, &row.of) != row.is {
-			t.Errorf("%+v, %+v: expected %v", row.of, other, row.is)
-		}
-	}
-}

@@ -12,16 +12,27 @@ import (
 	"syncthing-audit/exported"
 )
 
+// The counts of an answer to a document of one name.
+const (
+	countsOfOne = "folder docs: 1 names, 0 deleted, 1 devices\n"
+	pairsOfOne  = "folder docs: 1 names, 0 deleted, 1 devices, 0 pairs not yet at the winner\n"
+)
+
+// reply puts the answer to an exported document beside it.
+func reply(t *testing.T, room, text string) {
+	t.Helper()
+	if err := os.WriteFile(filepath.Join(room, "cut-0001.reply"), []byte(text), 0o600); err != nil {
+		t.Fatal(err)
+	}
+}
+
 // exportedPart exports a part, has its one document answered as settled, and gives the directory.
 func exportedPart(t *testing.T) string {
 	room := t.TempDir()
 	if status := Run([]string{"export", "--into", room, aPart(t)}, io.Discard, io.Discard); status != exit.Done {
 		t.Fatalf("the export has status %d", status)
 	}
-	reply := []byte("settled\nfolder docs: 1 names, 0 deleted, 1 devices\n")
-	if err := os.WriteFile(filepath.Join(room, "cut-0001.reply"), reply, 0o600); err != nil {
-		t.Fatal(err)
-	}
+	reply(t, room, "settled\n"+countsOfOne+"firm\n"+countsOfOne+"converging\n"+pairsOfOne)
 	return room
 }
 
@@ -67,10 +78,7 @@ func TestAnExportOfASlice(t *testing.T) {
 	if status := Run([]string{"export", "--into", room, slice}, io.Discard, io.Discard); status != exit.Done {
 		t.Fatalf("the export has status %d", status)
 	}
-	reply := []byte("settled\nfolder docs: 1 names, 0 deleted, 1 devices\n")
-	if err := os.WriteFile(filepath.Join(room, "cut-0001.reply"), reply, 0o600); err != nil {
-		t.Fatal(err)
-	}
+	reply(t, room, "settled\n"+countsOfOne+"firm\n"+countsOfOne+"converging\n"+pairsOfOne)
 	var output strings.Builder
 	if status := Run([]string{"sum", room}, &output, io.Discard); status != exit.Partial || !strings.Contains(output.String(), "not audited: names outside slice 3 of 7") {
 		t.Errorf("%d:\n%s", status, output.String())
@@ -114,10 +122,8 @@ func TestAnExportOfAnOlderProgram(t *testing.T) {
 // A sum has no details of what a document tells. It says that 'check' has them: it refuses parts of all names where it is asked for some.
 func TestASumOfWhatFails(t *testing.T) {
 	room := exportedPart(t)
-	reply := []byte("not settled: LocalOnly docs a on 1\nfolder docs: 1 names, 0 deleted, 1 devices\nLocalOnly docs a on 1\n")
-	if err := os.WriteFile(filepath.Join(room, "cut-0001.reply"), reply, 0o600); err != nil {
-		t.Fatal(err)
-	}
+	const fails = "LocalOnly docs a on 1\n"
+	reply(t, room, "not settled: "+fails+countsOfOne+fails+"not firm: "+fails+countsOfOne+"not converging: "+fails+pairsOfOne)
 	var output, log strings.Builder
 	status := Run([]string{"sum", room}, &output, &log)
 	text := strings.Join(strings.Fields(output.String()), " ")

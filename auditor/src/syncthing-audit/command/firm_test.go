@@ -70,7 +70,7 @@ func TestWhatKeepsAFolderFromBeingFirm(t *testing.T) {
 		folder.EachLoose(func(failure *finding.Failure) { seen[failure.Reason]++ })
 	}
 	for _, reason := range []string{string(finding.IsFirm), string(finding.NotFirm), finding.VersionDiffers, finding.ViewNotBelow} {
-		if seen[reason] == 0 && seen[string(finding.NotAsked)] == 0 {
+		if seen[reason] == 0 {
 			t.Errorf("no %s was drawn: %v", reason, seen)
 		}
 	}
@@ -90,7 +90,7 @@ func TestViewsOfOthersDoNotCount(t *testing.T) {
 	devices[0].views[devices[2].id] = []device.Entry{{Name: "a", Record: &newer, Blocks: own.Blocks}}
 	asked := commandline.Options{LeaveOut: map[string]bool{part.Absent: true}, Jobs: 1}
 	for count, is := range map[int]finding.Firm{3: finding.NotFirm, 2: finding.IsFirm} {
-		if how := answerOfSome(t, devices[:count], asked).HowFirm(); how != is && how != finding.NotAsked {
+		if how := answerOfSome(t, devices[:count], asked).HowFirm(); how != is {
 			t.Errorf("of %d devices: %s", count, how)
 		}
 	}
@@ -118,17 +118,5 @@ func TestAnAnswerThatDiffersIsRefused(t *testing.T) {
 		if (err != nil) != isRefused || err != nil && !strings.Contains(err.Error(), `this program that VersionDiffers of "a" on `) {
 			t.Errorf("%d: %v", versions, err)
 		}
-	}
-}
-
-// A program that is too old to be asked leaves an answer as it was, and says that.
-func TestAnAnswerByAnOldProgram(t *testing.T) {
-	if !strings.HasSuffix(auditor().Path, standIn) {
-		t.Skip("another program than what stands for it answers")
-	}
-	t.Setenv("WITHOUT_FIRM", "1")
-	answer := answerOfDrawn(t, drawAlike(t, rand.New(rand.NewSource(1)), 1, 6), false)
-	if how := answer.HowFirm(); how != finding.NotAsked || answer.Folders[0].HasFailures() {
-		t.Errorf("%s", how)
 	}
 }

@@ -22,6 +22,7 @@ import (
 	"syncthing-audit/device"
 	"syncthing-audit/disk"
 	"syncthing-audit/finding"
+	"syncthing-audit/fixture"
 	"syncthing-audit/gather"
 	"syncthing-audit/inputs"
 	"syncthing-audit/join"
@@ -204,7 +205,7 @@ func dataOf(content *part.Content) []byte {
 
 // auditor gives the program that answers, or what stands for it.
 func auditor() ask.Program {
-	for _, path := range []string{chosenAuditor, "../../../../crates/syncaudit/out/syncaudit"} {
+	for _, path := range []string{fixture.Auditor, "../../../../crates/syncaudit/out/syncaudit"} {
 		if _, err := os.Stat(path); err == nil {
 			return ask.Program{Path: path}
 		}

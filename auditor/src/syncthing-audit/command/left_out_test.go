@@ -11,11 +11,12 @@ import (
 	"syncthing-audit/answering"
 	"syncthing-audit/audit"
 	"syncthing-audit/commandline"
-	"syncthing-audit/document"
 	"syncthing-audit/exit"
 	"syncthing-audit/finding"
+	"syncthing-audit/fixture"
 	"syncthing-audit/join"
 	"syncthing-audit/part"
+	"syncthing-audit/rows"
 )
 
 // linesInMemory is a part in memory.
@@ -81,7 +82,7 @@ func answered(parts []*hostile, consent audit.Consent) (*finding.Answer, error) 
 	if err != nil {
 		return nil, err
 	}
-	return audit.Collect(plan, audit.Options{Consent: consent}, func(*document.Document) error { return nil })
+	return audit.Collect(plan, audit.Options{Consent: consent}, func(*rows.Piece) error { return nil })
 }
 
 // waysToLeaveOut are what keeps something from being audited, with its kind: each kind of a name, and each way in which a folder on a device, a device
@@ -179,6 +180,18 @@ func TestNothingIsLeftOutInSilence(t *testing.T) {
 		answer, err := answered(change(threeInStep()), audit.Of(kind))
 		if err != nil || len(answer.Refusals) > 0 || answering.Status(answer) != exit.Partial {
 			t.Errorf("%s: a strict audit that leaves this kind out: %v, %v", why, answer, err)
+		}
+	}
+}
+
+// A strict audit tells what it refuses, and how to leave that out. That syncaudit isn't asked then is no fault of its own.
+func TestAStrictAuditTellsWhatItRefuses(t *testing.T) {
+	fixture.UseAuditor(t)
+	for why, change := range waysToLeaveOut() {
+		kind, _, _ := strings.Cut(why, ":")
+		status, output, log := checked(writtenParts(t, t.TempDir(), change(threeInStep())), nil, "--strict")
+		if status != exit.Refused || output != "" || !strings.Contains(log, "--leave-out "+kind+" ") {
+			t.Errorf("%s: status %d, %s%s", why, status, output, log)
 		}
 	}
 }

@@ -5,9 +5,6 @@ import (
 	"testing"
 )
 
-// chosenAuditor is the program that whoever runs the tests would have answer, or nothing.
-var chosenAuditor = os.Getenv("SYNCAUDIT")
-
 // TestMain clears $SYNCAUDIT, so that a test that needs the program says so by useAuditor or auditor: what passes for a
 // maintainer who has set it passes for all.
 func TestMain(tests *testing.M) {

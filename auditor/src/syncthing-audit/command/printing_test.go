@@ -10,7 +10,7 @@ import (
 var mayWrite = map[string]string{
 	"ask/lines.go":         "a digit of an escaped byte, into a text",
 	"shell/shell.go":       "a digit of an escaped byte, into a text",
-	"document/builder.go":  "a document for syncaudit",
+	"rows/cut.go":          "a document for syncaudit",
 	"terminal/screen.go":   "the line of a terminal, whose words are escaped where it is made, and what was printed by this package before",
 	"places/running.go":    "tokens for a look's standard input",
 	"script/script.go":     "steps of a shell script, whose names are quoted",

@@ -50,7 +50,7 @@ var elsewhere = map[string][]string{
 		"refused: what was found can't be kept in %s (TMPDIR may name another directory): %w",
 		"refused: something came into %s meanwhile: %w",
 	},
-	"more bytes than a quick test writes: part's and document's own tests of limits": {
+	"more bytes than a quick test writes: part's and rows' own tests of limits": {
 		"refused: a line of the part would have %d bytes, and a part has lines of at most %d",
 		"refused: what a part says of its folders and devices takes %d bytes here, and a part has at most %d for that: ",
 		"refused: it has more bytes than any part (over %d)",

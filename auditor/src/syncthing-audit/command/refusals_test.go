@@ -8,6 +8,7 @@ import (
 	"io/fs"
 	"os"
 	"path/filepath"
+	"regexp"
 	"sort"
 	"strconv"
 	"strings"
@@ -182,6 +183,16 @@ var refusals = []aRefusal{
 	{"refused: %s: %w", "cut-0001.reply", func(t *testing.T, _ string) []string {
 		of := exportedPart(t)
 		with(t, filepath.Join(of, "cut-0001.reply"), "maybe\n")
+		return []string{"sum", of}
+	}},
+	{"refused: folder %s: syncaudit didn't answer to all of it", "docs", func(t *testing.T, _ string) []string {
+		of := exportedPart(t)
+		path := filepath.Join(of, exported.RestName)
+		text, err := os.ReadFile(path)
+		if err != nil {
+			t.Fatal(err)
+		}
+		with(t, path, regexp.MustCompile(`"Documents":\[.*?\]`).ReplaceAllString(string(text), `"Documents":[]`))
 		return []string{"sum", of}
 	}},
 	{"refused: there is no history: %w", "", func(t *testing.T, room string) []string {

@@ -12,11 +12,11 @@ import (
 	"syncthing-audit/answering"
 	"syncthing-audit/audit"
 	"syncthing-audit/commandline"
-	"syncthing-audit/document"
 	"syncthing-audit/join"
 	"syncthing-audit/looks"
 	"syncthing-audit/part"
 	"syncthing-audit/report"
+	"syncthing-audit/rows"
 )
 
 // aField is a field of a part that can be set to something else.
@@ -145,7 +145,7 @@ func collected(t *testing.T, why string, some, other []*hostile) (err error) {
 	if err != nil {
 		return err
 	}
-	answer, err := audit.Collect(plan, audit.Options{}, func(*document.Document) error { return nil })
+	answer, err := audit.Collect(plan, audit.Options{}, func(*rows.Piece) error { return nil })
 	if err != nil {
 		return err
 	}

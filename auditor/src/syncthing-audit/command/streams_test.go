@@ -5,7 +5,6 @@ import (
 	"fmt"
 	"math/rand"
 	"os"
-	"os/exec"
 	"strconv"
 	"strings"
 	"testing"
@@ -15,10 +14,11 @@ import (
 	"syncthing-audit/ask"
 	"syncthing-audit/audit"
 	"syncthing-audit/commandline"
-	"syncthing-audit/document"
-	"syncthing-audit/exit"
 	"syncthing-audit/finding"
+	"syncthing-audit/join"
+	"syncthing-audit/limits"
 	"syncthing-audit/part"
+	"syncthing-audit/rows"
 )
 
 // foldersOfStreams is how many folders are drawn, if $FOLDERS doesn't say it.
@@ -170,28 +170,24 @@ func (c *aChance) drawPart(parts []*hostile, name string, sequence int64) {
 
 // A way to ask of what is joined: each piece is cut into others.
 type aWay struct {
-	asStreams bool
-	cut       func(piece *document.Document) ([]*document.Document, error)
+	asRows bool
+	cut    func(folder *join.Folder, piece *rows.Piece) []*rows.Piece
 }
 
-func asItIs(piece *document.Document) ([]*document.Document, error) {
-	return []*document.Document{piece}, nil
-}
+func asItIs(_ *join.Folder, piece *rows.Piece) []*rows.Piece { return []*rows.Piece{piece} }
 
 // eachByItself cuts a piece into a document for each of its names.
-func eachByItself(piece *document.Document) ([]*document.Document, error) {
+func eachByItself(folder *join.Folder, piece *rows.Piece) []*rows.Piece {
 	if len(piece.Rows) == 0 {
-		return asItIs(piece)
+		return asItIs(folder, piece)
 	}
-	all, err := []*document.Document{}, error(nil)
+	all := []*rows.Piece{}
 	for _, row := range piece.Rows {
-		var nexts []*document.Document
-		if nexts, err = piece.Documents(func(name string) bool { return name == row.Name }); err != nil {
-			return nil, err
-		}
-		all = append(all, nexts...)
+		filling := rows.NewDocuments(folder, false, limits.MostBytes)
+		filling.Add(row)
+		all = append(all, filling.Take())
 	}
-	return all, nil
+	return all
 }
 
 // answer audits parts in one way.
@@ -202,13 +198,12 @@ func (w aWay) answer(parts []*hostile, program ask.Program) (*finding.Answer, er
 	}
 	replies, next := audit.NewReplies(), 0
 	pool := ask.NewPool(program, 2, replies.Take)
-	answer, err := audit.Collect(plan, audit.Options{AsStreams: w.asStreams}, func(piece *document.Document) error {
-		all, err := w.cut(piece)
-		for _, doc := range all {
-			doc.Place = next
+	answer, err := audit.Collect(plan, audit.Options{AsRows: w.asRows}, func(piece *rows.Piece) (err error) {
+		for _, one := range w.cut(plan.Folders[0], piece) {
+			one.Place = next
 			next++
 			if err == nil {
-				err = pool.Ask(doc)
+				err = pool.Ask(one)
 			}
 		}
 		return err
@@ -219,6 +214,7 @@ func (w aWay) answer(parts []*hostile, program ask.Program) (*finding.Answer, er
 	if err != nil {
 		return nil, err
 	}
+	answer.Folders[0].Documents = next
 	return answer, replies.AddTo(answer)
 }
 
@@ -230,9 +226,9 @@ func toldInAllForms(answer *finding.Answer) string {
 		fmt.Fprintln(&all, status, err)
 	}
 	for _, folder := range answer.Folders {
-		fmt.Fprintln(&all, folder.Names, folder.Deleted, folder.Firmness.Asked, folder.Convergence.First)
+		fmt.Fprintln(&all, folder.Names, folder.Deleted, folder.Convergence.First)
 		if !folder.HasFailures() { // else it isn't told
-			fmt.Fprintln(&all, folder.Firmness.First)
+			fmt.Fprintln(&all, folder.NotFirm)
 		}
 		folder.EachFailure(func(failure *finding.Failure) { fmt.Fprintf(&all, "%+v\n", *failure) })
 	}
@@ -260,7 +256,6 @@ func TestStreamsAnswerAsDocuments(t *testing.T) {
 	if strings.HasSuffix(program.Path, standIn) {
 		count /= 20
 	}
-	readsStreams := exec.Command(program.Path, "rows", "--firm").Run().(*exec.ExitError).ExitCode() != exit.Usage // it refuses nothing
 	ways := map[string]aWay{"streams": {true, asItIs}, "documents": {false, asItIs}, "each name": {true, eachByItself}}
 	first, _ := strconv.ParseInt(os.Getenv("FIRST"), 10, 64)
 	for seed := first + 1; seed <= first+count; seed++ {
@@ -276,7 +271,7 @@ func TestStreamsAnswerAsDocuments(t *testing.T) {
 			if hindrance[why] = folder.Convergence.First; why == "streams" {
 				seen[string(answer.HowFirm())+" "+string(answer.HowConverging(folder))]++
 			}
-			if why == "documents" || !readsStreams { // they have names that are firm, too, and something may hinder these
+			if why == "documents" { // they have names that are firm, too, and something may hinder these
 				folder.Convergence.First = hindrance["each name"]
 			}
 			told[why] = toldInAllForms(answer)

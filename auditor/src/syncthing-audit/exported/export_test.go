@@ -12,11 +12,11 @@ import (
 	"syncthing-audit/choice"
 	"syncthing-audit/commandline"
 	"syncthing-audit/device"
-	"syncthing-audit/document"
 	"syncthing-audit/exit"
 	"syncthing-audit/finding"
 	"syncthing-audit/fixture"
 	"syncthing-audit/inputs"
+	"syncthing-audit/rows"
 	"syncthing-audit/spill"
 )
 
@@ -38,7 +38,13 @@ func answer(t *testing.T, directory, name, text string) {
 	}
 }
 
-const settled = "settled\nfolder docs: 1 names, 0 deleted, 1 devices\n"
+// Answers to a document of one name.
+const (
+	counts    = "folder docs: 1 names, 0 deleted, 1 devices"
+	pairs     = counts + ", 0 pairs not yet at the winner\n"
+	settled   = "settled\n" + counts + "\nsettled\nfirm\n" + counts + "\nconverging\n" + pairs
+	unsettled = "not settled: LocalOnly docs a on 2\n" + counts + "\nLocalOnly docs a on 2\nnot firm: LocalOnly docs a on 2\n" + counts + "\nnot converging: LocalOnly docs a on 2\n" + pairs
+)
 
 // What is exported, of all names or of one slice, is summed up as it was answered, with all that no document says.
 func TestAnExportAndItsSum(t *testing.T) {
@@ -58,7 +64,7 @@ func TestAnExportAndItsSum(t *testing.T) {
 		if _, err := SumOf(directory); err == nil || !strings.HasPrefix(err.Error(), "refused: a document has no answer yet: ") {
 			t.Errorf("a sum of one of two answers: %v", err)
 		}
-		answer(t, directory, "cut-0002.reply", "not settled: LocalOnly docs a on 2\nfolder docs: 1 names, 0 deleted, 1 devices\nLocalOnly docs a on 2\n")
+		answer(t, directory, "cut-0002.reply", unsettled)
 		sum, err := SumOf(directory)
 		if err != nil {
 			t.Fatal(err)
@@ -235,7 +241,7 @@ func TestDocumentsThatCannotBeWritten(t *testing.T) {
 	if err := os.WriteFile(filepath.Join(room, "file"), nil, 0o600); err != nil {
 		t.Fatal(err)
 	}
-	next := &document.Document{Folder: "docs", Written: []byte("{}\n")}
+	next := &rows.Piece{Folder: "docs", Written: []byte("{}\n")}
 	below := &outlet{directory: filepath.Join(room, "file", "below")}
 	if err := below.take(next); exit.Of(err, io.Discard, io.Discard) != exit.Fault {
 		t.Errorf("below a file: %v", err)

@@ -9,11 +9,11 @@ import (
 	"strings"
 
 	"syncthing-audit/amount"
-	"syncthing-audit/document"
 	"syncthing-audit/fault"
 	"syncthing-audit/finding"
 	"syncthing-audit/leftover"
 	"syncthing-audit/outside"
+	"syncthing-audit/rows"
 	"syncthing-audit/shell"
 )
 
@@ -56,7 +56,7 @@ func globbed(path string) string {
 }
 
 // take is given each document.
-func (o *outlet) take(next *document.Document) error {
+func (o *outlet) take(next *rows.Piece) error {
 	o.count++
 	if o.directory == "" {
 		if o.count > 1 {

@@ -6,9 +6,9 @@ import (
 	"path/filepath"
 	"testing"
 
-	"syncthing-audit/document"
 	"syncthing-audit/exit"
 	"syncthing-audit/finding"
+	"syncthing-audit/rows"
 )
 
 // Until an export is whole, none of its documents has its name: a run that is killed leaves nothing that looks like all of them. They are for their user
@@ -21,7 +21,7 @@ func TestNoDocumentStandsBeforeAllDo(t *testing.T) {
 		return found
 	}
 	for count := 0; count < 2; count++ {
-		if err := to.take(&document.Document{Folder: "docs", Written: []byte("{}\n")}); err != nil || len(named()) != 0 {
+		if err := to.take(&rows.Piece{Folder: "docs", Written: []byte("{}\n")}); err != nil || len(named()) != 0 {
 			t.Errorf("%v, and there are %v", err, named())
 		}
 	}
@@ -44,7 +44,7 @@ func TestNoDocumentStandsBeforeAllDo(t *testing.T) {
 func TestAnExportTakesNoOthersPlace(t *testing.T) {
 	room := t.TempDir()
 	to := &outlet{directory: room}
-	if err := to.take(&document.Document{Folder: "docs", Written: []byte("{}\n")}); err != nil {
+	if err := to.take(&rows.Piece{Folder: "docs", Written: []byte("{}\n")}); err != nil {
 		t.Fatal(err)
 	}
 	if err := os.WriteFile(filepath.Join(room, RestName), []byte("another's"), 0o600); err != nil {

@@ -7,9 +7,9 @@ import (
 
 	"syncthing-audit/ask"
 	"syncthing-audit/audit"
-	"syncthing-audit/document"
 	"syncthing-audit/finding"
 	"syncthing-audit/regular"
+	"syncthing-audit/rows"
 )
 
 // SumOf reads the answers that stand beside exported documents.
@@ -24,7 +24,7 @@ func SumOf(directory string) (*finding.Answer, error) {
 		if err != nil {
 			return nil, err
 		}
-		replies.Take(&document.Document{Folder: entry.Folder, Own: entry.Own}, reply)
+		replies.Take(&rows.Piece{Folder: entry.Folder, Own: entry.Own}, reply)
 	}
 	read.Found.IsSum = true
 	return read.Found, replies.AddTo(read.Found)

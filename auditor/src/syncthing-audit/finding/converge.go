@@ -8,30 +8,24 @@ import (
 // ConvergeReasons are why a folder doesn't come right by itself, in the order in which they are told.
 var ConvergeReasons = []string{"NothingPrevails", "Concurrent", "ContentDiffers", "LocalOnly", "StoreUnclean", "StoreDiffers", "SendOnly", "WouldCopy"}
 
-// Convergence is what syncaudit says of a folder that isn't firm: whether it comes right by itself.
+// Convergence is what syncaudit says of the names that aren't firm: whether they come right by themselves.
 type Convergence struct {
-	Asked bool     // of each document that isn't firm; not where the program is too old to know what that is
-	First *Failure // what one document of all would have told to hinder it; nothing where it converges
-	Pairs *int64   // how many pairs of a name and a device aren't yet at what prevails; nothing where the program didn't tell
+	First *Failure // what is told first to hinder it; nothing where it converges
+	Pairs *int64   // how many pairs of a name and a device aren't yet at what prevails; nothing where there are no such names
 }
 
 // Converging says how it stands with a folder that isn't in step, in a word.
 type Converging string
 
-// How it stands with it. The folder converges if each of its documents does, or is firm.
+// How it stands with it. The folder converges if all its names that aren't firm do.
 const (
 	Converges        Converging = "converging"
 	NotConverging    Converging = "not-converging"
-	ConvergeNotAsked Converging = "not-asked"
 	ConvergeNotKnown Converging = "not-known" // what was asked for converges, and something wasn't audited or may change without a record
 )
 
-// IsConvergeReason says whether a reason is one of ConvergeReasons.
-func IsConvergeReason(reason string) bool { return slices.Contains(ConvergeReasons, reason) }
-
-// Take takes what syncaudit says of a further document: the first hindrance of both is kept.
+// Take takes what syncaudit says of further names: the first hindrance of both is kept.
 func (c *Convergence) Take(next Convergence) {
-	c.Asked = c.Asked && next.Asked
 	if next.Pairs != nil {
 		sum := *next.Pairs
 		if c.Pairs != nil {
@@ -39,12 +33,12 @@ func (c *Convergence) Take(next Convergence) {
 		}
 		c.Pairs = &sum
 	}
-	if c.First == nil || next.First != nil && isBefore(next.First, c.First, ConvergeReasons) {
+	if c.First == nil || next.First != nil && IsBefore(next.First, c.First, ConvergeReasons) {
 		c.First = next.First
 	}
 }
 
-// HowConverging says how it stands with a folder; nothing if it is in step. What no document has hinders it, too: a name
+// HowConverging says how it stands with a folder; nothing if it is in step. What no row has hinders it, too: a name
 // without a winner, and one that a disk fails to give.
 func (a *Answer) HowConverging(folder *Folder) Converging {
 	switch {
@@ -52,15 +46,13 @@ func (a *Answer) HowConverging(folder *Folder) Converging {
 		return ""
 	case folder.Convergence.First != nil || folder.Unwon.Len() > 0 || folder.Damaged.Len() > 0:
 		return NotConverging
-	case !folder.Convergence.Asked:
-		return ConvergeNotAsked
-	case !a.IsWhole(folder) || a.IsPart(folder) || folder.mayGetOtherRecords():
+	case folder.Convergence.Pairs == nil || !a.IsWhole(folder) || a.IsPart(folder) || folder.mayGetOtherRecords():
 		return ConvergeNotKnown
 	}
 	return Converges
 }
 
-// mayGetOtherRecords says whether something that no document tells may bring records to the folder beside those that it has: an index
+// mayGetOtherRecords says whether something that no row tells may bring records to the folder beside those that it has: an index
 // that is to be repaired, a scan that records owners or attributes, other permissions on a disk, which a scan records as a change, or
 // something else of Syncthing that writes into the folder's directory.
 func (f *Folder) mayGetOtherRecords() bool {

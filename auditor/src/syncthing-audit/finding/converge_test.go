@@ -16,49 +16,36 @@ func twoMembers() []join.Member {
 	return made
 }
 
-// Of several documents the hindrance is told that one document of all would tell, and what one wasn't asked nobody was.
-func TestConvergenceOfDocuments(t *testing.T) {
+// Of several answers the hindrance is told that one answer to all would tell.
+func TestConvergenceOfSeveral(t *testing.T) {
 	first, second := &Failure{"Concurrent", "b", 0}, &Failure{"Concurrent", "a", 0}
 	third := &Failure{"NothingPrevails", "c", 0}
-	told := Convergence{Asked: true}
-	for _, next := range []struct {
-		said  Convergence
-		asked bool
-		first *Failure
-	}{
-		{Convergence{Asked: true}, true, nil},
-		{Convergence{Asked: true, First: first}, true, first},
-		{Convergence{Asked: true, First: second}, true, second},
-		{Convergence{Asked: true}, true, second},
-		{Convergence{Asked: true, First: third}, true, third},
-		{Convergence{Asked: true, First: first}, true, third},
-		{Convergence{}, false, third},
-		{Convergence{Asked: true}, false, third},
-	} {
-		if told.Take(next.said); told.Asked != next.asked || told.First != next.first {
+	told := Convergence{}
+	for _, next := range []struct{ said, first *Failure }{{nil, nil}, {first, first}, {second, second}, {nil, second}, {third, third}, {first, third}} {
+		if told.Take(Convergence{First: next.said}); told.First != next.first {
 			t.Errorf("%+v: %+v", next.said, told)
 		}
 	}
 }
 
-// What is still to come of several documents is added up, as far as it was told.
+// What is still to come of several is added up, as far as it was told.
 func TestPairsToCome(t *testing.T) {
 	two, three := int64(2), int64(3)
-	told := Convergence{Asked: true}
-	if told.Take(Convergence{Asked: true}); told.Pairs != nil {
+	told := Convergence{}
+	if told.Take(Convergence{}); told.Pairs != nil {
 		t.Errorf("%d", *told.Pairs)
 	}
-	told.Take(Convergence{Asked: true, Pairs: &two})
-	told.Take(Convergence{Asked: true})
-	if told.Take(Convergence{Asked: true, Pairs: &three}); told.Pairs == nil || *told.Pairs != 5 || two != 2 {
+	told.Take(Convergence{Pairs: &two})
+	told.Take(Convergence{})
+	if told.Take(Convergence{Pairs: &three}); told.Pairs == nil || *told.Pairs != 5 || two != 2 {
 		t.Errorf("%v, %d", told.Pairs, two)
 	}
 }
 
-// A folder is called converging only where nothing hinders it, all was asked, and all of it was audited on two devices that stay as they are.
+// A folder is called converging only where nothing hinders it, and all of it was audited on two devices that stay as they are.
 func TestHowAFolderConverges(t *testing.T) {
 	is := func(want Converging, why string, change func(*Answer, *Folder)) {
-		folder := &Folder{ID: "docs", Members: twoMembers(), Convergence: Convergence{Asked: true}}
+		folder := &Folder{ID: "docs", Members: twoMembers(), Convergence: Convergence{Pairs: new(int64)}}
 		folder.Failures.Add(Failure{"StoreDiffers", "a", 1})
 		answer := &Answer{Folders: []*Folder{folder}}
 		change(answer, folder)
@@ -71,7 +58,7 @@ func TestHowAFolderConverges(t *testing.T) {
 	is(NotConverging, "hindered", func(_ *Answer, folder *Folder) { folder.Convergence.First = &Failure{"Concurrent", "a", 0} })
 	is(NotConverging, "a name without a winner", func(_ *Answer, folder *Folder) { folder.Unwon.Add(Unwon{Name: "a"}) })
 	is(NotConverging, "a damaged disk", func(_ *Answer, folder *Folder) { folder.Damaged.Add(Damaged{Name: "a"}) })
-	is(ConvergeNotAsked, "not asked", func(_ *Answer, folder *Folder) { folder.Convergence.Asked = false })
+	is(ConvergeNotKnown, "not asked", func(_ *Answer, folder *Folder) { folder.Convergence.Pairs = nil })
 	is(ConvergeNotKnown, "a name left out", func(_ *Answer, folder *Folder) { folder.LeftOut = []*LeftOut{{Name: "b"}} })
 	is(ConvergeNotKnown, "a device left out", func(answer *Answer, _ *Folder) { answer.LeftOut = []Refusal{{Folder: "docs"}} })
 	is(ConvergeNotKnown, "one device", func(_ *Answer, folder *Folder) { folder.Members = folder.Members[:1] })

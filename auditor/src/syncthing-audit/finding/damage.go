@@ -8,7 +8,7 @@ import (
 // Damaged is a name of which a disk itself fails to give what it has, or of one that isn't audited, has other bytes than its own index says.
 type Damaged struct {
 	Name   part.Bytes
-	IsFile bool // whether a document has it, so that syncaudit tells that it isn't as it is due
+	IsFile bool // whether a row has it, so that syncaudit tells that it isn't as it is due
 	At     []DamagedAt
 }
 
@@ -21,12 +21,12 @@ type DamagedAt struct {
 
 const storeDiffers = "StoreDiffers"
 
-// failuresOfDamage gives those failures that no document tells: the disk hasn't what is due. It is to be read to its end.
+// failuresOfDamage gives those failures that no row tells: the disk hasn't what is due. It is to be read to its end.
 func (f *Folder) failuresOfDamage() *damages {
 	return &damages{folder: f, from: f.Damaged.Read()}
 }
 
-// damages goes through the names that no document has, since a disk fails to give them.
+// damages goes through the names that no row has, since a disk fails to give them.
 type damages struct {
 	folder *Folder
 	from   *spill.Cursor[Damaged]

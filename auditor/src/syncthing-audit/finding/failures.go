@@ -56,8 +56,8 @@ func (f *Folder) EachFailure(take func(*Failure)) {
 type byName struct {
 	reason string
 	failed *spill.Cursor[failed]
-	unwon  *spill.Cursor[Unwon] // of NotWinner alone: such a name is told by no document
-	damage *damages             // of StoreDiffers alone: a document hasn't all of these names
+	unwon  *spill.Cursor[Unwon] // of NotWinner alone: such a name has no row
+	damage *damages             // of StoreDiffers alone: not all of these names have a row
 }
 
 // failuresOf goes through the failures of the reason in this place.

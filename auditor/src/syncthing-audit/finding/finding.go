@@ -23,7 +23,7 @@ type Answer struct {
 	Observers []join.Observer  `json:",omitempty"` // devices that share a folder of these, keep no files of it, and aren't asked
 	IsByName  bool             // whether the folders were asked for by their ids
 	ByNames   bool             // whether the names were asked for by how they begin
-	IsSum     bool             `json:"-"` // whether 'sum' joined it, which has no parts to tell details of what documents tell
+	IsSum     bool             `json:"-"` // whether 'sum' joined it, which has no parts to tell details of what syncaudit tells
 }
 
 // Device is a device that was audited.
@@ -53,19 +53,19 @@ type Unasked struct {
 // Folder is what was found in a folder. As JSON it lacks the long lists, which WriteLists writes.
 type Folder struct {
 	ID, Label   string
-	Own         string        `json:",omitempty"` // the one device, where that shares its folder with nobody: others may have theirs of this id
-	Members     []join.Member // their numbers rising; the rows' places are theirs
-	Names       int64         // known ones, those without a winner included
-	Deleted     int64         // of these what no device holds
-	Deleting    int64         // of these what is deleted, and a device hasn't taken that yet
-	Bytes       int64         // that were hashed on all devices together
-	Documents   int
-	Failures    Failures                `json:"-"` // what documents tell
+	Own         string                  `json:",omitempty"` // the one device, where that shares its folder with nobody: others may have theirs of this id
+	Members     []join.Member           // their numbers rising; the rows' places are theirs
+	Names       int64                   // known ones, those without a winner included
+	Deleted     int64                   // of these what no device holds
+	Deleting    int64                   // of these what is deleted, and a device hasn't taken that yet
+	Bytes       int64                   // that were hashed on all devices together
+	Documents   int                     // in how many pieces its names were asked: streams of rows, or documents
+	Failures    Failures                `json:"-"` // what syncaudit tells
 	Unwon       spill.List[Unwon]       `json:"-"` // names without a winner, rising; each is a failure, too
 	Permissions spill.List[Permissions] `json:"-"` // rising
 	Damaged     spill.List[Damaged]     `json:"-"` // rising: what a disk itself fails to give; each is a failure, too
-	Firmness    Firmness                `json:"-"` // what documents tell, where none tells a failure
-	Convergence Convergence             `json:"-"` // what documents tell
+	NotFirm     *Failure                `json:"-"` // what syncaudit tells first to keep a settled folder from being firm
+	Convergence Convergence             `json:"-"`
 	Loose       spill.List[Loose]       `json:"-"` // rising: what keeps a settled folder from being firm
 	Conflicts   []Conflict              // copies that a device still has, whether they are in step or not: the first MostListed
 	LeftOut     []*LeftOut              // names that were left out: the first MostListed
@@ -162,24 +162,22 @@ var Reasons = []string{"CertificateOrder", "NameMissing", "NameUnknown", "NotWin
 // Place gives the place of a reason in that order, or -1.
 func Place(reason string) int { return slices.Index(Reasons, reason) }
 
-// IsBefore says whether a document tells one failure before another one. What keeps it from being firm comes last.
-func IsBefore(failure, other *Failure) bool { return isBefore(failure, other, allReasons) }
+// AllReasons are why a folder isn't firm, in the order in which they are told: what keeps it from being settled comes first.
+var AllReasons = append(append([]string{}, Reasons...), FirmReasons...)
 
-var allReasons = append(append([]string{}, Reasons...), FirmReasons...)
-
-// First gives the failure that a document tells first; nothing of none.
-func First(failures []Failure) *Failure {
+// First gives the failure that is told first, of those whose reasons stand in this order; nothing of none.
+func First(failures []Failure, order []string) *Failure {
 	var first *Failure
 	for place := range failures {
-		if first == nil || IsBefore(&failures[place], first) {
+		if first == nil || IsBefore(&failures[place], first, order) {
 			first = &failures[place]
 		}
 	}
 	return first
 }
 
-// isBefore says the same of failures whose reasons stand in this order.
-func isBefore(failure, other *Failure, order []string) bool {
+// IsBefore says whether one failure is told before another one, of those whose reasons stand in this order.
+func IsBefore(failure, other *Failure, order []string) bool {
 	if failure.Reason != other.Reason {
 		return slices.Index(order, failure.Reason) < slices.Index(order, other.Reason)
 	}

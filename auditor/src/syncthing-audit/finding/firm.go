@@ -18,12 +18,6 @@ const (
 	PullNotBelow   = "PullNotBelow"
 )
 
-// Firmness is what syncaudit says of a settled folder beside that: whether it is firm.
-type Firmness struct {
-	Asked bool     // of all documents; not where the program is too old to know what firm is
-	First *Failure // what one document of all would have told to keep it from being firm; nothing where it is firm
-}
-
 // Firm says how it stands with a folder, in a word.
 type Firm string
 
@@ -31,7 +25,6 @@ type Firm string
 const (
 	IsFirm   Firm = "firm"
 	NotFirm  Firm = "not-firm"
-	NotAsked Firm = "not-asked"
 	NotKnown Firm = "not-known" // all have one version, and something that syncaudit isn't told of may change it (Unsure)
 )
 
@@ -51,22 +44,10 @@ type LooseAt struct {
 // IsFirmReason says whether a reason is one of FirmReasons.
 func IsFirmReason(reason string) bool { return slices.Contains(FirmReasons, reason) }
 
-// Take takes what syncaudit says of a further document: the first fault of both is kept.
-func (f *Firmness) Take(next Firmness) {
-	f.Asked = f.Asked && next.Asked
-	if f.First == nil || next.First != nil && isBefore(next.First, f.First, FirmReasons) {
-		f.First = next.First
-	}
-}
-
 // HowFirm says how it stands with a folder.
 func (f *Folder) HowFirm() Firm {
 	switch {
-	case f.HasFailures():
-		return NotFirm
-	case !f.Firmness.Asked:
-		return NotAsked
-	case f.Firmness.First != nil:
+	case f.HasFailures(), f.NotFirm != nil:
 		return NotFirm
 	case len(f.Unsure()) > 0:
 		return NotKnown
@@ -81,12 +62,8 @@ func (a *Answer) HowFirm() Firm {
 		switch folder.HowFirm() {
 		case NotFirm:
 			return NotFirm
-		case NotAsked:
-			firm = NotAsked
 		case NotKnown:
-			if firm == IsFirm {
-				firm = NotKnown
-			}
+			firm = NotKnown
 		}
 	}
 	return firm
@@ -108,7 +85,7 @@ func (f *Folder) EachLoose(take func(*Failure)) {
 
 // CheckLoose says whether the names that were found to keep a folder from being firm begin with what syncaudit says.
 func (f *Folder) CheckLoose() error {
-	if f.HowFirm() == NotAsked || f.HasFailures() {
+	if f.HasFailures() {
 		return nil
 	}
 	var first *Failure
@@ -117,9 +94,9 @@ func (f *Folder) CheckLoose() error {
 			first = failure
 		}
 	})
-	if (first == nil) != (f.Firmness.First == nil) || first != nil && *first != *f.Firmness.First {
+	if (first == nil) != (f.NotFirm == nil) || first != nil && *first != *f.NotFirm {
 		return fmt.Errorf("refused: folder %s: syncaudit says that %v keeps it from being firm, and this program that %v does", shell.Folder(f.ID, f.Label),
-			told(f.Firmness.First), told(first))
+			told(f.NotFirm), told(first))
 	}
 	return nil
 }

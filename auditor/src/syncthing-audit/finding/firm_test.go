@@ -4,37 +4,20 @@ import (
 	"testing"
 
 	"syncthing-audit/join"
+	"syncthing-audit/part"
 )
-
-// Of several documents the first fault is that of one document of all; one that wasn't asked leaves it open.
-func TestFirmnessOfSeveralDocuments(t *testing.T) {
-	view := &Failure{ViewNotBelow, "a", 1}
-	late := &Failure{VersionDiffers, "c", 1}
-	early := &Failure{VersionDiffers, "b", 2}
-	sum := Firmness{Asked: true}
-	for _, one := range []*Failure{nil, view, late, early, nil} {
-		sum.Take(Firmness{Asked: true, First: one})
-	}
-	if !sum.Asked || sum.First != early {
-		t.Errorf("%+v", sum)
-	}
-	sum.Take(Firmness{})
-	sum.Take(Firmness{Asked: true})
-	if sum.Asked {
-		t.Error("one document wasn't asked")
-	}
-}
 
 func TestHowFirm(t *testing.T) {
 	first := &Failure{VersionDiffers, "b", 2}
 	unsettled := &Folder{}
 	unsettled.Failures.Add(Failure{"StoreDiffers", "a", 1})
-	isFirm, isnt, unasked := &Folder{Firmness: Firmness{Asked: true}}, &Folder{Firmness: Firmness{true, first}}, &Folder{}
+	unknown := &Folder{Members: []join.Member{{Device: &join.Device{Head: &part.Head{}}, About: &part.Folder{}, ToIgnore: 1}}}
+	isFirm, isnt := &Folder{}, &Folder{NotFirm: first}
 	for _, one := range []struct {
 		folders []*Folder
 		is      Firm
-	}{{[]*Folder{isFirm}, IsFirm}, {[]*Folder{isnt}, NotFirm}, {[]*Folder{unasked}, NotAsked}, {[]*Folder{unsettled}, NotFirm},
-		{[]*Folder{isFirm, unasked}, NotAsked}, {[]*Folder{unasked, isFirm, isnt}, NotFirm}} {
+	}{{[]*Folder{isFirm}, IsFirm}, {[]*Folder{isnt}, NotFirm}, {[]*Folder{unsettled}, NotFirm}, {[]*Folder{unknown}, NotKnown}, {[]*Folder{isFirm, unknown, isFirm}, NotKnown},
+		{[]*Folder{unknown, isFirm, isnt}, NotFirm}} {
 		if is := (&Answer{Folders: one.folders}).HowFirm(); is != one.is {
 			t.Errorf("%v, not %v", is, one.is)
 		}
@@ -45,7 +28,7 @@ func TestHowFirm(t *testing.T) {
 func TestLooseNamesBeginWithWhatSyncauditSays(t *testing.T) {
 	members := []join.Member{{Device: &join.Device{Number: 1}}, {Device: &join.Device{Number: 2}}}
 	found := func(first *Failure, all ...Loose) error {
-		folder := &Folder{ID: "docs", Members: members, Firmness: Firmness{true, first}}
+		folder := &Folder{ID: "docs", Members: members, NotFirm: first}
 		for _, one := range all {
 			folder.Loose.Add(one)
 		}
@@ -65,12 +48,9 @@ func TestLooseNamesBeginWithWhatSyncauditSays(t *testing.T) {
 			t.Error("other names were taken")
 		}
 	}
-	unasked, failed := &Folder{}, &Folder{Firmness: Firmness{Asked: true}}
+	failed := &Folder{Members: members}
 	failed.Failures.Add(Failure{"StoreDiffers", "a", 1})
-	for _, folder := range []*Folder{unasked, failed} { // syncaudit says nothing of these
-		folder.Members = members
-		if folder.Loose.Add(sees); folder.CheckLoose() != nil {
-			t.Error(folder.CheckLoose())
-		}
+	if failed.Loose.Add(sees); failed.CheckLoose() != nil { // syncaudit says nothing of it
+		t.Error(failed.CheckLoose())
 	}
 }

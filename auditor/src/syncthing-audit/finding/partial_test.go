@@ -17,7 +17,7 @@ import (
 
 // wholeAnswer gives an answer on two devices' folder of which all was audited.
 func wholeAnswer() *Answer {
-	folder := &Folder{ID: "docs", Live: &Live{}, Firmness: Firmness{Asked: true}}
+	folder := &Folder{ID: "docs", Live: &Live{}}
 	for number := uint64(1); number <= 2; number++ {
 		folder.Members = append(folder.Members, join.Member{Device: &join.Device{Number: number, Head: &part.Head{Device: fmt.Sprint(number)}}, About: &part.Folder{}, Linked: &part.Count{}})
 	}
@@ -107,18 +107,15 @@ func busy(a *Answer) {
 
 // The worst of several folders is how it stands with all: known to be firm goes behind all else.
 func TestTheWorstOfSeveralFolders(t *testing.T) {
-	firm, unknown, unasked := wholeAnswer().Folders[0], wholeAnswer().Folders[0], wholeAnswer().Folders[0]
-	unknown.Members[0].ToIgnore, unasked.Firmness.Asked = 1, false
+	firm, unknown, isnt := wholeAnswer().Folders[0], wholeAnswer().Folders[0], wholeAnswer().Folders[0]
+	unknown.Members[0].ToIgnore, isnt.NotFirm = 1, &Failure{VersionDiffers, "a", 7}
 	for _, row := range []struct {
 		folders []*Folder
 		is      Firm
-	}{{nil, IsFirm}, {[]*Folder{unknown, firm}, NotKnown}, {[]*Folder{firm, unknown}, NotKnown}, {[]*Folder{unasked, unknown}, NotAsked}, {[]*Folder{unknown, unasked}, NotAsked}} {
+	}{{nil, IsFirm}, {[]*Folder{unknown, firm}, NotKnown}, {[]*Folder{firm, unknown}, NotKnown}, {[]*Folder{isnt, unknown}, NotFirm}, {[]*Folder{unknown, isnt}, NotFirm}} {
 		if is := (&Answer{Folders: row.folders}).HowFirm(); is != row.is {
 			t.Errorf("%s, not %s", is, row.is)
 		}
-	}
-	if err := unasked.CheckLoose(); err != nil {
-		t.Error(err)
 	}
 }
 
@@ -224,7 +221,7 @@ func TestFailuresEqualASortedList(t *testing.T) {
 				names = append(names, name)
 			}
 		}
-		sort.SliceStable(all, func(a, b int) bool { return IsBefore(&all[a], &all[b]) })
+		sort.SliceStable(all, func(a, b int) bool { return IsBefore(&all[a], &all[b], Reasons) })
 		var told []Failure
 		folder.EachFailure(func(one *Failure) { told = append(told, *one) })
 		var toldNames []string
@@ -255,7 +252,7 @@ func TestWhichFailureIsBefore(t *testing.T) {
 	order := []Failure{{"NotWinner", "b", 2}, {"StoreDiffers", "a", 2}, {"StoreDiffers", "b", 1}, {"StoreDiffers", "b", 2}}
 	for one := range order {
 		for other := range order {
-			if IsBefore(&order[one], &order[other]) != (one < other) {
+			if IsBefore(&order[one], &order[other], Reasons) != (one < other) {
 				t.Errorf("%v, %v", order[one], order[other])
 			}
 		}
@@ -283,7 +280,7 @@ func TestLeftOutNamesAreSaved(t *testing.T) {
 
 // What keeps a folder from being firm is told with its reason, its name and its device.
 func TestWhatIsToldOfAnotherFirmness(t *testing.T) {
-	folder := &Folder{ID: "docs", Label: "Documents", Firmness: Firmness{Asked: true, First: &Failure{VersionDiffers, "a", 7}}}
+	folder := &Folder{ID: "docs", Label: "Documents", NotFirm: &Failure{VersionDiffers, "a", 7}}
 	const told = `refused: folder docs (Documents): syncaudit says that VersionDiffers of "a" on 7 keeps it from being firm, and this program that nothing does`
 	if err := folder.CheckLoose(); err == nil || err.Error() != told {
 		t.Error(err)

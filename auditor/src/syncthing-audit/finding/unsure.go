@@ -2,7 +2,7 @@ package finding
 
 import "fmt"
 
-// Unsure is something at a device that may change a folder which is in step under one version, and that no document says. So the folder isn't known
+// Unsure is something at a device that may change a folder which is in step under one version, and that no row says. So the folder isn't known
 // to be firm.
 type Unsure struct {
 	Device string   `json:"device"`

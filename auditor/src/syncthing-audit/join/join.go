@@ -17,8 +17,9 @@ type Device struct {
 	Number uint64
 	From   string // the home or the file, for messages
 
-	IsUnsigned bool // whether it was read from a part whose signature nobody checked
-	line       *part.Line
+	IsUnsigned bool      // whether it was read from a part whose signature nobody checked
+	line       part.Line // the next one, if it is there
+	isLine     bool
 }
 
 // NewDevice gives the device of a part.
@@ -95,16 +96,16 @@ func (r *Row) Size() int64 {
 }
 
 // peek gives the next line of a device's part without taking it.
-func (d *Device) peek() (*part.Line, error) {
-	if d.line == nil {
+func (d *Device) peek() (part.Line, error) {
+	if !d.isLine {
 		next, err := d.Stream.Next()
 		if err == io.EOF {
-			return nil, fmt.Errorf("%s: the part has no more folders", d.From)
+			return next, fmt.Errorf("%s: the part has no more folders", d.From)
 		}
 		if err != nil {
-			return nil, fmt.Errorf("%s: %w", d.From, err)
+			return next, fmt.Errorf("%s: %w", d.From, err)
 		}
-		d.line = &next
+		d.line, d.isLine = next, true
 	}
 	return d.line, nil
 }
@@ -134,7 +135,7 @@ func (d *Device) begin(id string) error {
 		if err != nil {
 			return err
 		}
-		d.line = nil
+		d.isLine = false
 		if line.Begin != nil && line.Begin.Folder == id {
 			return nil
 		}
@@ -159,7 +160,7 @@ func (d *Device) end(about *part.Folder) (*part.End, error) {
 	if err != nil {
 		return nil, err
 	}
-	d.line = nil
+	d.isLine = false
 	if line.End == nil {
 		return nil, errors.New("a folder's end is missing")
 	}
@@ -230,7 +231,7 @@ func (f *Folder) next() (*Row, error) {
 			row.At[place] = nil
 			continue
 		}
-		f.Members[place].line = nil
+		f.Members[place].isLine = false
 		f.Members[place].takeTime(next)
 	}
 	f.fill(row)

@@ -160,7 +160,7 @@ func (p *Plan) refuse(kind string, folder *Folder, device, name, why string) {
 	p.Refusals = append(p.Refusals, Refusal{kind, folder.ID, folder.Label, device, name, why})
 }
 
-// checkWhole refuses a folder that no document has.
+// checkWhole refuses a folder that no row has.
 func (p *Plan) checkWhole(folder *Folder) {
 	if !limits.IsFolderID(folder.ID) {
 		p.refuse(part.OddName, folder, "", "", "its id isn't 1 to 64 ASCII letters, digits, '-' and '_'")

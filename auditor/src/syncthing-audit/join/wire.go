@@ -8,7 +8,7 @@ import (
 	"syncthing-audit/shell"
 )
 
-// Unseen counts what isn't seen over the wire of a member, and what a document takes to be as the device recorded it.
+// Unseen counts what isn't seen over the wire of a member, and what a row takes to be as the device recorded it.
 type Unseen struct {
 	Standing int64 `json:",omitempty"` // directories and symlinks
 	Unread   int64 `json:",omitempty"` // files whose bytes weren't asked for

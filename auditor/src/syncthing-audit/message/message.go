@@ -11,41 +11,50 @@ type Field struct {
 	Text   []byte // a part of the message itself
 }
 
-// Next gives the first field of a message, and what is behind it.
-func Next(message []byte) (field Field, behind []byte, err error) {
-	number, kind, length := protowire.ConsumeTag(message)
-	if length < 0 {
-		return Field{}, nil, protowire.ParseError(length)
-	}
-	message = message[length:]
-	field.Number = number
-	switch kind {
-	case protowire.VarintType:
-		field.Value, length = protowire.ConsumeVarint(message)
-	case protowire.BytesType:
-		field.Text, length = protowire.ConsumeBytes(message)
-	default:
-		length = protowire.ConsumeFieldValue(number, kind, message)
-	}
-	if length < 0 {
-		return Field{}, nil, protowire.ParseError(length)
-	}
-	return field, message[length:], nil
+// Fields are those of a message, one by one: a message of very many fields takes no room for them.
+type Fields struct {
+	Field
+	rest []byte
+	err  *error
 }
 
-// Each gives the fields of a message one by one, so that a message of very many fields takes no room for them. The first error ends it.
-func Each(message []byte, take func(Field) error) error {
-	for len(message) > 0 {
-		field, behind, err := Next(message)
-		if err == nil {
-			err = take(field)
-		}
-		if err != nil {
-			return err
-		}
-		message = behind
+// FieldsOf begins before the first field of a message. There are none once there is an error, and the first error is put there.
+func FieldsOf(message []byte, err *error) Fields { return Fields{rest: message, err: err} }
+
+// Next goes to the next field, if there is one.
+func (f *Fields) Next() bool {
+	if len(f.rest) == 0 || *f.err != nil {
+		return false
 	}
-	return nil
+	number, kind, begin := protowire.ConsumeTag(f.rest)
+	if begin < 0 {
+		*f.err = protowire.ParseError(begin)
+		return false
+	}
+	var length int
+	f.rest, f.Number, f.Value, f.Text = f.rest[begin:], number, 0, nil
+	switch kind {
+	case protowire.VarintType:
+		f.Value, length = protowire.ConsumeVarint(f.rest)
+	case protowire.BytesType:
+		f.Text, length = protowire.ConsumeBytes(f.rest)
+	default:
+		length = protowire.ConsumeFieldValue(number, kind, f.rest)
+	}
+	if length < 0 {
+		*f.err = protowire.ParseError(length)
+		return false
+	}
+	f.rest = f.rest[length:]
+	return true
+}
+
+// Each gives the fields of a message to take. The first error ends it.
+func Each(message []byte, take func(Field) error) (err error) {
+	for fields := FieldsOf(message, &err); fields.Next(); {
+		err = take(fields.Field)
+	}
+	return err
 }
 
 // AppendNumber appends a field with a number. One of 0 isn't written.

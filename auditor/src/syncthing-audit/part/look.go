@@ -87,9 +87,8 @@ func (n *Name) HasOtherBytes() bool {
 		return false
 	}
 	for _, found := range disk.Contents {
-		isOneBlock := CountOfBlocks(own.Content.Size, own.Content.BlockSize) == 1 && CountOfBlocks(found.Size, found.BlockSize) == 1
-		if found.BlockSize == own.Content.BlockSize || isOneBlock {
-			return found.Size != own.Content.Size || found.Hash != own.Content.Hash
+		if found.IsCutAs(own.Content) {
+			return !found.IsSame(own.Content)
 		}
 	}
 	return disk.Differ != nil

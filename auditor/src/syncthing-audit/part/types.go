@@ -23,7 +23,7 @@ const (
 	OddTarget  = "targets"    // no target that a document has
 	OddRecord  = "records"    // an entry of the index that no document has
 	Rescan     = "rescan"     // the entry waits for a scan
-	Large      = "large"      // with bytes alone: too much for a document
+	Large      = "large"      // too much for a row or, with bytes, for a document
 	Absent     = "absent"     // a device that shares the folder has no part
 	Encrypted  = "encrypted"  // a folder that is encrypted somewhere
 	Unshared   = "unshared"   // a folder that one device shares and the other doesn't
@@ -267,6 +267,16 @@ func CountOfBlocks(size, blockSize int64) int64 {
 		return 1
 	}
 	return (size-1)/blockSize + 1
+}
+
+// IsCutAs says whether files of two contents are cut alike. For a file of one block the block size makes no difference.
+func (c *Content) IsCutAs(other *Content) bool {
+	return c.BlockSize == other.BlockSize || CountOfBlocks(c.Size, c.BlockSize) == 1 && CountOfBlocks(other.Size, other.BlockSize) == 1
+}
+
+// IsSame says whether two contents are of the same bytes, cut alike: whether their lists of block hashes are one.
+func (c *Content) IsSame(other *Content) bool {
+	return c.Size == other.Size && c.Hash == other.Hash && c.IsCutAs(other)
 }
 
 // MostRanges is how many ranges of blocks a part lists of a file.

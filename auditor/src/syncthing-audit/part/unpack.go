@@ -36,21 +36,15 @@ type room struct {
 	contents    [1]Content
 }
 
-// next takes the first field of a message; there is none at its end, and none once something is wrong.
-func (u *unpacker) next(text *[]byte) (field message.Field, is bool) {
-	if len(*text) == 0 || u.err != nil {
-		return field, false
-	}
-	field, *text, u.err = message.Next(*text)
-	return field, u.err == nil
-}
+// fields are those of a message; there are none once something is wrong.
+func (u *unpacker) fields(text []byte) message.Fields { return message.FieldsOf(text, &u.err) }
 
 // name reads a name.
 func (u *unpacker) name(text []byte) (*Name, error) {
 	room := &room{}
 	name := &room.name
 	u.err = nil
-	for field, is := u.next(&text); is; field, is = u.next(&text) {
+	for field := u.fields(text); field.Next(); {
 		switch field.Number {
 		case nameName:
 			name.Name = Bytes(field.Text)
@@ -68,13 +62,13 @@ func (u *unpacker) name(text []byte) (*Name, error) {
 			name.Out = append(name.Out, u.leftOut(field.Text))
 			u.checkLength(len(name.Out))
 		case nameReceiving:
-			name.Receiving = u.words(field)
+			name.Receiving = u.words(field.Text)
 		case nameDiffer:
 			name.Differ = u.differ(field.Text)
 		case nameNotRead:
 			name.NotRead = field.Value != 0
 		case nameMoved:
-			name.Moved = append(name.Moved, u.words(field))
+			name.Moved = append(name.Moved, u.words(field.Text))
 			u.checkLength(len(name.Moved))
 		}
 	}
@@ -94,7 +88,7 @@ func (u *unpacker) ownRecord(text []byte, to *room) *Record {
 // record reads a record.
 func (u *unpacker) record(text []byte, record *Record, content *Content, permissions *uint32) {
 	isWithout := false
-	for field, is := u.next(&text); is; field, is = u.next(&text) {
+	for field := u.fields(text); field.Next(); {
 		switch field.Number {
 		case message.FileType:
 			record.Type = narrow(field.Value)
@@ -121,9 +115,9 @@ func (u *unpacker) record(text []byte, record *Record, content *Content, permiss
 		case message.FileBlockSize:
 			content.BlockSize = int64(field.Value)
 		case message.FileTarget:
-			record.Target = u.words(field)
+			record.Target = u.words(field.Text)
 		case recordHash:
-			content.Hash = u.hash(field)
+			content.Hash = u.hash(field.Text)
 			record.Content = content
 		case recordLocal:
 			record.Local = u.version(field.Text, Version{})
@@ -138,7 +132,7 @@ func (u *unpacker) record(text []byte, record *Record, content *Content, permiss
 func (u *unpacker) node(text []byte, to *room) *Node {
 	node := &to.disk
 	*node = Node{}
-	for field, is := u.next(&text); is; field, is = u.next(&text) {
+	for field := u.fields(text); field.Next(); {
 		switch field.Number {
 		case message.FileType:
 			node.Type = narrow(field.Value)
@@ -151,7 +145,7 @@ func (u *unpacker) node(text []byte, to *room) *Node {
 		case message.FileModifiedNs:
 			node.ModifiedNs = narrow(field.Value)
 		case message.FileTarget:
-			node.Target = u.words(field)
+			node.Target = u.words(field.Text)
 		case nodeContent:
 			if node.Contents == nil {
 				node.Contents = to.contents[:0]
@@ -161,18 +155,18 @@ func (u *unpacker) node(text []byte, to *room) *Node {
 		case nodeDiffer:
 			node.Differ = u.differ(field.Text)
 		case nodeLost:
-			node.Lost = u.words(field)
+			node.Lost = u.words(field.Text)
 		case nodeUnread:
 			node.Unread = int64(field.Value)
 		case nodeStamp:
-			node.Stamp = u.words(field)
+			node.Stamp = u.words(field.Text)
 		}
 	}
 	return node
 }
 
 func (u *unpacker) seen(text []byte) (seen Seen) {
-	for field, is := u.next(&text); is; field, is = u.next(&text) {
+	for field := u.fields(text); field.Next(); {
 		switch field.Number {
 		case viewPlace:
 			seen.View = narrow(field.Value)
@@ -187,12 +181,12 @@ func (u *unpacker) seen(text []byte) (seen Seen) {
 }
 
 func (u *unpacker) leftOut(text []byte) (out LeftOut) {
-	for field, is := u.next(&text); is; field, is = u.next(&text) {
+	for field := u.fields(text); field.Next(); {
 		switch field.Number {
 		case outKind:
-			out.Kind = u.words(field)
+			out.Kind = u.words(field.Text)
 		case outWhy:
-			out.Why = u.words(field)
+			out.Why = u.words(field.Text)
 		case outBytes:
 			out.Bytes = int64(field.Value)
 		case outBelow:
@@ -204,7 +198,7 @@ func (u *unpacker) leftOut(text []byte) (out LeftOut) {
 
 func (u *unpacker) differ(text []byte) *Differ {
 	differ := &Differ{}
-	for field, is := u.next(&text); is; field, is = u.next(&text) {
+	for field := u.fields(text); field.Next(); {
 		switch field.Number {
 		case differCount:
 			differ.Count = int64(field.Value)
@@ -213,10 +207,10 @@ func (u *unpacker) differ(text []byte) *Differ {
 			differ.Ranges = append(differ.Ranges, [2]int64{int64(first), int64(last)})
 			u.checkLength(len(differ.Ranges))
 		case differRecorded:
-			hash := u.hash(field)
+			hash := u.hash(field.Text)
 			differ.First.Recorded = &hash
 		case differFound:
-			hash := u.hash(field)
+			hash := u.hash(field.Text)
 			differ.First.Found = &hash
 		}
 	}
@@ -224,14 +218,14 @@ func (u *unpacker) differ(text []byte) *Differ {
 }
 
 func (u *unpacker) content(text []byte) (content Content) {
-	for field, is := u.next(&text); is; field, is = u.next(&text) {
+	for field := u.fields(text); field.Next(); {
 		switch field.Number {
 		case contentSize:
 			content.Size = int64(field.Value)
 		case contentBlockSize:
 			content.BlockSize = int64(field.Value)
 		case contentHash:
-			content.Hash = u.hash(field)
+			content.Hash = u.hash(field.Text)
 		}
 	}
 	return content
@@ -240,7 +234,7 @@ func (u *unpacker) content(text []byte) (content Content) {
 // version reads a version into the room of an empty one.
 func (u *unpacker) version(text []byte, version Version) Version {
 	version = version[:0]
-	for field, is := u.next(&text); is; field, is = u.next(&text) {
+	for field := u.fields(text); field.Next(); {
 		if field.Number == message.VersionCounter {
 			device, value := u.pair(field.Text, message.CounterID, message.CounterValue)
 			version = append(version, [2]uint64{device, value})
@@ -252,7 +246,7 @@ func (u *unpacker) version(text []byte, version Version) Version {
 
 // pair reads a message of two numbers, which have these fields.
 func (u *unpacker) pair(text []byte, one, other protowire.Number) (first, second uint64) {
-	for field, is := u.next(&text); is; field, is = u.next(&text) {
+	for field := u.fields(text); field.Next(); {
 		switch field.Number {
 		case one:
 			first = field.Value
@@ -263,19 +257,19 @@ func (u *unpacker) pair(text []byte, one, other protowire.Number) (first, second
 	return first, second
 }
 
-func (u *unpacker) hash(field message.Field) (hash Hash) {
-	if len(field.Text) != len(hash) {
-		u.fail(fmt.Errorf("a hash of it has %d bytes", len(field.Text)))
+func (u *unpacker) hash(text []byte) (hash Hash) {
+	if len(text) != len(hash) {
+		u.fail(fmt.Errorf("a hash of it has %d bytes", len(text)))
 	}
-	copy(hash[:], field.Text)
+	copy(hash[:], text)
 	return hash
 }
 
-func (u *unpacker) words(field message.Field) string {
-	if !utf8.Valid(field.Text) {
+func (u *unpacker) words(text []byte) string {
+	if !utf8.Valid(text) {
 		u.fail(errNoText)
 	}
-	return string(field.Text)
+	return string(text)
 }
 
 func (u *unpacker) checkLength(count int) {

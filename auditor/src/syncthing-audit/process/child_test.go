@@ -123,19 +123,26 @@ func TestTheOutputIsTheAnswersAlone(t *testing.T) {
 	}
 }
 
-// The garbage collector has a bound, unless the environment has another one.
+// The garbage collector has a bound and runs seldom, unless the environment has it otherwise.
 func TestTheBoundOfMemory(t *testing.T) {
-	before := debug.SetMemoryLimit(-1)
+	before, percent := debug.SetMemoryLimit(-1), debug.SetGCPercent(50)
 	defer debug.SetMemoryLimit(before)
-	t.Setenv("GOMEMLIMIT", "1GiB")
-	LimitMemory()
-	if is := debug.SetMemoryLimit(-1); is != before {
-		t.Errorf("%d, not %d", is, before)
-	}
-	t.Setenv("GOMEMLIMIT", "")
-	LimitMemory()
-	if is := debug.SetMemoryLimit(-1); is != mostMemory {
-		t.Errorf("%d, not %d", is, mostMemory)
+	defer debug.SetGCPercent(percent)
+	for _, row := range []struct {
+		limit, percent string
+		bound          int64
+		grown          int
+	}{{"1GiB", "50", before, 50}, {"1GiB", "", before, grown}, {"", "", mostMemory, grown}} {
+		t.Setenv("GOMEMLIMIT", row.limit)
+		t.Setenv("GOGC", row.percent)
+		LimitMemory()
+		if is := debug.SetMemoryLimit(-1); is != row.bound {
+			t.Errorf("%+v: %d", row, is)
+		}
+		is := debug.SetGCPercent(50)
+		if debug.SetGCPercent(is); is != row.grown {
+			t.Errorf("%+v: %d percent", row, is)
+		}
 	}
 }
 

@@ -4,7 +4,7 @@ package release
 const Meaning = "syncthing-audit " + Version + `
 
 What an answer means: the files, records and views are compared exactly as they were when they were read. Nothing of this program is
-proved. What syncaudit says of a document is.
+proved. What syncaudit says of rows is.
 
 What is in step, and not known to be firm: that it stays so is proved of this project's peers, which merge versions when they adopt a
 record, as Syncthing does not.

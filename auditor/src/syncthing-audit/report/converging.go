@@ -9,7 +9,7 @@ import (
 )
 
 // converging prints of a folder that isn't in step whether it comes right by itself, or the first thing that hinders it. What no
-// document has, such as a name without a winner, is told anyway.
+// row has, such as a name without a winner, is told anyway.
 func converging(to io.Writer, answer *finding.Answer, folder *finding.Folder) {
 	switch answer.HowConverging(folder) {
 	case finding.Converges:
@@ -18,8 +18,6 @@ func converging(to io.Writer, answer *finding.Answer, folder *finding.Folder) {
 		if folder.Convergence.First != nil {
 			outside.Printf(to, "not converging: %s\n", ask.Line(folder.ID, folder.Convergence.First))
 		}
-	case finding.ConvergeNotAsked:
-		outside.Printf(to, "converging wasn't asked: %s\n", folder.ID)
 	case finding.ConvergeNotKnown:
 		outside.Printf(to, "not known to converge: %s\n", folder.ID)
 	}

@@ -14,12 +14,11 @@ func TestLineOfConverging(t *testing.T) {
 		"not converging: WouldCopy docs b\\x20c on 2\n": func(folder *finding.Folder) {
 			folder.Convergence.First = &finding.Failure{Reason: "WouldCopy", Name: "b c", Device: 2}
 		},
-		"converging wasn't asked: docs\n": func(folder *finding.Folder) { folder.Convergence.Asked = false },
-		"not known to converge: docs\n":   func(folder *finding.Folder) { folder.LeftOut = []*finding.LeftOut{{Name: "d"}} },
-		"":                                func(folder *finding.Folder) { folder.Failures = finding.Failures{} },
+		"not known to converge: docs\n": func(folder *finding.Folder) { folder.LeftOut = []*finding.LeftOut{{Name: "d"}} },
+		"":                              func(folder *finding.Folder) { folder.Failures = finding.Failures{} },
 	} {
 		folder := folderOf("docs", 2, finding.Failure{Reason: "StoreDiffers", Name: "b", Device: 1})
-		folder.Convergence.Asked = true
+		folder.Convergence.Pairs = new(int64)
 		change(folder)
 		var told strings.Builder
 		if converging(&told, &finding.Answer{Folders: []*finding.Folder{folder}}, folder); told.String() != expected {

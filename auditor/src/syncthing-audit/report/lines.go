@@ -63,8 +63,6 @@ func firm(to io.Writer, folder *finding.Folder) {
 	switch folder.HowFirm() {
 	case finding.IsFirm:
 		outside.Printf(to, "firm: %s\n", folder.ID)
-	case finding.NotAsked:
-		outside.Printf(to, "firm wasn't asked: %s\n", folder.ID)
 	case finding.NotFirm:
 		folder.EachLoose(func(failure *finding.Failure) { outside.Printf(to, "not firm: %s\n", ask.Line(folder.ID, failure)) })
 	}
@@ -73,7 +71,7 @@ func firm(to io.Writer, folder *finding.Folder) {
 	}
 }
 
-// Rest prints what no document says: names without a winner, permissions that differ, what was left out.
+// Rest prints what no row says: names without a winner, permissions that differ, what was left out.
 func Rest(to io.Writer, answer *finding.Answer) {
 	for _, folder := range answer.Folders {
 		live(to, folder)

@@ -15,7 +15,7 @@ import (
 
 // folderOf gives a folder of so many devices with these failures.
 func folderOf(id string, devices int, failures ...finding.Failure) *finding.Folder {
-	made := &finding.Folder{ID: id, Names: 2, Firmness: finding.Firmness{Asked: true}}
+	made := &finding.Folder{ID: id, Names: 2}
 	for _, one := range failures {
 		made.Failures.Add(one)
 	}
@@ -148,26 +148,23 @@ ignored: docs 1 names, 7 bytes, on no device's index
 
 // Of a folder that is settled it is told whether it is firm; if not, all that keeps it from that, in the order of reasons.
 func TestLinesOnFirmness(t *testing.T) {
-	isFirm, isnt, unasked := folderOf("docs", 2), folderOf("music", 2), folderOf("pics", 2)
-	isnt.Firmness.First = &finding.Failure{Reason: finding.VersionDiffers, Name: "b c", Device: 2}
+	isFirm, isnt := folderOf("docs", 2), folderOf("music", 2)
+	isnt.NotFirm = &finding.Failure{Reason: finding.VersionDiffers, Name: "b c", Device: 2}
 	isnt.Loose.Add(finding.Loose{Name: "a", At: []finding.LooseAt{{Member: 0, Reason: finding.ViewNotBelow}}})
 	isnt.Loose.Add(finding.Loose{Name: "b c", At: []finding.LooseAt{{Member: 1, Reason: finding.VersionDiffers}, {Member: 0, Reason: finding.ViewNotBelow}}})
-	unasked.Firmness = finding.Firmness{}
 	unsettled := folderOf("text", 2, finding.Failure{Reason: "StoreDiffers", Name: "b", Device: 1})
 	var written strings.Builder
-	Lines(&written, &finding.Answer{Folders: []*finding.Folder{isFirm, isnt, unasked, unsettled}}, nil)
+	Lines(&written, &finding.Answer{Folders: []*finding.Folder{isFirm, isnt, unsettled}}, nil)
 	const expected = `not settled: StoreDiffers text b on 1
 folder docs: 2 names, 0 deleted, 2 devices
 folder music: 2 names, 0 deleted, 2 devices
-folder pics: 2 names, 0 deleted, 2 devices
 folder text: 2 names, 0 deleted, 2 devices
 StoreDiffers text b on 1
 firm: docs
 not firm: VersionDiffers music b\x20c on 2
 not firm: ViewNotBelow music a on 1
 not firm: ViewNotBelow music b\x20c on 1
-firm wasn't asked: pics
-converging wasn't asked: text
+not known to converge: text
 `
 	if written.String() != expected {
 		t.Errorf("%s\nnot\n%s", written.String(), expected)

@@ -16,7 +16,7 @@ func TestLinesOfWhatMayChangeAFolder(t *testing.T) {
 	for told, first := range map[string]*finding.Failure{"not known to be firm": nil, "may change by itself": loose} {
 		device := &join.Device{Number: 2, Head: &part.Head{Device: protocol.DeviceID{7: 2}.String(), Look: &part.Look{}}}
 		about := &part.Folder{Rest: &part.Rest{State: "scanning"}}
-		folder := &finding.Folder{ID: "docs", Firmness: finding.Firmness{Asked: true, First: first},
+		folder := &finding.Folder{ID: "docs", NotFirm: first,
 			Members: []join.Member{{Device: device, About: about, ToIgnore: 3, Linked: &part.Count{Names: 4}}}}
 		var made strings.Builder
 		firm(&made, folder)

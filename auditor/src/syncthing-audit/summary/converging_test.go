@@ -30,7 +30,7 @@ func TestConverging(t *testing.T) {
 	} {
 		answer := answerOf(2, func(folder *finding.Folder) {
 			fails(folder, "a", []*part.Name{file(1, 1), nil}, "RecordMissing 2")
-			folder.Convergence = finding.Convergence{Asked: true, First: row.first, Pairs: &pairs}
+			folder.Convergence = finding.Convergence{First: row.first, Pairs: &pairs}
 			folder.Outlook = row.outlook
 		})
 		text := printed(answer)

@@ -11,7 +11,7 @@ import (
 
 // notFirm fills a folder in step at three devices that isn't firm.
 func notFirm(folder *finding.Folder) {
-	folder.Firmness.First = &finding.Failure{Reason: finding.VersionDiffers, Name: "a b", Device: 2}
+	folder.NotFirm = &finding.Failure{Reason: finding.VersionDiffers, Name: "a b", Device: 2}
 	folder.Loose.Add(finding.Loose{Name: "a b", At: []finding.LooseAt{{Member: 1, Reason: finding.VersionDiffers}, {Member: 2, Reason: finding.ViewNotBelow}}})
 	folder.Loose.Add(finding.Loose{Name: "c", At: []finding.LooseAt{{Member: 2, Reason: finding.VersionDiffers, IsOlder: true}}})
 }
@@ -38,14 +38,12 @@ func TestWhatAPersonReadsOfFirmness(t *testing.T) {
 			for next := 0; next < mostOfList+1234; next++ {
 				folder.Loose.Add(finding.Loose{Name: fmt.Sprintf("%04d", next), At: []finding.LooseAt{{Member: 0, Reason: finding.VersionDiffers}}})
 			}
-			folder.Firmness.First = &finding.Failure{Reason: finding.VersionDiffers, Name: "0000", Device: 1}
+			folder.NotFirm = &finding.Failure{Reason: finding.VersionDiffers, Name: "0000", Device: 1}
 			folder.Live = finding.NewLive()
 			folder.Live.Moving = 1
 		}, "docs (Documents): in step as far as audited, not firm; still: 1,204 names (4 deleted), 335.2 MB hashed on laptop, phone, server; in motion: 1\n" + `
 1,244 names keep docs from being firm
 ` + linesOf(mostOfList, "  %04d: laptop has it under a concurrent version\n") + "  and 1,234 more (--lines has all)\n" + meaning},
-		{"it wasn't asked", func(folder *finding.Folder) { folder.Firmness = finding.Firmness{} }, "docs (Documents): in step; " + lineOfDevices +
-			"\nnot asked: whether what is in step is firm, too: this syncaudit is too old to say so\n" + lastLine[1:]},
 	}
 	for _, row := range cases {
 		var written strings.Builder
@@ -77,7 +75,7 @@ func TestWhatAProgramReadsOfFirmness(t *testing.T) {
 		for next := 0; next < finding.MostListed+2; next++ {
 			folder.Loose.Add(finding.Loose{Name: "a", At: []finding.LooseAt{{Member: 0, Reason: finding.VersionDiffers}}})
 		}
-		folder.Firmness.First = &finding.Failure{Reason: finding.VersionDiffers, Name: "a", Device: 1}
+		folder.NotFirm = &finding.Failure{Reason: finding.VersionDiffers, Name: "a", Device: 1}
 	})).Folders[0]
 	if folder.Loose != finding.MostListed+2 || len(folder.NotFirm) != finding.MostListed {
 		t.Errorf("%d names, %d listed", folder.Loose, len(folder.NotFirm))

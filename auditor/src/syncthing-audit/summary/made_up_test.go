@@ -32,7 +32,7 @@ const (
 // answerOf gives an answer of one folder, docs, at so many devices, numbered from 1.
 func answerOf(devices int, fill func(*finding.Folder)) *finding.Answer {
 	folder := &finding.Folder{ID: "docs", Label: "Documents", Names: 1204, Deleted: 4, Bytes: 335200000, Rows: map[string]*join.Row{},
-		Firmness: finding.Firmness{Asked: true}, Outlook: &outlook.Outlook{Unknown: []outlook.Group{}, Kept: []outlook.Group{}, Listed: []outlook.Name{}, Plans: []*outlook.Plan{}}}
+		Outlook: &outlook.Outlook{Unknown: []outlook.Group{}, Kept: []outlook.Group{}, Listed: []outlook.Name{}, Plans: []*outlook.Plan{}}}
 	answer := &finding.Answer{Folders: []*finding.Folder{folder}}
 	for place, name := range []string{"laptop", "server", "phone"}[:devices] {
 		head := &part.Head{Device: ids[place], Name: name, Folders: []part.Folder{{ID: "docs", Kind: "send-receive", Path: "/srv/docs"}}}
@@ -42,7 +42,7 @@ func answerOf(devices int, fill func(*finding.Folder)) *finding.Answer {
 	}
 	told = nil
 	fill(folder)
-	sort.SliceStable(told, func(a, b int) bool { return finding.IsBefore(&told[a], &told[b]) })
+	sort.SliceStable(told, func(a, b int) bool { return finding.IsBefore(&told[a], &told[b], finding.Reasons) })
 	for _, failure := range told {
 		folder.Failures.Add(failure)
 	}

@@ -38,7 +38,7 @@ func randomWorld(random *rand.Rand) *world {
 
 // answer gives what is found of the names, as the audit and syncaudit tell it.
 func (w *world) answer() *finding.Answer {
-	folder := &finding.Folder{ID: "docs", Rows: map[string]*join.Row{}, Firmness: finding.Firmness{Asked: true}}
+	folder := &finding.Folder{ID: "docs", Rows: map[string]*join.Row{}}
 	answer := &finding.Answer{Folders: []*finding.Folder{folder}}
 	order := w.order()
 	for _, place := range order {
@@ -66,7 +66,7 @@ func (w *world) answer() *finding.Answer {
 			folder.Permissions.Add(finding.Permissions{Name: name, At: at})
 		}
 	}
-	sort.SliceStable(failures, func(a, b int) bool { return finding.IsBefore(&failures[a], &failures[b]) })
+	sort.SliceStable(failures, func(a, b int) bool { return finding.IsBefore(&failures[a], &failures[b], finding.Reasons) })
 	for _, failure := range failures {
 		folder.Failures.Add(failure)
 	}

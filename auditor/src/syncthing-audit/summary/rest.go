@@ -35,9 +35,6 @@ func (p *printer) rest(s *Summary) {
 	}
 	p.notAsked(s)
 	p.otherNames(s)
-	if s.Firm == finding.NotAsked {
-		p.Line("not asked: whether what is in step is firm, too: this syncaudit is too old to say so")
-	}
 	p.doubts(s)
 	p.wentBack(s)
 	p.devices(s)

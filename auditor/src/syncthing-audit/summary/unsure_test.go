@@ -32,10 +32,7 @@ func TestWhatMayChangeAFirmFolder(t *testing.T) {
 		finding.Linked: {func(folder *finding.Folder) { folder.Members[1].Linked = &part.Count{Names: 1, Bytes: 5} },
 			"docs (Documents) on server: 1 name stands for a file that has a name elsewhere, too (a hard link): whoever"},
 	} {
-		answer := answerOf(2, func(folder *finding.Folder) {
-			folder.Firmness = finding.Firmness{Asked: true}
-			row.change(folder)
-		})
+		answer := answerOf(2, row.change)
 		text := strings.Join(strings.Fields(printed(answer)), " ")
 		if !strings.Contains(text, "in step as far as audited, not known to be firm; ") || !strings.Contains(text, "not known to be firm: "+row.told) {
 			t.Errorf("%s: %s", kind, text)
@@ -46,14 +43,13 @@ func TestWhatMayChangeAFirmFolder(t *testing.T) {
 		}
 	}
 	loose := answerOf(2, func(folder *finding.Folder) {
-		folder.Firmness = finding.Firmness{Asked: true, First: &finding.Failure{Reason: finding.VersionDiffers, Name: "a", Device: 1}}
+		folder.NotFirm = &finding.Failure{Reason: finding.VersionDiffers, Name: "a", Device: 1}
 		folder.Members[1].ToIgnore = 1
 	})
 	if text := printed(loose); !strings.Contains(text, "may change by itself: docs (Documents) on server: 1 directory") || strings.Contains(text, "not known") {
 		t.Error(text)
 	}
 	calm := answerOf(2, func(folder *finding.Folder) {
-		folder.Firmness = finding.Firmness{Asked: true}
 		folder.Live, folder.Members[0].About.Kind = stillFor(0), receiveOnly
 		waits(folder, "b", 0, []int{1}, noBytes)                                    // it sends nothing
 		waits(folder, "c", 1, nil, func(row *part.Name) { row.Own = nil })          // it takes nothing away

@@ -14,7 +14,7 @@ import (
 
 // answerOverWire gives an answer on a folder of two devices in step, which were asked over the wire.
 func answerOverWire(isOfRecords bool) *finding.Answer {
-	folder := &finding.Folder{ID: "docs", Names: 5, Rows: map[string]*join.Row{}, Firmness: finding.Firmness{Asked: true}}
+	folder := &finding.Folder{ID: "docs", Names: 5, Rows: map[string]*join.Row{}}
 	answer := &finding.Answer{Folders: []*finding.Folder{folder}, IsByName: true}
 	for place := byte(1); place <= 2; place++ {
 		id := protocol.DeviceID{7: place}.String()

@@ -1,4 +1,4 @@
-package document
+package rows
 
 import (
 	"encoding/hex"
@@ -76,21 +76,6 @@ func (w *writer) flag(member string, is bool) {
 	}
 }
 
-// take gives what was written, and begins anew.
-func (w *writer) take() []byte {
-	text := append([]byte(nil), w.written...)
-	w.written = w.written[:0]
-	return text
-}
-
-// record gives an entry of an index.
-func (w *writer) record(record *part.Record) []byte {
-	w.addUntilSequence(record)
-	w.written = strconv.AppendInt(w.written, record.Sequence, 10)
-	w.addBehindSequence(record)
-	return w.take()
-}
-
 // addUntilSequence writes a record until its sequence.
 func (w *writer) addUntilSequence(record *part.Record) {
 	w.text(`{"name":`)
@@ -163,12 +148,6 @@ func (w *writer) blocks(hashes [][32]byte) {
 		w.text(`"`)
 	}
 	w.text("]")
-}
-
-// node gives what stands on a member's disk. It also gives how many bytes of text a file of it has in the document.
-func (w *writer) node(row []*part.Name, at int) ([]byte, int) {
-	length := w.addNode(row, at)
-	return w.take(), length
 }
 
 // addNode writes what stands on a member's disk, and gives how many bytes of text a file of it has.

@@ -1,4 +1,4 @@
-package document
+package rows
 
 import (
 	"bytes"
@@ -9,13 +9,13 @@ import (
 	"math/rand"
 	"reflect"
 	"strconv"
-	"strings"
 	"testing"
 
 	"github.com/syncthing/syncthing/lib/protocol"
 	"syncthing-audit/join"
 	"syncthing-audit/limits"
 	"syncthing-audit/part"
+	"syncthing-audit/shell"
 )
 
 // object is a JSON object, whose numbers are texts.
@@ -119,11 +119,11 @@ func directRecord(name string, record *part.Record, withBytes bool) object {
 		told["target"] = record.Target
 	}
 	if record.Content != nil {
-		size, block := record.Content.Size, sha256.Sum256([]byte(StandIn(record.Content)))
+		size, block := record.Content.Size, sha256.Sum256([]byte(textFor(record.Content)))
 		if withBytes {
 			block = record.Blocks[0]
 		} else {
-			size = int64(len(StandIn(record.Content)))
+			size = int64(len(textFor(record.Content)))
 		}
 		told["block_size"], told["blocks"] = numberOf(protocol.MinBlockSize), []interface{}{hex.EncodeToString(block[:])}
 		if size > 0 {
@@ -146,7 +146,7 @@ func directNode(name string, disk *part.Node, withBytes bool) (object, int) {
 	switch {
 	case disk.Contents == nil:
 	case !withBytes:
-		text = StandIn(&disk.Contents[0])
+		text = textFor(&disk.Contents[0])
 	case len(disk.Data) == 1:
 		told["hex"] = hex.EncodeToString(disk.Data)
 	default:
@@ -238,12 +238,18 @@ func TestDocumentsEqualADirectReading(t *testing.T) {
 		folder, withBytes := threeDevices(), seed%2 == 0
 		const fixed = 4096 + 3*512 + 12*256
 		room := 3000 + random.Intn(9000)
-		builder := NewBuilder(folder, withBytes, fixed+room)
+		filling := NewDocuments(folder, withBytes, fixed+room)
 		var all []*join.Row
-		var documents []*Document
+		var documents []*Piece
 		for number := 0; number < 12; number++ {
 			row := randomDirectRow(random, "n"+strconv.Itoa(10+number)+[]string{"", "<\"", "ü"}[random.Intn(3)], int64(number+1))
-			document, out := builder.Add(row)
+			document, out := filling.Add(row)
+			if !has(row) {
+				if document != nil || out != nil {
+					t.Fatalf("seed %d: %s, of which nobody has anything", seed, row.Name)
+				}
+				continue
+			}
 			if isTooLarge := roomOf(t, folder, row, withBytes) > room; isTooLarge != (out != nil) || out != nil && out.Kind != part.Large {
 				t.Fatalf("seed %d: %s is left out: %v", seed, row.Name, out)
 			}
@@ -257,8 +263,8 @@ func TestDocumentsEqualADirectReading(t *testing.T) {
 				documents = append(documents, document)
 			}
 		}
-		documents = append(documents, builder.Take())
-		if again := builder.Take(); again.Rows != nil || again.About() != "folder docs, no names" || len(builder.rows) != 0 {
+		documents = append(documents, filling.Take())
+		if again := filling.Take(); again.Rows != nil || again.About() != "folder docs, no names" || len(filling.rows) != 0 {
 			t.Fatalf("seed %d: what was taken is there still: %+v", seed, again)
 		}
 		checkDocuments(t, folder, documents, all, withBytes, room)
@@ -272,7 +278,7 @@ func TestDocumentsEqualADirectReading(t *testing.T) {
 }
 
 // checkDocuments checks that these documents have all rows, each as many as have room.
-func checkDocuments(t *testing.T, folder *join.Folder, documents []*Document, all []*join.Row, withBytes bool, room int) {
+func checkDocuments(t *testing.T, folder *join.Folder, documents []*Piece, all []*join.Row, withBytes bool, room int) {
 	for place, document := range documents {
 		count, used := len(document.Rows), 0
 		if count > len(all) || count == 0 && len(all) > 0 || count > 0 && !reflect.DeepEqual(document.Rows, all[:count]) {
@@ -285,7 +291,7 @@ func checkDocuments(t *testing.T, folder *join.Folder, documents []*Document, al
 		if used > room || place+1 < len(documents) && used+roomOf(t, folder, all[count], withBytes) <= room {
 			t.Errorf("document %d has %d of %d bytes", place, used, room)
 		}
-		if count > 0 && (document.First != all[0].Name || document.Last != all[count-1].Name || !strings.HasPrefix(document.About(), "folder docs, names ")) {
+		if count > 0 && document.About() != "folder docs, names "+shell.Path(all[0].Name)+" to "+shell.Path(all[count-1].Name) || document.IsStream() {
 			t.Errorf("document %d is about %s", place, document.About())
 		}
 		if document.Folder != "docs" || document.Own != "x" {
@@ -320,25 +326,25 @@ func TestOneSequenceOfTwoNames(t *testing.T) {
 		}
 		return row
 	}
-	builder := NewBuilder(threeDevices(), false, 1<<20)
+	filling := NewDocuments(threeDevices(), false, 1<<20)
 	for place, row := range []struct {
 		own, view int64
 		isOut     bool
 	}{{1, 0, false}, {0, 1, false}, {1, 0, true}, {0, 1, true}, {2, 2, false}, {2, 3, true}, {4, 2, true}, {5, 5, false}} {
-		if _, out := builder.Add(at(row.own, row.view)); (out != nil) != row.isOut || out != nil && out.Kind != part.OddRecord {
+		if _, out := filling.Add(at(row.own, row.view)); (out != nil) != row.isOut || out != nil && out.Kind != part.OddRecord {
 			t.Errorf("%d: %v", place, out)
 		}
 	}
-	if len(builder.rows) != 4 {
-		t.Errorf("%d rows", len(builder.rows))
+	if len(filling.rows) != 4 {
+		t.Errorf("%d rows", len(filling.rows))
 	}
 }
 
 // A document has no more names than there may be.
 func TestAsManyNamesAsADocumentHas(t *testing.T) {
-	builder := NewBuilder(threeDevices(), false, 1<<30)
+	filling := NewDocuments(threeDevices(), false, 1<<30)
 	for count := 1; count <= limits.MostNames+1; count++ {
-		document, _ := builder.Add(&join.Row{At: make([]*part.Name, 3)})
+		document, _ := filling.Add(&join.Row{At: []*part.Name{{Own: &part.Record{Sequence: int64(count)}}, nil, nil}})
 		if isFull := count > limits.MostNames; isFull != (document != nil) || isFull && len(document.Rows) != limits.MostNames {
 			t.Fatalf("%d names: %v", count, document)
 		}

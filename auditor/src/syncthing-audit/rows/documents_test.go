@@ -1,4 +1,4 @@
-package document
+package rows
 
 import (
 	"encoding/json"
@@ -43,7 +43,7 @@ func rowOf(name string, sequence, size int64) *join.Row {
 }
 
 // namesIn gives the names of each document, of which every list of every device has the same.
-func namesIn(t *testing.T, documents []*Document) []string {
+func namesIn(t *testing.T, documents []*Piece) []string {
 	all := []string{}
 	for _, one := range documents {
 		var read struct {
@@ -81,12 +81,12 @@ func namesIn(t *testing.T, documents []*Document) []string {
 }
 
 // built gives the documents of these rows.
-func built(t *testing.T, withBytes bool, most int, rows ...*join.Row) ([]*Document, []string) {
-	builder := NewBuilder(twoDevices(), withBytes, most)
-	var documents []*Document
+func built(t *testing.T, withBytes bool, most int, rows ...*join.Row) ([]*Piece, []string) {
+	filling := NewDocuments(twoDevices(), withBytes, most)
+	var documents []*Piece
 	var out []string
 	for _, row := range rows {
-		full, why := builder.Add(row)
+		full, why := filling.Add(row)
 		if why != nil {
 			out = append(out, row.Name)
 		}
@@ -94,7 +94,7 @@ func built(t *testing.T, withBytes bool, most int, rows ...*join.Row) ([]*Docume
 			documents = append(documents, full)
 		}
 	}
-	return append(documents, builder.Take()), out
+	return append(documents, filling.Take()), out
 }
 
 func TestDocumentsWithBytes(t *testing.T) {
@@ -141,13 +141,13 @@ func TestManyNames(t *testing.T) {
 // The bound for a name's length is one of its document, too.
 func TestLengths(t *testing.T) {
 	for _, withBytes := range []bool{false, true} {
-		builder := NewBuilder(twoDevices(), withBytes, limits.MostBytes)
-		room := builder.room
+		filling := NewDocuments(twoDevices(), withBytes, limits.MostBytes)
+		room := filling.room
 		for place, size := range []int64{0, 5, 300} {
-			builder.Add(rowOf(string(rune('a'+place)), int64(place+1), size))
+			filling.Add(rowOf(string(rune('a'+place)), int64(place+1), size))
 		}
-		bound := limits.MostBytes - room + builder.used
-		if written := builder.Take().Written; len(written) > bound {
+		bound := limits.MostBytes - room + filling.used
+		if written := filling.Take().Written; len(written) > bound {
 			t.Errorf("%d bytes, bound %d", len(written), bound)
 		}
 	}

@@ -1,4 +1,4 @@
-package document
+package rows
 
 import (
 	"encoding/json"
@@ -7,6 +7,13 @@ import (
 
 	"syncthing-audit/part"
 )
+
+// recordOf gives the text of a record, with the name a.
+func recordOf(withBytes bool, record *part.Record) string {
+	made := &row{writer: writer{withBytes: withBytes}}
+	made.begin("a")
+	return string(made.record(made.placeOf(record)))
+}
 
 // A record's block size is the one for the length of the file that the document has: of its bytes, or of a stand-in.
 func TestBlockSizes(t *testing.T) {
@@ -23,17 +30,12 @@ func TestBlockSizes(t *testing.T) {
 		{1 << 40, false, `,"block_size":131072,`},
 	}
 	for _, one := range cases {
-		var made writer
-		made.withBytes = one.withBytes
-		made.begin("a")
-		written := string(made.record(&part.Record{Sequence: 7, Content: contentOf(one.size, kilo256, 1)}))
+		written := recordOf(one.withBytes, &part.Record{Sequence: 7, Content: contentOf(one.size, kilo256, 1)})
 		if !strings.Contains(written, one.has) {
 			t.Errorf("%d bytes: %s", one.size, written)
 		}
 	}
-	var made writer
-	made.begin("a")
-	if written := string(made.record(&part.Record{Sequence: 7, Deleted: true})); strings.Contains(written, "block_size") {
+	if written := recordOf(false, &part.Record{Sequence: 7, Deleted: true}); strings.Contains(written, "block_size") {
 		t.Errorf("a file that is deleted: %s", written)
 	}
 }

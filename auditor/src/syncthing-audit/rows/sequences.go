@@ -1,4 +1,4 @@
-package document
+package rows
 
 // sequences are sequence numbers, which are above 0. They lie in a table: each where its hash says, or in the next free place behind.
 type sequences struct {

@@ -1,5 +1,4 @@
-// Package document writes check documents: what the members of a folder have of some of its names.
-package document
+package rows
 
 import (
 	"crypto/sha256"
@@ -8,17 +7,11 @@ import (
 	"syncthing-audit/part"
 )
 
-// StandIn gives the text that stands in a document for a file's bytes. It has under 128 bytes. Two are equal exactly
-// where the lists of block hashes are, unless SHA-256 collides. For a file of one block the block size makes no
-// difference.
-func StandIn(content *part.Content) string {
-	return string(appendStandIn(nil, content))
-}
-
-// appendStandIn appends the same text.
+// appendStandIn appends the text that stands in a row for a file's bytes. It has under 128 bytes. Two are equal exactly where the contents
+// are the same, unless SHA-256 collides.
 func appendStandIn(to []byte, content *part.Content) []byte {
 	to = append(strconv.AppendInt(to, content.Size, 10), " bytes in "...)
-	if content.Size <= content.BlockSize {
+	if part.CountOfBlocks(content.Size, content.BlockSize) == 1 {
 		to = append(to, "one block: "...)
 	} else {
 		to = append(strconv.AppendInt(append(to, "blocks of "...), content.BlockSize, 10), ": "...)
@@ -67,10 +60,5 @@ func contentOnDisk(row []*part.Name, at int) *part.Content {
 
 // isContent says whether a record has this content.
 func isContent(record *part.Record, content *part.Content) bool {
-	return record.Content != nil && IsSame(record.Content, content)
-}
-
-// IsSame says whether two contents are one list of block hashes.
-func IsSame(content, other *part.Content) bool {
-	return *content == *other || StandIn(content) == StandIn(other)
+	return record.Content != nil && record.Content.IsSame(content)
 }

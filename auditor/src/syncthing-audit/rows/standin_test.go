@@ -1,4 +1,4 @@
-package document
+package rows
 
 import (
 	"crypto/sha256"
@@ -17,6 +17,9 @@ func contentOf(size, blockSize int64, hash byte) *part.Content {
 	return &part.Content{Size: size, BlockSize: blockSize, Hash: part.Hash{hash}}
 }
 
+// textFor gives the stand-in of a content.
+func textFor(content *part.Content) string { return string(appendStandIn(nil, content)) }
+
 func TestStandIns(t *testing.T) {
 	cases := []struct {
 		why        string
@@ -31,14 +34,14 @@ func TestStandIns(t *testing.T) {
 		{"blocks of two sizes", contentOf(kilo256+1, kilo128, 1), contentOf(kilo256+1, kilo256, 1), false},
 	}
 	for _, one := range cases {
-		if (StandIn(one.one) == StandIn(one.other)) != one.equal {
-			t.Errorf("%s: %s, %s", one.why, StandIn(one.one), StandIn(one.other))
+		if (textFor(one.one) == textFor(one.other)) != one.equal {
+			t.Errorf("%s: %s, %s", one.why, textFor(one.one), textFor(one.other))
 		}
-		if IsSame(one.one, one.other) != one.equal || IsSame(one.other, one.one) != one.equal {
+		if one.one.IsSame(one.other) != one.equal || one.other.IsSame(one.one) != one.equal {
 			t.Errorf("%s: the same: %v", one.why, !one.equal)
 		}
 	}
-	if length := len(StandIn(contentOf(1<<63-1, 16<<20, 0))); length >= 128 {
+	if length := len(textFor(contentOf(1<<63-1, 16<<20, 0))); length >= 128 {
 		t.Errorf("a stand-in has %d bytes", length)
 	}
 }
@@ -67,7 +70,7 @@ func TestContentOnDisk(t *testing.T) {
 	} {
 		own := &part.Name{Own: row.own.Own, Disk: &part.Node{Contents: []part.Content{first, second}}}
 		if content := contentOnDisk(append([]*part.Name{own}, row.others...), 0); *content != row.is {
-			t.Errorf("%s: %s", row.why, StandIn(content))
+			t.Errorf("%s: %s", row.why, textFor(content))
 		}
 	}
 }
@@ -81,7 +84,7 @@ func TestStandInsInARow(t *testing.T) {
 				var made writer
 				for place, content := range []*part.Content{first, second, third} {
 					stands := made.standInOf(content)
-					if text := StandIn(content); string(stands.text) != text || stands.block[0] != sha256.Sum256([]byte(text)) {
+					if text := textFor(content); string(stands.text) != text || stands.block[0] != sha256.Sum256([]byte(text)) {
 						t.Errorf("number %d: %s, not %s", place, stands.text, text)
 					}
 				}
@@ -97,7 +100,7 @@ func TestStandInIsText(t *testing.T) {
 		"5 bytes in one block: 01" + zeros: contentOf(5, kilo128, 1), "262144 bytes in one block: 0f" + zeros: contentOf(kilo256, kilo256, 0x0f), "0 bytes in one block: 00" + zeros: {},
 		"262144 bytes in blocks of 131072: f0" + zeros: contentOf(kilo256, kilo128, 0xf0), "262145 bytes in blocks of 262144: ab" + zeros: contentOf(kilo256+1, kilo256, 0xab),
 	} {
-		if text, digits := textOrHex([]byte(StandIn(content))); digits != "" || text != due {
+		if text, digits := textOrHex([]byte(textFor(content))); digits != "" || text != due {
 			t.Errorf("%q, not %q", text, due)
 		}
 	}

@@ -1,4 +1,4 @@
-package document
+package rows
 
 import "bytes"
 

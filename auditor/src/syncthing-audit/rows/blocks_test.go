@@ -1,4 +1,4 @@
-package document
+package rows
 
 import (
 	"testing"
@@ -22,11 +22,11 @@ func TestBlocksAsAList(t *testing.T) {
 
 // A row that takes all the room of a document has one, and a byte less is too little.
 func TestARowThatTakesAllRoom(t *testing.T) {
-	_, size := NewBuilder(twoDevices(), false, 1<<20).encode(rowOf("a", 1, 5))
+	size := sizeOf(NewDocuments(twoDevices(), false, 1<<20), rowOf("a", 1, 5))
 	for room, has := range map[int]bool{size: true, size + 1: true, size - 1: false} {
-		builder := NewBuilder(twoDevices(), false, 1<<20)
-		builder.room = room
-		if full, out := builder.Add(rowOf("a", 1, 5)); full != nil || (out == nil) != has || out != nil && out.Kind != part.Large {
+		filling := NewDocuments(twoDevices(), false, 1<<20)
+		filling.room = room
+		if full, out := filling.Add(rowOf("a", 1, 5)); full != nil || (out == nil) != has || out != nil && out.Kind != part.Large {
 			t.Errorf("%d bytes, %d are needed: %+v", room, size, out)
 		}
 	}

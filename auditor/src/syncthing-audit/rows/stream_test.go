@@ -1,4 +1,4 @@
-package document
+package rows
 
 import (
 	"bytes"
@@ -13,8 +13,8 @@ import (
 	"syncthing-audit/part"
 )
 
-// streamed gives a folder's streams and documents of these rows, and which rows are left out.
-func streamed(folder *join.Folder, rows []*join.Row) (made []*Document, out []string) {
+// streamed gives a folder's streams of these rows, and which rows are left out.
+func streamed(folder *join.Folder, rows []*join.Row) (made []*Piece, out []string) {
 	stream := NewStream(folder)
 	for _, row := range rows {
 		full, left := stream.Add(row)
@@ -222,34 +222,30 @@ func longRow(name string, sequence int64, bytes int) *join.Row {
 	return row
 }
 
-// What no line has room for has a document of its own, in its place among the others.
+// What no line has room for is left out, and those before and behind it stand in one stream.
 func TestLongLines(t *testing.T) {
 	rows := []*join.Row{}
-	for place, bytes := range []int{1, 1, mostBytesOfLine, mostBytesOfLine + 1, 1, mostBytesOfLine - 2000, mostBytesOfLine - 2000, mostBytesOfLine} {
+	for place, bytes := range []int{1, 1, mostBytesOfLine, mostBytesOfLine + 1, 1, mostBytesOfLine - 2000, mostBytesOfLine} {
 		rows = append(rows, longRow(fmt.Sprint(place), int64(place+1), bytes))
 	}
 	made, out := streamed(twoDevices(), rows)
-	told := []string{}
-	for _, one := range made {
-		names := ""
-		for _, row := range one.Rows {
-			names += row.Name
-		}
-		told = append(told, fmt.Sprint(names, one.IsStream()))
-		if one.IsStream() {
-			for _, line := range bytes.SplitAfter(one.Written, []byte("\n")) {
-				if len(line) > mostBytesOfLine {
-					t.Errorf("a line of %d bytes", len(line))
-				}
-			}
-		}
+	if fmt.Sprint(out) != "[2 3 6]" || len(made) != 1 || len(made[0].Rows) != 4 || bytes.Count(made[0].Written, []byte("\n")) != 5 {
+		t.Errorf("%d streams, without %v", len(made), out)
 	}
-	if is, due := fmt.Sprint(told), "[01true 2false 3false 456true 7false]"; out != nil || is != due {
-		t.Errorf("%s, not %s, without %v", is, due, out)
+	stream := NewStream(twoDevices())
+	if _, out := stream.Add(longRow("a", 1, mostBytesOfLine)); out == nil || out.Kind != part.Large || out.Below {
+		t.Errorf("%+v", out)
 	}
-	if _, out := NewStream(twoDevices()).Add(longRow("a", 1, 65<<20)); out == nil || out.Kind != part.Large {
-		t.Errorf("what no document has room for: %v", out)
+	if _, out := stream.Add(rowOf("b", 1, 5)); out != nil {
+		t.Errorf("what is left out has its sequence: %+v", out)
 	}
+}
+
+// lineOf gives the line of a row of two devices.
+func lineOf(of *join.Row) []byte {
+	made := &row{}
+	made.take(cutOf(twoDevices()), of)
+	return made.line()
 }
 
 // rowOfLine gives a name whose line has this length.
@@ -258,7 +254,7 @@ func rowOfLine(name string, sequence int64, length int) *join.Row {
 	link := &part.Record{Type: 4, Sequence: sequence}
 	row.At[0].Views[0].Record = link
 	link.Target = "x"
-	short := len(new(line).of(NewStream(twoDevices()).Builder, row))
+	short := len(lineOf(row))
 	link.Target = strings.Repeat("x", 1+length-short)
 	return row
 }
@@ -268,7 +264,7 @@ func TestLinesOfJustAsManyBytes(t *testing.T) {
 	const ofLine, ofStream = 1 << 20, 2 << 20 // `syncaudit rows` reads no longer lines
 	for _, length := range []int{ofLine - 1, ofLine, ofLine + 1} {
 		made, out := streamed(twoDevices(), []*join.Row{rowOfLine("a", 1, length)})
-		if len(made) != 1 || out != nil || made[0].IsStream() != (length <= ofLine) {
+		if len(made) != 1 || len(made[0].Rows)+len(out) != 1 || (out == nil) != (length <= ofLine) {
 			t.Errorf("%d bytes: %d streams, without %v", length, len(made), out)
 		}
 	}
@@ -276,10 +272,6 @@ func TestLinesOfJustAsManyBytes(t *testing.T) {
 		rows := []*join.Row{rowOfLine("a", 1, ofLine), rowOfLine("b", 2, ofStream-ofLine-500), rowOfLine("c", 3, 500+more)}
 		if made, out := streamed(twoDevices(), rows); out != nil || (len(made) == 1) != (more <= 0) {
 			t.Errorf("%d bytes more than a stream: %d streams, without %v", more, len(made), out)
-		}
-		two := []*join.Row{rowOfLine("a", 1, ofLine), rowOfLine("b", 2, ofStream-ofLine+more)}
-		if made, out := streamed(twoDevices(), two); out != nil || (len(made) == 1) != (more <= 0) {
-			t.Errorf("%d bytes more than a stream in two lines: %d streams, without %v", more, len(made), out)
 		}
 	}
 }
@@ -309,20 +301,40 @@ func TestBoundsOfStreams(t *testing.T) {
 	}
 }
 
-// Of some names of a stream there are documents with these alone.
-func TestDocumentsOfSomeNames(t *testing.T) {
-	rows := []*join.Row{rowOf("a", 1, 5), rowOf("b", 2, 5), rowOf("c", 3, 5)}
-	made, _ := streamed(twoDevices(), rows)
-	made[0].Place = 7
-	documents, err := made[0].Documents(func(name string) bool { return name != "b" })
-	if err != nil || len(documents) != 1 || documents[0].Place != 7 || documents[0].IsStream() {
-		t.Fatalf("%+v, %v", documents, err)
+// Of some names of a stream there is one with these names' very lines.
+func TestSomeNamesOfAStream(t *testing.T) {
+	random := rand.New(rand.NewSource(1))
+	rows := []*join.Row{}
+	for place := 0; place < 9; place++ {
+		rows = append(rows, alike(random, fmt.Sprint(place), int64(10*place+1)))
 	}
-	if names := namesIn(t, documents); !reflect.DeepEqual(names, []string{"ac"}) {
-		t.Errorf("%q", names)
+	made, _ := streamed(threeDevices(), rows)
+	for seed := 0; seed < 40; seed++ {
+		names, some := map[string]bool{"none": true}, []*join.Row{}
+		for _, row := range made[0].Rows {
+			if random.Intn(2) == 0 {
+				names[row.Name] = true
+				some = append(some, row)
+			}
+		}
+		if due, _ := streamed(threeDevices(), some); !reflect.DeepEqual(made[0].Some(names), due[0]) {
+			t.Fatalf("%v: %+v, not %+v", names, made[0].Some(names), due[0])
+		}
 	}
-	whole, _ := built(t, false, BytesOfOne, rows[0], rows[2])
-	if !bytes.Equal(whole[0].Written, documents[0].Written) {
-		t.Errorf("%s, not %s", documents[0].Written, whole[0].Written)
+}
+
+// A later stream is written in the room of one that is answered, and in no other one's.
+func TestTheRoomOfAnAnsweredStream(t *testing.T) {
+	of := func(name string) *Piece {
+		made, _ := streamed(twoDevices(), []*join.Row{rowOf(name, 1, 5)})
+		return made[0]
+	}
+	kept, dropped := of("kept"), of("dropped")
+	due := string(kept.Written)
+	dropped.Drop()
+	for place := 0; place < 9; place++ {
+		if next := of("later"); dropped.Written != nil || string(kept.Written) != due || string(next.Written) != strings.ReplaceAll(due, "kept", "later") {
+			t.Fatalf("%q is dropped, %q is kept, %q comes later", dropped.Written, kept.Written, next.Written)
+		}
 	}
 }
