@@ -10,6 +10,7 @@ use Rattle.bep_cut.specs.Cut.{cut_at}
 use Rattle.bep_cut.specs.Says.{Says}
 use Rattle.bep_document.specs.Reading.{Reading, Read, Refused}
 use Rattle.bep_fit.specs.Fit.{IsRunVerdict}
+use Rattle.bep_fit.specs.Fit as logs
 use Rattle.bep_fit.specs.Replayed.{AreQuietLogs, AreResetOf}
 use Rattle.bep_fit.specs.declared.verdict.RunVerdict.{RunVerdict}
 use Rattle.bep_fit.specs.declared.verdict.RunVerdict.TheVariants.{Fits, Misfit}
@@ -29,7 +30,7 @@ use Rattle.bep_tables.specs.declared.cut.CutParts.{CutParts}
 use Rattle.bep_live.specs.Lines.{run_line}
 
 -- The scenario's steps were made, and this is told of them. The run's logs begin at the cluster to which they lead: at its
--- devices, by their tables and sessions, and at its links. No event in them is a local step, and none a reset.
+-- devices, by their tables and sessions, and at its links. No event in them is a local step, and none a reset. The logs fit.
 pub record LeadsOn (scenario : Said) (run : RunState) (told : List ℕ) : Type 0 where
   pub last : Network
   pub leads : EndsAt scenario last told
@@ -37,6 +38,7 @@ pub record LeadsOn (scenario : Said) (run : RunState) (told : List ℕ) : Type 0
   pub from : cluster_of run.bases ≡ cluster_of last
   pub quiet : AreQuietLogs run.logs
   pub no_reset : AreResetOf run.logs []
+  pub fit : (count : ℕ) × logs.Fits run.logs count
 
 -- the cut of the devices and links of a run cut as they are
 abbrev pub cut_in : RunState → CutParts
@@ -48,12 +50,13 @@ cut_in run = cut_at run.present.members run.present.links
 abbrev pub StoresStay : RunState → Type 0
 StoresStay run = (base cut : CutParts) → IsCutOf run.bases base → IsCutOf run.present cut → (rows : List Row) → IsSettled (tables_of base) rows → Stays (tables_of base) rows [] (tables_of cut)
 
--- A run cut, whose cut says what its devices and links as they are do, and the verdict on its logs. Where they fit, they are one
--- run of so many events, which leads from the bases to that cut; and if the bases' cut is settled, every store holds what it held.
+-- A run cut, whose cut says what its devices and links as they are do, and the verdict on its logs: they fit. So they are one run
+-- of so many events, which leads from the bases to that cut; and if the bases' cut is settled, every store holds what it held.
 pub record IsJudged (run : RunState) (verdict : RunVerdict) : Type 0 where
   pub a_run_cut : IsRunCut run
   pub says : Says (cluster_of run.present) (cut_in run)
   pub judged : IsRunVerdict run.logs verdict
+  pub fits : (count : ℕ) × (verdict ≡ Fits count)
   pub one_run : (count : ℕ) → verdict ≡ Fits count → IsRunOf run count
   pub stays : (count : ℕ) → verdict ≡ Fits count → StoresStay run
 

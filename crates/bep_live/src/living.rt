@@ -1,11 +1,12 @@
 //! From a scenario to a cut of its cluster, once threads have run it.
-ghost use Rattle.std.specs.Prelude.{[], IfOk, IsUtf8};
+ghost use Rattle.std.specs.Prelude.{ℕ, [], IfOk, IsUtf8};
+ghost use Rattle.bep_fit.specs.Fit.{Fits};
 ghost use Rattle.bep_fit.specs.Replayed.{AreQuietLogs, AreResetOf};
 ghost use Rattle.bep_scenario.specs.Scenario.{said_lazily};
 ghost use Rattle.bep_live.specs.Lived.{IsJudged, LeadsOn};
 
 use bep_blocks::OpenGate;
-use bep_fit::RunVerdict;
+use bep_fit::{RunVerdict, logs_have_one_verdict};
 use bep_play::played;
 use bep_run::run_turns;
 use bep_run_cut::{RunCut, check_run};
@@ -33,14 +34,16 @@ pub(crate) fn lived<R: Threads + Wait + Sync>(
     }
 }
 
-/// The verdict on the logs of a run cut, in which no event is a local step or a reset.
+/// The verdict on the logs of a run cut, which fit, and in which no event is a local step or a reset: that they fit.
 pub(crate) fn judge(run: &RunCut) -> RunVerdict
     requires quiet { AreQuietLogs run.now.logs }
     requires no_reset { AreResetOf run.now.logs [] }
+    requires fit { (count : ℕ) × Fits run.now.logs count }
     ensures { IsJudged run.now result }
 {
-    // these two are called for what their clauses say of the run cut
+    // these are called for what their clauses say of the run cut, and of verdicts
     run.logs();
     run.cut();
+    logs_have_one_verdict();
     check_run(run)
 }

@@ -3,3 +3,13 @@ mod Places
 mod StayQuiet
 mod Still
 mod Vain
+mod Seating
+mod Grown
+mod Distinct
+mod Endings
+mod GrownBoth
+mod FirstSeat
+mod Handed
+mod Settling
+mod Listing
+mod Lent

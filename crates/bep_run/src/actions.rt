@@ -21,26 +21,13 @@ impl<S: Store, O: Origin> Locked<S, O> {
         upper: DeviceId,
     ) -> Result<(), LogError> {
         let mut link = self.link(lower, upper)?.link.lock(rt);
-        link.logged.connect(self.draw())
+        link.connect(rt, &self.history)
     }
 
     /// The link between the two devices, the smaller first, goes down.
     pub fn lose<R: Wait>(&self, rt: &R, lower: DeviceId, upper: DeviceId) -> Result<(), LogError> {
         let mut link = self.link(lower, upper)?.link.lock(rt);
-        link.logged.lose(self.draw())
-    }
-
-    /// The device starts again, and each of its links is lost, under one ticket and all of their guards. Where a part is
-    /// refused, for want of memory or of room in its log, those before it were made all the same.
-    pub fn restart<R: Wait>(&self, rt: &R, device: DeviceId) -> Result<(), LogError> {
-        let mut peer = self.device(device)?.peer.lock(rt);
-        let mut links = self.guards_of(rt, device)?;
-        let ticket = self.draw();
-        peer.logged.restart(ticket)?;
-        for link in links.iter_mut() {
-            link.logged.restart(ticket, device)?;
-        }
-        Ok(())
+        link.lose(rt, &self.history)
     }
 
     // The guards of the device's links, rising.
@@ -57,8 +44,23 @@ impl<S: Store, O: Origin> Locked<S, O> {
     }
 }
 
-// What no turn does: local steps and resets. Only where nothing is known of how a cluster began may they be made.
+// What no turn does: local steps, restarts and resets. Only where nothing is known of how a cluster began may they be made.
 impl<S: Store> Locked<S, Anywhere> {
+    /// The device starts again, and each of its links is lost, under one ticket and all of their guards. Where a part is
+    /// refused, for want of memory or of room in its log, those before it were made all the same.
+    pub fn restart<R: Wait>(&self, rt: &R, device: DeviceId) -> Result<(), LogError> {
+        let mut guard = self.device(device)?.peer.lock(rt);
+        let mut links = self.guards_of(rt, device)?;
+        let ticket = self.draw(rt);
+        let peer = &mut *guard;
+        peer.logged.restart(ticket)?;
+        for joined in links.iter_mut() {
+            let link = &mut **joined;
+            link.logged.restart(ticket, device)?;
+        }
+        Ok(())
+    }
+
     /// Gives the name this node in the device's folder, as `LoggedPeer::edit` does.
     pub fn edit<R: Wait>(
         &self,
@@ -68,8 +70,9 @@ impl<S: Store> Locked<S, Anywhere> {
         name: &Name,
         node: &Node,
     ) -> Result<Moved, LogError> {
-        let mut peer = self.device(device)?.peer.lock(rt);
-        peer.logged.edit(self.draw(), folder, name, node)
+        let mut guard = self.device(device)?.peer.lock(rt);
+        let peer = &mut *guard;
+        peer.logged.edit(self.draw(rt), folder, name, node)
     }
 
     /// Takes the name's node away in the device's folder, as `LoggedPeer::remove` does.
@@ -80,8 +83,9 @@ impl<S: Store> Locked<S, Anywhere> {
         folder: &FolderName,
         name: &Name,
     ) -> Result<Moved, LogError> {
-        let mut peer = self.device(device)?.peer.lock(rt);
-        peer.logged.remove(self.draw(), folder, name)
+        let mut guard = self.device(device)?.peer.lock(rt);
+        let peer = &mut *guard;
+        peer.logged.remove(self.draw(rt), folder, name)
     }
 
     /// Lets the device's own record win, as `LoggedPeer::override_one` does.
@@ -92,8 +96,9 @@ impl<S: Store> Locked<S, Anywhere> {
         folder: &FolderName,
         name: &Name,
     ) -> Result<Moved, LogError> {
-        let mut peer = self.device(device)?.peer.lock(rt);
-        peer.logged.override_one(self.draw(), folder, name)
+        let mut guard = self.device(device)?.peer.lock(rt);
+        let peer = &mut *guard;
+        peer.logged.override_one(self.draw(rt), folder, name)
     }
 
     /// Gives up the device's own change, as `LoggedPeer::revert_one` does.
@@ -104,8 +109,9 @@ impl<S: Store> Locked<S, Anywhere> {
         folder: &FolderName,
         name: &Name,
     ) -> Result<Moved, LogError> {
-        let mut peer = self.device(device)?.peer.lock(rt);
-        peer.logged.revert_one(self.draw(), folder, name)
+        let mut guard = self.device(device)?.peer.lock(rt);
+        let peer = &mut *guard;
+        peer.logged.revert_one(self.draw(rt), folder, name)
     }
 
     /// The device starts over with empty indexes under this id, and each of its links is lost, under one ticket and all of
@@ -113,11 +119,13 @@ impl<S: Store> Locked<S, Anywhere> {
     /// above that of each of its indexes. Where a link's part is refused, for want of memory or of room in its log, those
     /// before it were made all the same.
     pub fn reset<R: Wait>(&self, rt: &R, device: DeviceId, id: IndexId) -> Result<(), LogError> {
-        let mut peer = self.device(device)?.peer.lock(rt);
+        let mut guard = self.device(device)?.peer.lock(rt);
         let mut links = self.guards_of(rt, device)?;
-        let ticket = self.draw();
+        let ticket = self.draw(rt);
+        let peer = &mut *guard;
         peer.logged.reset(ticket, id)?;
-        for link in links.iter_mut() {
+        for joined in links.iter_mut() {
+            let link = &mut **joined;
             link.logged.reset(ticket, device, id)?;
         }
         Ok(())

@@ -94,10 +94,12 @@ impl<S: Store> Locked<S, Anywhere> {
     pub fn rebase_all<R: Wait>(&self, rt: &R, round: u64) -> Result<(), LogError> {
         let mut peers = self.peer_guards(rt, &OpenGate)?;
         let mut links = self.link_guards(rt, &OpenGate, peers.len())?;
-        for peer in peers.iter_mut() {
+        for guard in peers.iter_mut() {
+            let peer = &mut **guard;
             peer.logged.rebase(round)?;
         }
-        for link in links.iter_mut() {
+        for guard in links.iter_mut() {
+            let link = &mut **guard;
             link.logged.rebase(round)?;
         }
         Ok(())

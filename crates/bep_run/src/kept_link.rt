@@ -1,23 +1,29 @@
 //! A link behind its lock.
-ghost use Rattle.std.specs.Prelude.{◌≡◌, IfOk, Some, true};
+ghost use Rattle.std.specs.Prelude.{◌≡◌, [], IfOk, Some, true};
+ghost use Rattle.bep_fit.specs.declared.object.Object.TheVariants as objects;
+ghost use Rattle.bep_history.specs.Chair.{IsNamed};
+ghost use Rattle.bep_run.specs.Kept.{IsSeated};
 ghost use Rattle.bep_run.specs.Origin.{at_place, links_in};
 ghost use Rattle.bep_run.specs.Quiet.{quiet_log};
 
 use crate::Origin;
+use bep_history::{Chair, History};
 use bep_links::Link;
 use bep_log::{LinkCopy, LogError, LoggedLink};
 use bep_machine::Refusal;
 use std::alloc::{AllocError, Global};
-use std::marker::PhantomData;
+use std::marker::Model;
+use std::sync::Wait;
 
-/// A link with its log, and its place among the links of its cluster. Where it is known how the cluster began, what the link
-/// was when its log began is what stood at that place, and no event is a local step or a reset.
+/// A link with its log, its place among the links of its cluster, and its seat of the cluster's history, if there is one.
+/// Contracts see the link with its log.
+///
+/// Where it is known how the cluster began, what the link was when its log began is what stood at that place, and no event is
+/// a local step or a reset. Where there is a history, the log has just those of its events that touch the link.
 pub(crate) struct KeptLink<O: Origin> {
     place: usize,
     pub(crate) logged: LoggedLink,
-    of: PhantomData<O>,
-    ghost began: { at_place (links_in O.start) place logged.base ≡ Some logged.base },
-    ghost quiet: { quiet_log O.start logged.log ≡ true },
+    pub(crate) seat: Chair<O>,
 }
 
 // By hand: a caller's proof then sees one call where it lets go of one, and not each field (docs/developing.md).
@@ -26,22 +32,65 @@ impl<O: Origin> Drop for KeptLink<O> {
         let KeptLink {
             place: _,
             logged: _,
-            of: _,
+            seat: _,
         } = self;
     }
 }
 
+impl<O: Origin> Model for KeptLink<O> {
+    ghost use Rattle.bep_links.specs.contracts.link.Link as between;
+    ghost use Rattle.bep_fit.specs.contracts.stamped.Stamped as stamped;
+    ghost use Rattle.bep_log.specs.LoggedLink.{LoggedBetween, logged_link_code};
+    ghost use Rattle.bep_run.specs.Kept.{IsKeptLink};
+
+    ghost Value = { LoggedBetween };
+
+    ghost coded = { logged_link_code between.the_row.coded stamped.the_row.coded };
+
+    ghost view = { λ inside. inside.logged };
+
+    ghost invariant = { λ inside. IsKeptLink O.start O.table inside.place inside.logged inside.seat };
+}
+
 impl<O: Origin> KeptLink<O> {
     // The link, which stands at this place, with an empty log.
-    pub(crate) fn new(alloc: Global, place: usize, link: Link) -> Result<Self, AllocError>
-        requires { at_place (links_in O.start) place link ≡ Some link }
+    pub(crate) fn new(
+        alloc: Global,
+        place: usize,
+        link: Link,
+        seat: Chair<O>,
+    ) -> Result<Self, AllocError>
+        requires stands { at_place (links_in O.start) place link ≡ Some link }
+        requires seated { IsSeated O.table (objects.Link link.ends.0 link.ends.1) 0 [] seat }
     {
         let logged = LoggedLink::new(alloc, link)?;
         Ok(KeptLink {
             place,
             logged,
-            of: PhantomData,
+            seat,
         })
+    }
+
+    // The link comes up.
+    pub(crate) fn connect<R: Wait>(&mut self, rt: &R, history: &History) -> Result<(), LogError>
+        requires { IsNamed O.table history.now.table.shared.table_id }
+    {
+        let ticket = self.seat.draw(rt, history);
+        let before = self.logged.log().len();
+        let answer = self.logged.connect(ticket);
+        self.seat.tell(history, self.logged.log().get(before));
+        answer
+    }
+
+    // The link goes down.
+    pub(crate) fn lose<R: Wait>(&mut self, rt: &R, history: &History) -> Result<(), LogError>
+        requires { IsNamed O.table history.now.table.shared.table_id }
+    {
+        let ticket = self.seat.draw(rt, history);
+        let before = self.logged.log().len();
+        let answer = self.logged.lose(ticket);
+        self.seat.tell(history, self.logged.log().get(before));
+        answer
     }
 
     // A copy of it; or `NotShared` if it stands at another place.
@@ -53,5 +102,23 @@ impl<O: Origin> KeptLink<O> {
             return Err(LogError::Refused(Refusal::NotShared));
         }
         Ok(self.logged.copy()?)
+    }
+
+    // A copy of it, as `copy` makes it, and its seat, which knows the copy's log.
+    pub(crate) fn into_copy(self, place: usize) -> Result<(LinkCopy, Chair<O>), LogError>
+        ensures began { IfOk result (λ end. at_place (links_in O.start) place end.0.base ≡ Some end.0.base) }
+        ensures quiet { IfOk result (λ end. quiet_log O.start end.0.log ≡ true) }
+        ensures seated { IfOk result (λ end. IsSeated O.table (objects.Link end.0.now.ends.0 end.0.now.ends.1) end.0.round end.0.log end.1) }
+    {
+        if self.place != place {
+            return Err(LogError::Refused(Refusal::NotShared));
+        }
+        let KeptLink {
+            place: _,
+            logged,
+            seat,
+        } = self;
+        let copy = logged.copy()?;
+        Ok((copy, seat))
     }
 }

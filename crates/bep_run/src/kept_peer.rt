@@ -1,34 +1,31 @@
 //! A device behind its lock.
-ghost use Rattle.std.specs.Prelude.{◌≡◌, IfOk, Some, true};
-ghost use Rattle.std.specs.Coded.{Coded-set, coded_option};
-ghost use Rattle.bep_record.specs.contracts.folder_kind.FolderKind as folder_kind;
-ghost use Rattle.bep_record.specs.contracts.entry.Entry as entry;
-ghost use Rattle.bep_record.specs.contracts.node.NodeParts as parts;
-ghost use Rattle.bep_index.specs.contracts.send.Plan as plan;
-ghost use Rattle.bep_machine.specs.contracts.message.Request as request;
-ghost use Rattle.bep_folder.specs.Held.{tables_code};
-ghost use Rattle.bep_peer.specs.Session.{session_code};
+ghost use Rattle.std.specs.Prelude.{◌≡◌, [], IfOk, OnOk, Some, true};
 ghost use Rattle.bep_cut.specs.Cut.{seen};
+ghost use Rattle.bep_fit.specs.declared.object.Object.TheVariants.{Device};
+ghost use Rattle.bep_run.specs.Kept.{IsSeated};
 ghost use Rattle.bep_run.specs.Origin.{at_place, devices_in};
-ghost use Rattle.bep_run.specs.Based.{began_as, seen_code};
 ghost use Rattle.bep_run.specs.Quiet.{quiet_log};
 
 use crate::Origin;
+use bep_history::Chair;
 use bep_log::{LogError, LoggedPeer, PeerCopy};
 use bep_machine::Refusal;
-use bep_peer::Peer;
+use bep_map::NameMap;
+use bep_peer::{Peer, PeerError};
+use bep_record::{FolderName, Name, Node};
 use bep_store::Store;
 use std::alloc::Global;
-use std::marker::PhantomData;
+use std::marker::Model;
 
-/// A device with its log, and its place among the devices of its cluster. Where it is known how the cluster began, what the
-/// device was when its log began is what stood at that place, and no event is a local step or a reset.
+/// A device with its log, its place among the devices of its cluster, and its seat of the cluster's history, if there is one.
+/// Contracts see the device with its log.
+///
+/// Where it is known how the cluster began, what the device was when its log began is what stood at that place, and no event
+/// is a local step or a reset. Where there is a history, the log has just those of its events that touch the device.
 pub(crate) struct KeptPeer<S: Store, O: Origin> {
     place: usize,
     pub(crate) logged: LoggedPeer<S>,
-    of: PhantomData<O>,
-    ghost began: { at_place (devices_in O.start) place (began_as logged) ≡ Some (began_as logged) } by { Coded-set (coded_option (seen_code (tables_code folder_kind.the_row.coded entry.the_row.coded parts.the_row.coded) (session_code plan.the_row.coded request.the_row.coded))) (at_place (devices_in O.start) place (began_as logged)) (Some (began_as logged)) },
-    ghost quiet: { quiet_log O.start logged.log ≡ true },
+    pub(crate) seat: Chair<O>,
 }
 
 // By hand: a caller's proof then sees one call where it lets go of one, and not each field (docs/developing.md).
@@ -37,30 +34,73 @@ impl<S: Store, O: Origin> Drop for KeptPeer<S, O> {
         let KeptPeer {
             place: _,
             logged: _,
-            of: _,
+            seat: _,
         } = self;
     }
+}
+
+impl<S: Store, O: Origin> Model for KeptPeer<S, O> {
+    ghost use Rattle.bep_record.specs.contracts.folder_kind.FolderKind as folder_kind;
+    ghost use Rattle.bep_record.specs.contracts.entry.Entry as entry;
+    ghost use Rattle.bep_record.specs.contracts.node.NodeParts as parts;
+    ghost use Rattle.bep_index.specs.contracts.send.Plan as plan;
+    ghost use Rattle.bep_machine.specs.contracts.message.Request as request;
+    ghost use Rattle.bep_folder.specs.Held.{held_code};
+    ghost use Rattle.bep_peer.specs.Session.{session_code};
+    ghost use Rattle.bep_peer.specs.Member.{member_code};
+    ghost use Rattle.bep_peer.specs.contracts.trace.Trace as trace;
+    ghost use Rattle.bep_fit.specs.contracts.stamped.Stamped as stamped;
+    ghost use Rattle.bep_log.specs.LoggedPeer.{LoggedMember, logged_code};
+    ghost use Rattle.bep_run.specs.Kept.{IsKeptDevice};
+
+    ghost Value = { LoggedMember };
+
+    ghost coded = { logged_code (member_code (held_code folder_kind.the_row.coded entry.the_row.coded parts.the_row.coded) (session_code plan.the_row.coded request.the_row.coded) trace.the_row.coded) stamped.the_row.coded };
+
+    ghost view = { λ inside. inside.logged };
+
+    ghost invariant = { λ inside. IsKeptDevice O.start O.table inside.place inside.logged inside.seat };
 }
 
 impl<S: Store, O: Origin> KeptPeer<S, O> {
     // The device, which stands at this place, with an empty log, as `LoggedPeer::new` makes it.
     #[tactic(auto, using(crate::proofs::Begins::new_stands))]
-    pub(crate) fn new(alloc: Global, place: usize, peer: Peer<S>) -> Result<Self, LogError>
-        requires { at_place (devices_in O.start) place (seen peer) ≡ Some (seen peer) }
+    pub(crate) fn new(
+        alloc: Global,
+        place: usize,
+        peer: Peer<S>,
+        seat: Chair<O>,
+    ) -> Result<Self, LogError>
+        requires stands { at_place (devices_in O.start) place (seen peer) ≡ Some (seen peer) }
+        requires seated { IsSeated O.table (Device peer.number) 0 [] seat }
     {
         let logged = LoggedPeer::new(alloc, peer)?;
         Ok(KeptPeer {
             place,
             logged,
-            of: PhantomData,
+            seat,
         })
     }
 
     // The device as it is.
     pub(crate) fn peer(&self) -> &Peer<S>
-        ensures { result.now ≡ self.now.logged.now }
+        ensures { result.now ≡ self.now.now }
     {
         self.logged.peer()
+    }
+
+    // The names of the folder's store and of the own records.
+    pub(crate) fn names(&mut self, folder: &FolderName) -> Result<NameMap<()>, PeerError> {
+        self.logged.names(folder)
+    }
+
+    // What the folder's store has at the name.
+    pub(crate) fn look(
+        &mut self,
+        folder: &FolderName,
+        name: &Name,
+    ) -> Result<Option<Node>, PeerError> {
+        self.logged.look(folder, name)
     }
 
     // A copy of it, as `LoggedPeer::copy` makes it; or `NotShared` if it stands at another place.
@@ -75,5 +115,27 @@ impl<S: Store, O: Origin> KeptPeer<S, O> {
         // called for its clause: the base has the device's number
         self.logged.log_replays();
         self.logged.copy()
+    }
+
+    // A copy of it, as `copy` makes it, and its seat, which knows the copy's log.
+    #[tactic(auto, using(crate::proofs::Begins::copy_stands))]
+    pub(crate) fn into_copy(self, place: usize) -> Result<(PeerCopy, Chair<O>), LogError>
+        ensures began { IfOk result (λ end. at_place (devices_in O.start) place (seen end.0.base) ≡ Some (seen end.0.base)) }
+        ensures quiet { IfOk result (λ end. quiet_log O.start end.0.log ≡ true) }
+        ensures seated { IfOk result (λ end. IsSeated O.table (Device end.0.now.number) end.0.round end.0.log end.1) }
+    {
+        if self.place != place {
+            return Err(LogError::Refused(Refusal::NotShared));
+        }
+        let KeptPeer {
+            place: _,
+            logged,
+            seat,
+        } = self;
+        let mut logged = logged;
+        // called for its clause: the base has the device's number
+        logged.log_replays();
+        let copy = logged.copy()?;
+        Ok((copy, seat))
     }
 }

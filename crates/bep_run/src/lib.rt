@@ -2,8 +2,9 @@
 //! turns.
 //!
 //! What a call does under a lock is a call of `bep_log`, and what it decides is decided by functions that take no lock. No
-//! contract here says what happened under a lock: the logs do, and tests show it. Where a cluster is handed to `run_turns`, it
-//! is known what the logs begin at, and that no event in them is a local step or a reset.
+//! contract of such a call says what happened under a lock: the logs do, and tests show it. Where a cluster is handed to
+//! `run_turns`, each lock keeps a seat of one history, too. So the logs with which it ends are one run from that cluster, without
+//! local steps and resets.
 //!
 //! ```rust
 //! let shared = Shared::new(alloc, cluster)?;
@@ -12,9 +13,12 @@
 //! ```
 #![tactic(auto)]
 
+mod acting;
+mod acting_over;
 mod actions;
 mod cuts;
 mod dropping;
+mod ending;
 mod kept_link;
 mod kept_peer;
 mod origin;

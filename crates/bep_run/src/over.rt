@@ -17,7 +17,7 @@ impl<S: Store, O: Origin> Locked<S, O> {
     ) -> Result<Moved, LogError> {
         let mut peer = held.peer.lock(rt);
         let mut link = joint.link.lock(rt);
-        peer.logged.begin(self.draw(), &mut link.logged)
+        peer.begin(rt, &self.history, &mut *link)
     }
 
     pub(crate) fn deliver<R: Wait>(
@@ -28,7 +28,7 @@ impl<S: Store, O: Origin> Locked<S, O> {
     ) -> Result<Moved, LogError> {
         let mut peer = held.peer.lock(rt);
         let mut link = joint.link.lock(rt);
-        peer.logged.deliver(self.draw(), &mut link.logged)
+        peer.deliver(rt, &self.history, &mut *link)
     }
 
     pub(crate) fn announce<R: Wait>(
@@ -40,7 +40,7 @@ impl<S: Store, O: Origin> Locked<S, O> {
     ) -> Result<Moved, LogError> {
         let mut peer = held.peer.lock(rt);
         let mut link = joint.link.lock(rt);
-        peer.logged.announce(self.draw(), &mut link.logged, folder)
+        peer.announce(rt, &self.history, &mut *link, folder)
     }
 
     pub(crate) fn ask<R: Wait>(
@@ -53,6 +53,6 @@ impl<S: Store, O: Origin> Locked<S, O> {
     ) -> Result<Moved, LogError> {
         let mut peer = held.peer.lock(rt);
         let mut link = joint.link.lock(rt);
-        peer.logged.ask(self.draw(), &mut link.logged, folder, name)
+        peer.ask(rt, &self.history, &mut *link, folder, name)
     }
 }

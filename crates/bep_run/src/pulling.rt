@@ -105,7 +105,7 @@ impl<S: Store, O: Origin> Locked<S, O> {
         if !has_no_pull(peer.peer(), folder, name) {
             return None;
         }
-        Some(peer.logged.pull(self.draw(), folder, name))
+        Some(peer.pull(rt, &self.history, folder, name))
     }
 
     // Ends the name's pull, if it can be ended.
@@ -117,6 +117,6 @@ impl<S: Store, O: Origin> Locked<S, O> {
         name: &Name,
     ) -> Result<Moved, LogError> {
         let mut peer = held.peer.lock(rt);
-        peer.logged.finish(self.draw(), folder, name)
+        peer.finish(rt, &self.history, folder, name)
     }
 }

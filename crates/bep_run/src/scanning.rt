@@ -97,7 +97,7 @@ impl<S: Store, O: Origin> Locked<S, O> {
         folder: &FolderName,
     ) -> Result<NameMap<()>, LogError> {
         let mut peer = held.peer.lock(rt);
-        Ok(peer.logged.names(folder)?)
+        Ok(peer.names(folder)?)
     }
 
     // What the folder has at the name.
@@ -112,7 +112,7 @@ impl<S: Store, O: Origin> Locked<S, O> {
         if is_known_clean(peer.peer(), folder, name) {
             return Ok(Found::Clean);
         }
-        Ok(Found::Unknown(peer.logged.look(folder, name)?))
+        Ok(Found::Unknown(peer.look(folder, name)?))
     }
 
     // What was found, hashed. No lock is held here.
@@ -144,7 +144,7 @@ impl<S: Store, O: Origin> Locked<S, O> {
         if !is_known_clean(peer.peer(), folder, name) {
             return Err(LogError::Stale);
         }
-        peer.logged.scan(self.draw(), folder, name)
+        peer.scan(rt, &self.history, folder, name)
     }
 
     // Records what the scan found.
@@ -156,6 +156,6 @@ impl<S: Store, O: Origin> Locked<S, O> {
         scan: ScanResult,
     ) -> Result<Moved, LogError> {
         let mut peer = held.peer.lock(rt);
-        peer.logged.scan_commit(self.draw(), folder, scan)
+        peer.scan_commit(rt, &self.history, folder, scan)
     }
 }

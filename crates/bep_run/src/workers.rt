@@ -1,13 +1,21 @@
 //! Threads that make turns.
-ghost use Rattle.std.specs.Prelude.{◌≡◌, [], IfOk, Some};
+ghost use Rattle.std.specs.Prelude.{◌≡◌, ◌++◌, ℕ, [], IfOk, Some};
+ghost use Rattle.bep_fit.specs.Fit.{Fits};
 ghost use Rattle.bep_fit.specs.Replayed.{AreQuietLogs, AreResetOf};
 ghost use Rattle.bep_peer.specs.network.Network.{cluster_of};
+ghost use Rattle.bep_history.specs.View.{AreDistinct, beginning};
+ghost use Rattle.bep_run.specs.Kept.{objects_of_links, objects_of_peers};
+ghost use Rattle.bep_run.specs.Settling.{StaysSettled};
+ghost use Rattle.bep_run_cut.specs.OneRun.{IsRunOf};
 ghost use Rattle.bep_run_cut.specs.RunCut.{AreTheSame};
 
 use crate::{Locked, Origin};
 use bep_blocks::Gate;
 use bep_core::Cluster;
+use bep_fit::{Object, fitting_logs_are_one_run};
+use bep_history::{Chair, History, Place};
 use bep_log::LogError;
+use bep_machine::{settled_stays_put, settled_stays_settled};
 use bep_record::DeviceId;
 use bep_run_cut::RunCut;
 use bep_store::Store;
@@ -43,11 +51,12 @@ pub fn run_workers<R: Threads + Wait + Sync, S: Store + Send, O: Origin, G: Gate
     Ok(done)
 }
 
-/// Runs the cluster by threads, each for so many turns, as `run_workers` does, and answers a cut of it then, as `take_cut`
-/// does: what its devices and links were when their logs began is the cluster that was handed over, and no event in the logs
-/// is a local step or a reset. The cluster is used up, after a refusal too. Refuses what `Locked::new` and `take_cut` refuse;
-/// else only for want of memory, which may be that of one worker. May wait.
-#[tactic(auto, using(crate::proofs::Begins::same_cluster_of))]
+/// Runs the cluster by threads, each for so many turns, as `run_workers` does, and answers a cut of it then. What its devices
+/// and links were when their logs began is the cluster that was handed over, no event in the logs is a local step or a reset,
+/// and the logs fit: so they are one run, which leads from that cluster to the devices and links as they are. If that cluster
+/// is settled, so are these, and every store holds what it held. The cluster is used up, after a refusal too. Refuses what
+/// `Locked::new` and `take_cut` refuse; else only for want of memory, which may be that of one worker. May wait.
+#[tactic(auto, using(crate::proofs::Begins::same_cluster_of, crate::proofs::Handed::one_run_of, crate::proofs::Settling::settled_of))]
 pub fn run_turns<R: Threads + Wait + Sync, S: Store + Send, G: Gate + Sync>(
     rt: &R,
     alloc: Global,
@@ -59,27 +68,61 @@ pub fn run_turns<R: Threads + Wait + Sync, S: Store + Send, G: Gate + Sync>(
     ensures from { IfOk result (λ run. cluster_of run.bases ≡ cluster_of cluster) }
     ensures quiet { IfOk result (λ run. AreQuietLogs run.logs) }
     ensures no_reset { IfOk result (λ run. AreResetOf run.logs []) }
+    ensures fit { IfOk result (λ run. (count : ℕ) × Fits run.logs count) }
+    ensures one_run { IfOk result (λ run. (count : ℕ) × IsRunOf run count) }
+    ensures settled { IfOk result (λ run. StaysSettled (cluster_of cluster) (cluster_of run.present)) }
 {
-    run_from::<R, S, Brand, G>(rt, alloc, cluster, gate, turns)
+    let objects = objects_of(alloc, &cluster)?;
+    let (history, place) = History::begin(alloc, &objects)?;
+    let run = run_from::<R, S, Brand, G>(rt, alloc, cluster, history, place, gate, turns)?;
+    // these are called for what they say of the logs, and of runs
+    run.logs();
+    fitting_logs_are_one_run();
+    settled_stays_put();
+    settled_stays_settled();
+    Ok(run)
 }
 
-// The same, where the type `O` says that all began as this cluster.
-#[tactic(auto, using(crate::proofs::Still::still_where_known))]
+// The same, where the type `O` says that all began as this cluster, and names this history.
+#[tactic(auto, using(crate::proofs::Still::still_where_known, crate::proofs::Handed::named_as, crate::proofs::Handed::about_these, crate::proofs::Handed::first_seat_of, crate::proofs::Handed::fit_where_known))]
 fn run_from<R: Threads + Wait + Sync, S: Store + Send, O: Origin, G: Gate + Sync>(
     rt: &R,
     alloc: Global,
     cluster: Cluster<S>,
+    history: History,
+    place: Place,
     gate: &G,
     turns: u32,
 ) -> Result<RunCut, LogError>
-    requires { O.start ≡ Some cluster }
+    requires start { O.start ≡ Some cluster }
+    requires table { O.table ≡ Some history.table.shared.table_id }
+    requires about { history.table.shared.key.items ≡ objects_of_peers cluster.members ++ objects_of_links cluster.links }
+    requires place { (place.table_id ≡ history.table.shared.table_id) × (place.me ≡ (beginning history.table.shared.key.items, [])) }
     ensures begins { IfOk result (λ run. AreTheSame run.bases cluster.members cluster.links) }
     ensures quiet { IfOk result (λ run. AreQuietLogs run.logs) }
     ensures no_reset { IfOk result (λ run. AreResetOf run.logs []) }
+    ensures fit { IfOk result (λ run. (count : ℕ) × Fits run.logs count) }
 {
-    let shared = Locked::<S, O>::new(alloc, cluster)?;
+    let shared = Locked::<S, O>::of(alloc, cluster, history, Chair::of(place))?;
     run_workers(rt, &shared, gate, turns)?;
-    shared.take_cut(rt, gate)
+    shared.into_cut()
+}
+
+// The cluster's devices and links.
+#[tactic(auto, using(crate::proofs::Distinct::distinct_objects))]
+fn objects_of<S: Store>(alloc: Global, cluster: &Cluster<S>) -> Result<Vec<Object>, AllocError>
+    ensures objects { IfOk result (λ objects. objects.items ≡ objects_of_peers cluster.now.members ++ objects_of_links cluster.now.links) }
+    ensures distinct { IfOk result (λ objects. AreDistinct objects.items) }
+{
+    let mut objects = Vec::new(alloc);
+    for peer in cluster.peers() {
+        objects.push(Object::Device(peer.number()))?;
+    }
+    for link in cluster.links() {
+        let (lower, upper) = link.ends();
+        objects.push(Object::Link(lower, upper))?;
+    }
+    Ok(objects)
 }
 
 impl<S: Store, O: Origin> Locked<S, O> {

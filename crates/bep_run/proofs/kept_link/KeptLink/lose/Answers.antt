@@ -1,0 +1,27 @@
+use Rattle.std.proofs.Common.{refl}
+use Rattle.std.specs.Option.{option_copied}
+use Rattle.bep_machine.specs.Steps.{LoseRow}
+use Rattle.bep_machine.specs.declared.step.Step.TheVariants as steps
+use Rattle.bep_run.proofs.Grown.{link_grows, link_kept, link_may_tell}
+use Rattle.bep_run.proofs.Lent.{lent_behind}
+use Rattle.bep_run.proofs.StayQuiet.{quiet_link}
+use Rattle.bep_run.proofs.kept_link.KeptLink.lose.Goals as goal
+
+pub tell-requires-clause-may : goal.tell-requires-clause-may
+tell-requires-clause-may g c =
+    let old = c.self.inside.logged in
+    let step = steps.Lose old.now.ends.0 old.now.ends.1 in
+    let ticket = c.draw-ticket.result in
+    let logs = c.lose-answer.ensures.logs in
+    let grows = link_grows step LoseRow ticket old c.lose-answer.new.self c.lose-answer.result logs in
+    link_may_tell g.O.Origin.start g.O.Tabled.table c.self.inside.place old c.lose-answer.new.self c.self.inside.seat c.draw-ticket.new.self c.self.invariant step ticket grows refl c.draw-ticket.ensures (option_copied c.get.result) (lent_behind old.log c.lose-answer.new.self.log c.log-before.result.now c.log.result.now c.get.result c.log-before.ensures.value c.log.ensures.value c.get.ensures.lookup)
+
+pub invariant_of-self : goal.invariant_of-self
+invariant_of-self g c =
+    let old = c.self.inside.logged in
+    let step = steps.Lose old.now.ends.0 old.now.ends.1 in
+    let ticket = c.draw-ticket.result in
+    let logs = c.lose-answer.ensures.logs in
+    let grows = link_grows step LoseRow ticket old c.lose-answer.new.self c.lose-answer.result logs in
+    link_kept g.O.Origin.start g.O.Tabled.table c.self.inside.place old c.lose-answer.new.self c.self.inside.seat c.draw-ticket.new.self c.self.invariant step ticket grows refl c.draw-ticket.ensures (option_copied c.get.result) (lent_behind old.log c.lose-answer.new.self.log c.log-before.result.now c.log.result.now c.get.result c.log-before.ensures.value c.log.ensures.value c.get.ensures.lookup) c.tell.new.self c.tell.ensures
+    (quiet_link g.O.Origin.start step LoseRow ticket old c.lose-answer.new.self c.lose-answer.result logs refl c.self.invariant.quiet)
