@@ -18,7 +18,7 @@ use Rattle.bep_history.specs.View.{AreDistinct}
 use Rattle.bep_links.specs.Link.{LinkBetween}
 use Rattle.bep_peer.specs.Member.{Member}
 use Rattle.bep_peer.specs.network.Network.{IsNetwork, Network, cluster_of, ends_of, numbers_of}
-use Rattle.bep_run.specs.Kept.{objects_of_links, objects_of_peers}
+use Rattle.bep_run.specs.inner.Kept.{objects_of_links, objects_of_peers}
 
 total_ends : IsTotalOrder by_ends
 total_ends = then_total (on_total (λ (ends : ℕ × ℕ). ends.0) nat_cmp_total) (on_total (λ (ends : ℕ × ℕ). ends.1) nat_cmp_total)

@@ -20,8 +20,8 @@ use Rattle.bep_log.specs.LoggedPeer.{LoggedMember}
 use Rattle.bep_peer.specs.network.Network.{Network, cluster_of}
 use Rattle.bep_run_check.specs.Log.{IsLogged}
 use Rattle.bep_run_cut.specs.RunCut.{AreTheSame, IsRunCut, RunState, device_log, link_log, logs_of}
-use Rattle.bep_run.specs.Ending.{HaveLog, KnowsDevices, KnowsEach, KnowsLinks}
-use Rattle.bep_run.specs.Kept.{DoFit, IsAbout, IsSeated, alone, objects_in}
+use Rattle.bep_run.specs.inner.Ending.{HaveLog, KnowsDevices, KnowsEach, KnowsLinks}
+use Rattle.bep_run.specs.inner.Kept.{DoFit, IsAbout, IsSeated, alone, objects_in}
 use Rattle.bep_run.specs.Origin.{BeginsAs}
 use Rattle.bep_run.proofs.Begins.{same_cluster_of}
 

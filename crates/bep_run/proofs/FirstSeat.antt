@@ -7,7 +7,7 @@ use Rattle.bep_history.specs.View.{beginning, first_row, other_rows}
 use Rattle.bep_history.specs.declared.view.View.{View}
 use Rattle.bep_links.specs.Link.{LinkBetween}
 use Rattle.bep_peer.specs.Member.{Member}
-use Rattle.bep_run.specs.Kept.{IsFirstSeat, IsSeated, objects_of_links, objects_of_peers}
+use Rattle.bep_run.specs.inner.Kept.{IsFirstSeat, IsSeated, objects_of_links, objects_of_peers}
 
 -- the first one's seat knows that its log is empty
 pub first_seated : (table : Option TableId) (object : Object) (rest all : List Object) (seat own : Option View) → all ≡ object ∷ rest → IsFirstSeat table all seat → own ≡ option_map first_row seat → IsSeated table object 0 [] own

@@ -30,7 +30,7 @@ use Rattle.bep_log.specs.declared.error.LogError.{LogError}
 use Rattle.bep_log.specs.declared.error.LogError.TheVariants.{TicketOld, LogFull, Refused, Stale, Memory}
 use Rattle.bep_log.specs.declared.ready.Ready.{Ready}
 use Rattle.bep_run.specs.Based.{began_as}
-use Rattle.bep_run.specs.Kept.{IsKeptDevice, IsKeptLink, IsSeated}
+use Rattle.bep_run.specs.inner.Kept.{IsKeptDevice, IsKeptLink, IsSeated}
 use Rattle.bep_run.specs.Origin.{devices_in, links_in}
 use Rattle.bep_run.specs.Quiet.{quiet_log}
 use Rattle.bep_run.proofs.Begins.{stands_as}

@@ -13,7 +13,7 @@ use Rattle.bep_history.specs.declared.view.View.{View}
 use Rattle.bep_peer.specs.network.Network.{Network, cluster_of}
 use Rattle.bep_run_cut.specs.OneRun.{IsRunOf}
 use Rattle.bep_run_cut.specs.RunCut.{IsRunCut, RunState}
-use Rattle.bep_run.specs.Kept.{DoFit, IsAbout, IsFirstSeat, objects_of_links, objects_of_peers}
+use Rattle.bep_run.specs.inner.Kept.{DoFit, IsAbout, IsFirstSeat, objects_of_links, objects_of_peers}
 use Rattle.bep_run.proofs.Distinct.{objects_are}
 
 pub named_as : (table : Option TableId) (id : TableId) → table ≡ Some id → IsNamed table id

@@ -16,7 +16,7 @@ use Rattle.bep_history.specs.declared.view.View.{View}
 use Rattle.bep_log.specs.History.{with_events}
 use Rattle.bep_machine.specs.declared.logged.Logged.{Logged}
 use Rattle.bep_machine.specs.Halves.{Guards, OfDevice, OfDeviceAndLink, OfLink, OfDeviceAndLinks, guards_of}
-use Rattle.bep_run.specs.Kept.{IsSeated, alone}
+use Rattle.bep_run.specs.inner.Kept.{IsSeated, alone}
 
 abbrev stamped : ℕ → Logged → Stamped
 stamped ticket event = record { ticket = ticket; event = event }

@@ -1,7 +1,6 @@
 pub mod Based
-pub mod Kept
-pub mod Ending
 pub mod Origin
 pub mod Quiet
 pub mod Settling
+pub mod Why
 pub mod inner

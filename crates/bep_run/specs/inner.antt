@@ -3,3 +3,5 @@ pub mod Dropping
 pub mod Tally
 pub mod Starting
 pub mod Unchanged
+pub mod Kept
+pub mod Ending

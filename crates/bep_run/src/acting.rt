@@ -1,5 +1,11 @@
 //! What a device does under its guard: under a ticket that its seat draws, and then the seat tells the history of the event.
+ghost use Rattle.std.specs.Prelude.{ℕ, None, Some};
 ghost use Rattle.bep_history.specs.Chair.{IsNamed};
+ghost use Rattle.bep_log.specs.Acts.{LogsIn, MakesIn};
+ghost use Rattle.bep_machine.specs.declared.step.Step.TheVariants as Step;
+ghost use Rattle.bep_machine.specs.Local.{ScanRow};
+ghost use Rattle.bep_machine.specs.Pull.{FinishRow, StartPullRow};
+ghost use Rattle.bep_peer.specs.Within.{CommitsWithin};
 
 use crate::Origin;
 use crate::kept_peer::KeptPeer;
@@ -21,6 +27,7 @@ impl<S: Store, O: Origin> KeptPeer<S, O> {
         name: &Name,
     ) -> Result<Moved, LogError>
         requires { IsNamed O.table history.now.table.shared.table_id }
+        ensures logs { (ticket : ℕ) × LogsIn None folder.now (MakesIn folder.now (ScanRow self.old.now.number name.now)) (Step.Scan self.old.now.number folder.now name.now) ticket self.old self.new result }
     {
         let ticket = self.seat.draw(rt, history);
         let before = self.logged.log().len();
@@ -38,6 +45,7 @@ impl<S: Store, O: Origin> KeptPeer<S, O> {
         scan: ScanResult,
     ) -> Result<Moved, LogError>
         requires { IsNamed O.table history.now.table.shared.table_id }
+        ensures logs { (ticket : ℕ) × LogsIn None folder.now (CommitsWithin folder.now scan) (Step.Scan self.old.now.number folder.now scan.name) ticket self.old self.new result }
     {
         let ticket = self.seat.draw(rt, history);
         let before = self.logged.log().len();
@@ -55,6 +63,7 @@ impl<S: Store, O: Origin> KeptPeer<S, O> {
         name: &Name,
     ) -> Result<Moved, LogError>
         requires { IsNamed O.table history.now.table.shared.table_id }
+        ensures logs { (ticket : ℕ) × LogsIn None folder.now (MakesIn folder.now (λ _. StartPullRow self.old.now.number name.now)) (Step.StartPull self.old.now.number folder.now name.now) ticket self.old self.new result }
     {
         let ticket = self.seat.draw(rt, history);
         let before = self.logged.log().len();
@@ -72,6 +81,7 @@ impl<S: Store, O: Origin> KeptPeer<S, O> {
         name: &Name,
     ) -> Result<Moved, LogError>
         requires { IsNamed O.table history.now.table.shared.table_id }
+        ensures logs { (ticket : ℕ) × LogsIn (Some name.now) folder.now (MakesIn folder.now (FinishRow self.old.now.number name.now)) (Step.Finish self.old.now.number folder.now name.now) ticket self.old self.new result }
     {
         let ticket = self.seat.draw(rt, history);
         let before = self.logged.log().len();

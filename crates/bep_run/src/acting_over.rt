@@ -1,6 +1,9 @@
 //! What a device does over a link under the guards of both: under a ticket that its seat draws, and then both seats tell the
 //! history of the event.
+ghost use Rattle.std.specs.Prelude.{ℕ};
 ghost use Rattle.bep_history.specs.Chair.{IsNamed};
+ghost use Rattle.bep_log.specs.ActsOver.{LogsOver};
+ghost use Rattle.bep_log.specs.Over.{announces, asks, begins, delivers};
 
 use crate::Origin;
 use crate::kept_link::KeptLink;
@@ -21,6 +24,7 @@ impl<S: Store, O: Origin> KeptPeer<S, O> {
         link: &mut KeptLink<O>,
     ) -> Result<Moved, LogError>
         requires { IsNamed O.table history.now.table.shared.table_id }
+        ensures logs { (ticket : ℕ) × LogsOver begins ticket self.old self.new link.old link.new result }
     {
         // called for what they say: each event of a log touches its object
         link.logged.log_replays();
@@ -42,6 +46,7 @@ impl<S: Store, O: Origin> KeptPeer<S, O> {
         link: &mut KeptLink<O>,
     ) -> Result<Moved, LogError>
         requires { IsNamed O.table history.now.table.shared.table_id }
+        ensures logs { (ticket : ℕ) × LogsOver delivers ticket self.old self.new link.old link.new result }
     {
         // called for what they say: each event of a log touches its object
         link.logged.log_replays();
@@ -64,6 +69,7 @@ impl<S: Store, O: Origin> KeptPeer<S, O> {
         folder: &FolderName,
     ) -> Result<Moved, LogError>
         requires { IsNamed O.table history.now.table.shared.table_id }
+        ensures logs { (ticket : ℕ) × LogsOver (announces folder.now) ticket self.old self.new link.old link.new result }
     {
         // called for what they say: each event of a log touches its object
         link.logged.log_replays();
@@ -87,6 +93,7 @@ impl<S: Store, O: Origin> KeptPeer<S, O> {
         name: &Name,
     ) -> Result<Moved, LogError>
         requires { IsNamed O.table history.now.table.shared.table_id }
+        ensures logs { (ticket : ℕ) × LogsOver (asks folder.now name.now) ticket self.old self.new link.old link.new result }
     {
         // called for what they say: each event of a log touches its object
         link.logged.log_replays();

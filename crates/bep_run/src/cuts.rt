@@ -1,9 +1,11 @@
 //! Cuts of the running cluster, and logs that begin anew: under all guards, by rising device and then by rising link.
-ghost use Rattle.std.specs.Prelude.{◌≡◌, ◌+◌, IfOk, OnOk, length, map, min, true};
+ghost use Rattle.std.specs.Prelude.{◌≡◌, ◌+◌, IfErr, IfOk, OnOk, length, map, min, true};
 ghost use Rattle.bep_blocks.specs.declared.gate.Place.TheVariants.{Guarded};
+ghost use Rattle.bep_log.specs.declared.error.LogError.TheVariants.{Memory};
 ghost use Rattle.bep_run.specs.Origin.{AreFirst, BeginsAs, IsAll, devices_in, links_in};
 ghost use Rattle.bep_run.specs.Based.{base_seen};
 ghost use Rattle.bep_run.specs.Quiet.{AreStill, device_logs, link_logs, quiet_logs};
+ghost use Rattle.bep_run.specs.Why.{IsOfCopies, IsOfPlaces};
 ghost use Rattle.bep_run_cut.specs.RunCut.{links_base};
 
 use crate::kept_link::KeptLink;
@@ -30,6 +32,7 @@ impl<S: Store, O: Origin> Locked<S, O> {
     pub fn take_cut<R: Wait, G: Gate>(&self, rt: &R, gate: &G) -> Result<RunCut, LogError>
         ensures begins { IfOk result (λ run. BeginsAs O.start run.bases) }
         ensures still { IfOk result (λ run. AreStill O.start run.logs) }
+        ensures only { IfErr result IsOfCopies }
     {
         let (peers, links) = self.copies(rt, gate)?;
         match RunCut::of(self.alloc, peers, links)? {
@@ -45,6 +48,7 @@ impl<S: Store, O: Origin> Locked<S, O> {
         ensures links { IfOk result (λ copies. IsAll (links_in O.start) (links_base copies.1.items)) }
         ensures quiet { IfOk result (λ copies. quiet_logs O.start (device_logs copies.0.items) ≡ true) }
         ensures quiet_links { IfOk result (λ copies. quiet_logs O.start (link_logs copies.1.items) ≡ true) }
+        ensures only { IfErr result IsOfCopies }
     {
         let mut peers = self.peer_guards(rt, gate)?;
         let links = self.link_guards(rt, gate, peers.len())?;
@@ -59,7 +63,8 @@ impl<S: Store, O: Origin> Locked<S, O> {
         rt: &R,
         gate: &G,
     ) -> Result<Vec<MutexGuard<'_, KeptPeer<S, O>>>, LogError>
-        ensures { IfOk result (λ guards. length guards.items ≡ length self.now.devices.items) }
+        ensures all { IfOk result (λ guards. length guards.items ≡ length self.now.devices.items) }
+        ensures only { IfErr result (λ e. e ≡ Memory) }
     {
         let mut guards = Vec::with_capacity(self.alloc, self.devices.len())?;
         for held in self.devices.iter() {
@@ -76,7 +81,8 @@ impl<S: Store, O: Origin> Locked<S, O> {
         gate: &G,
         others: usize,
     ) -> Result<Vec<MutexGuard<'_, KeptLink<O>>>, LogError>
-        ensures { IfOk result (λ guards. length guards.items ≡ length self.now.links.items) }
+        ensures all { IfOk result (λ guards. length guards.items ≡ length self.now.links.items) }
+        ensures only { IfErr result (λ e. e ≡ Memory) }
     {
         let mut guards = Vec::with_capacity(self.alloc, self.links.len())?;
         for joint in self.links.iter() {
@@ -115,6 +121,7 @@ fn copy_peers<S: Store, O: Origin>(
     ensures first { IfOk result (λ copies. AreFirst (devices_in O.start) (map base_seen copies.items)) }
     ensures all { IfOk result (λ copies. length copies.items ≡ length peers.old) }
     ensures quiet { IfOk result (λ copies. quiet_logs O.start (device_logs copies.items) ≡ true) }
+    ensures only { IfErr result IsOfCopies }
 {
     let mut copies = Vec::with_capacity(alloc, peers.len())?;
     for peer in peers.iter_mut() {
@@ -134,6 +141,7 @@ fn copy_peer<S: Store, O: Origin>(
     ensures first { OnOk result (AreFirst (devices_in O.start) (map base_seen copies.new.items)) }
     ensures one_more { OnOk result (length copies.new.items ≡ length copies.old.items + 1) }
     ensures quiet { OnOk result (quiet_logs O.start (device_logs copies.new.items) ≡ true) }
+    ensures only { IfErr result IsOfCopies }
 {
     let copy = peer.copy(copies.len())?;
     copies.push(copy)?;
@@ -149,6 +157,7 @@ fn copy_links<O: Origin>(
     ensures first { IfOk result (λ copies. AreFirst (links_in O.start) (links_base copies.items)) }
     ensures all { IfOk result (λ copies. length copies.items ≡ length links.now) }
     ensures quiet { IfOk result (λ copies. quiet_logs O.start (link_logs copies.items) ≡ true) }
+    ensures only { IfErr result IsOfPlaces }
 {
     let mut copies = Vec::with_capacity(alloc, links.len())?;
     for link in links.iter() {
@@ -165,6 +174,7 @@ fn copy_link<O: Origin>(copies: &mut Vec<LinkCopy>, link: &KeptLink<O>) -> Resul
     ensures first { OnOk result (AreFirst (links_in O.start) (links_base copies.new.items)) }
     ensures one_more { OnOk result (length copies.new.items ≡ length copies.old.items + 1) }
     ensures quiet { OnOk result (quiet_logs O.start (link_logs copies.new.items) ≡ true) }
+    ensures only { IfErr result IsOfPlaces }
 {
     let copy = link.copy(copies.len())?;
     copies.push(copy)?;

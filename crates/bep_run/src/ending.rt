@@ -3,8 +3,8 @@
 ghost use Rattle.std.specs.Prelude.{◌≡◌, ◌+◌, Contains, IfOk, OnOk, length, map, true};
 ghost use Rattle.bep_history.specs.Chair.{IsNamed};
 ghost use Rattle.bep_history.specs.declared.view.Row.{Row};
-ghost use Rattle.bep_run.specs.Ending.{KnowsDevices, KnowsLinks};
-ghost use Rattle.bep_run.specs.Kept.{DoFit};
+ghost use Rattle.bep_run.specs.inner.Ending.{KnowsDevices, KnowsLinks};
+ghost use Rattle.bep_run.specs.inner.Kept.{DoFit};
 ghost use Rattle.bep_run.specs.Origin.{AreFirst, BeginsAs, IsAll, count_of, devices_in, links_in};
 ghost use Rattle.bep_run.specs.Based.{base_seen};
 ghost use Rattle.bep_run.specs.Quiet.{AreStill, device_logs, link_logs, quiet_logs};

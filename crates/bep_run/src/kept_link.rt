@@ -1,10 +1,14 @@
 //! A link behind its lock.
-ghost use Rattle.std.specs.Prelude.{◌≡◌, [], IfOk, Some, true};
+ghost use Rattle.std.specs.Prelude.{◌≡◌, ℕ, [], IfErr, IfOk, Some, true};
 ghost use Rattle.bep_fit.specs.declared.object.Object.TheVariants as objects;
 ghost use Rattle.bep_history.specs.Chair.{IsNamed};
-ghost use Rattle.bep_run.specs.Kept.{IsSeated};
+ghost use Rattle.bep_log.specs.LoggedLink.{LinkLogs};
+ghost use Rattle.bep_machine.specs.declared.step.Step.TheVariants as Step;
+ghost use Rattle.bep_machine.specs.Steps.{ConnectRow, LoseRow};
+ghost use Rattle.bep_run.specs.inner.Kept.{IsSeated};
 ghost use Rattle.bep_run.specs.Origin.{at_place, links_in};
 ghost use Rattle.bep_run.specs.Quiet.{quiet_log};
+ghost use Rattle.bep_run.specs.Why.{IsOfPlaces};
 
 use crate::Origin;
 use bep_history::{Chair, History};
@@ -41,7 +45,7 @@ impl<O: Origin> Model for KeptLink<O> {
     ghost use Rattle.bep_links.specs.contracts.link.Link as between;
     ghost use Rattle.bep_fit.specs.contracts.stamped.Stamped as stamped;
     ghost use Rattle.bep_log.specs.LoggedLink.{LoggedBetween, logged_link_code};
-    ghost use Rattle.bep_run.specs.Kept.{IsKeptLink};
+    ghost use Rattle.bep_run.specs.inner.Kept.{IsKeptLink};
 
     ghost Value = { LoggedBetween };
 
@@ -74,6 +78,7 @@ impl<O: Origin> KeptLink<O> {
     // The link comes up.
     pub(crate) fn connect<R: Wait>(&mut self, rt: &R, history: &History) -> Result<(), LogError>
         requires { IsNamed O.table history.now.table.shared.table_id }
+        ensures logs { (ticket : ℕ) × LinkLogs (Step.Connect self.old.now.ends.0 self.old.now.ends.1) ConnectRow ticket self.old self.new result }
     {
         let ticket = self.seat.draw(rt, history);
         let before = self.logged.log().len();
@@ -85,6 +90,7 @@ impl<O: Origin> KeptLink<O> {
     // The link goes down.
     pub(crate) fn lose<R: Wait>(&mut self, rt: &R, history: &History) -> Result<(), LogError>
         requires { IsNamed O.table history.now.table.shared.table_id }
+        ensures logs { (ticket : ℕ) × LinkLogs (Step.Lose self.old.now.ends.0 self.old.now.ends.1) LoseRow ticket self.old self.new result }
     {
         let ticket = self.seat.draw(rt, history);
         let before = self.logged.log().len();
@@ -97,6 +103,7 @@ impl<O: Origin> KeptLink<O> {
     pub(crate) fn copy(&self, place: usize) -> Result<LinkCopy, LogError>
         ensures began { IfOk result (λ copy. at_place (links_in O.start) place copy.base ≡ Some copy.base) }
         ensures quiet { IfOk result (λ copy. quiet_log O.start copy.log ≡ true) }
+        ensures only { IfErr result IsOfPlaces }
     {
         if self.place != place {
             return Err(LogError::Refused(Refusal::NotShared));

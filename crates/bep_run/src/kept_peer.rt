@@ -1,10 +1,11 @@
 //! A device behind its lock.
-ghost use Rattle.std.specs.Prelude.{◌≡◌, [], IfOk, OnOk, Some, true};
+ghost use Rattle.std.specs.Prelude.{◌≡◌, [], IfErr, IfOk, OnOk, Some, true};
 ghost use Rattle.bep_cut.specs.Cut.{seen};
 ghost use Rattle.bep_fit.specs.declared.object.Object.TheVariants.{Device};
-ghost use Rattle.bep_run.specs.Kept.{IsSeated};
+ghost use Rattle.bep_run.specs.inner.Kept.{IsSeated};
 ghost use Rattle.bep_run.specs.Origin.{at_place, devices_in};
 ghost use Rattle.bep_run.specs.Quiet.{quiet_log};
+ghost use Rattle.bep_run.specs.Why.{IsOfCopies, IsOfStores};
 
 use crate::Origin;
 use bep_history::Chair;
@@ -51,7 +52,7 @@ impl<S: Store, O: Origin> Model for KeptPeer<S, O> {
     ghost use Rattle.bep_peer.specs.contracts.trace.Trace as trace;
     ghost use Rattle.bep_fit.specs.contracts.stamped.Stamped as stamped;
     ghost use Rattle.bep_log.specs.LoggedPeer.{LoggedMember, logged_code};
-    ghost use Rattle.bep_run.specs.Kept.{IsKeptDevice};
+    ghost use Rattle.bep_run.specs.inner.Kept.{IsKeptDevice};
 
     ghost Value = { LoggedMember };
 
@@ -73,6 +74,7 @@ impl<S: Store, O: Origin> KeptPeer<S, O> {
     ) -> Result<Self, LogError>
         requires stands { at_place (devices_in O.start) place (seen peer) ≡ Some (seen peer) }
         requires seated { IsSeated O.table (Device peer.number) 0 [] seat }
+        ensures only { IfErr result IsOfStores }
     {
         let logged = LoggedPeer::new(alloc, peer)?;
         Ok(KeptPeer {
@@ -108,6 +110,7 @@ impl<S: Store, O: Origin> KeptPeer<S, O> {
     pub(crate) fn copy(&mut self, place: usize) -> Result<PeerCopy, LogError>
         ensures began { IfOk result (λ copy. at_place (devices_in O.start) place (seen copy.base) ≡ Some (seen copy.base)) }
         ensures quiet { IfOk result (λ copy. quiet_log O.start copy.log ≡ true) }
+        ensures only { IfErr result IsOfCopies }
     {
         if self.place != place {
             return Err(LogError::Refused(Refusal::NotShared));

@@ -1,13 +1,14 @@
 //! The cluster behind its locks.
-ghost use Rattle.std.specs.Prelude.{◌≡◌, ◌++◌, [], IfOk, OnOk, Some, length, map};
+ghost use Rattle.std.specs.Prelude.{◌≡◌, ◌++◌, [], IfErr, IfOk, OnOk, Some, length, map};
 ghost use Rattle.std.specs.Coded.{Coded-set, coded_list};
 ghost use Rattle.atomic_table.specs.Seated.{table_id_coded};
 ghost use Rattle.bep_cut.specs.Cut.{seen};
 ghost use Rattle.bep_fit.specs.contracts.object.Object as object_row;
 ghost use Rattle.bep_fit.specs.declared.object.Object.TheVariants as objects;
 ghost use Rattle.bep_history.specs.Chair.{IsNamed, named_or};
-ghost use Rattle.bep_run.specs.Kept.{IsAbout, IsFirstSeat, IsSeated, objects_in, objects_of_links, objects_of_peers};
+ghost use Rattle.bep_run.specs.inner.Kept.{IsAbout, IsFirstSeat, IsSeated, objects_in, objects_of_links, objects_of_peers};
 ghost use Rattle.bep_run.specs.Origin.{BeginsAs, IsAll, at_place, count_of, devices_in, links_in};
+ghost use Rattle.bep_run.specs.Why.{IsOfStores};
 
 use crate::kept_link::KeptLink;
 use crate::kept_peer::KeptPeer;
@@ -93,7 +94,9 @@ impl<O: Origin> Drop for Joint<O> {
 impl<S: Store> Locked<S, Anywhere> {
     /// The cluster behind locks: each log is empty, in round 0, and the first ticket is 1. The cluster is used up, after a
     /// refusal too. Refuses `StoreFault` where a store fails to list its names or to read one; else only for want of memory.
-    pub fn new(alloc: Global, cluster: Cluster<S>) -> Result<Self, LogError> {
+    pub fn new(alloc: Global, cluster: Cluster<S>) -> Result<Self, LogError>
+        ensures only { IfErr result IsOfStores }
+    {
         let (history, _place) = History::begin(alloc, &Vec::new(alloc))?;
         Locked::of(alloc, cluster, history, Chair::nobody())
     }
@@ -117,6 +120,7 @@ impl<S: Store, O: Origin> Locked<S, O> {
         requires named { IsNamed O.table history.table.shared.table_id }
         requires about { IsAbout O.start history.table.shared.key.items }
         requires seat { IsFirstSeat O.table (objects_of_peers cluster.members ++ objects_of_links cluster.links) seat }
+        ensures only { IfErr result IsOfStores }
     {
         let (peers, joining) = cluster.into_parts();
         let mut seat = seat;
@@ -219,6 +223,7 @@ fn hold_all<S: Store, O: Origin>(
     requires seat { IsFirstSeat O.table (objects_of_peers peers.items ++ objects_of_links joining.now) seat.old }
     ensures all { IfOk result (λ held. count_of (devices_in O.start) (length held.items) ≡ length held.items) }
     ensures seat { OnOk result (IsFirstSeat O.table (objects_of_links joining.now) seat.new) }
+    ensures only { IfErr result IsOfStores }
 {
     let mut devices = Vec::with_capacity(alloc, peers.len())?;
     for peer in peers {
@@ -260,6 +265,7 @@ fn hold<S: Store, O: Origin>(
 ) -> Result<Held<S, O>, LogError>
     requires stands { at_place (devices_in O.start) place (seen peer) ≡ Some (seen peer) }
     requires seated { IsSeated O.table (objects.Device peer.number) 0 [] seat }
+    ensures only { IfErr result IsOfStores }
 {
     let number = peer.number();
     let folders = folders_of(alloc, &peer)?;

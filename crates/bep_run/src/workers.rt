@@ -4,7 +4,7 @@ ghost use Rattle.bep_fit.specs.Fit.{Fits};
 ghost use Rattle.bep_fit.specs.Replayed.{AreQuietLogs, AreResetOf};
 ghost use Rattle.bep_peer.specs.network.Network.{cluster_of};
 ghost use Rattle.bep_history.specs.View.{AreDistinct, beginning};
-ghost use Rattle.bep_run.specs.Kept.{objects_of_links, objects_of_peers};
+ghost use Rattle.bep_run.specs.inner.Kept.{objects_of_links, objects_of_peers};
 ghost use Rattle.bep_run.specs.Settling.{StaysSettled};
 ghost use Rattle.bep_run_cut.specs.OneRun.{IsRunOf};
 ghost use Rattle.bep_run_cut.specs.RunCut.{AreTheSame};

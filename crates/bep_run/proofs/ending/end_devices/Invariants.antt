@@ -1,5 +1,5 @@
 use Rattle.std.proofs.Common.{◌≡◌, ◌+◌, true, length, map}
-use Rattle.bep_run.specs.Ending.{KnowsDevices}
+use Rattle.bep_run.specs.inner.Ending.{KnowsDevices}
 use Rattle.bep_run.specs.Origin.{AreFirst, devices_in}
 use Rattle.bep_run.specs.Based.{base_seen}
 use Rattle.bep_run.specs.Quiet.{device_logs, quiet_logs}

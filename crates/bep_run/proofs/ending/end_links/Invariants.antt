@@ -1,5 +1,5 @@
 use Rattle.std.proofs.Common.{◌≡◌, ◌+◌, true, length, Contains}
-use Rattle.bep_run.specs.Ending.{KnowsLinks}
+use Rattle.bep_run.specs.inner.Ending.{KnowsLinks}
 use Rattle.bep_history.specs.declared.view.Row.{Row}
 use Rattle.bep_run.specs.Origin.{AreFirst, links_in}
 use Rattle.bep_run.specs.Quiet.{link_logs, quiet_logs}

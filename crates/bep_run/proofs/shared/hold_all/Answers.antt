@@ -2,7 +2,7 @@ use Rattle.std.proofs.Common.{rules, ◌≡◌, ◌++◌, List, ◌∷◌, map, 
 use Rattle.std.proofs.lemmas.List.{length_push, nil_from_length}
 use Rattle.bep_cut.specs.Cut.{seen}
 use Rattle.bep_peer.specs.Member.{Member}
-use Rattle.bep_run.specs.Kept.{IsFirstSeat, objects_of_links, objects_of_peers}
+use Rattle.bep_run.specs.inner.Kept.{IsFirstSeat, objects_of_links, objects_of_peers}
 use Rattle.bep_run.specs.Origin.{at_place, devices_in}
 use Rattle.bep_run.proofs.Places.{AreLeft}
 use Rattle.bep_run.proofs.Begins.{fewer_seen, next_seen, none_seen}

@@ -1,6 +1,6 @@
 use Rattle.std.proofs.Common.{◌++◌, length, map}
 use Rattle.bep_cut.specs.Cut.{seen}
-use Rattle.bep_run.specs.Kept.{IsFirstSeat, objects_of_links, objects_of_peers}
+use Rattle.bep_run.specs.inner.Kept.{IsFirstSeat, objects_of_links, objects_of_peers}
 use Rattle.bep_run.specs.Origin.{devices_in}
 use Rattle.bep_run.proofs.Places.{AreLeft}
 use Rattle.bep_run.proofs.shared.hold_all.Given as goal

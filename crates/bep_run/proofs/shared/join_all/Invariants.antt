@@ -1,5 +1,5 @@
 use Rattle.std.proofs.Common.{length}
-use Rattle.bep_run.specs.Kept.{IsFirstSeat, objects_of_links}
+use Rattle.bep_run.specs.inner.Kept.{IsFirstSeat, objects_of_links}
 use Rattle.bep_run.specs.Origin.{links_in}
 use Rattle.bep_run.proofs.Places.{AreLeft}
 use Rattle.bep_run.proofs.shared.join_all.Given as goal

@@ -2,7 +2,7 @@ use Rattle.std.proofs.Common.{rules, ◌≤◌, length, subst, sym}
 use Rattle.bep_fit.specs.declared.object.Object.TheVariants as objects
 use Rattle.bep_history.specs.View.{AreDistinct}
 use Rattle.bep_links.specs.Link.{LinkBetween}
-use Rattle.bep_run.specs.Kept.{objects_of_peers}
+use Rattle.bep_run.specs.inner.Kept.{objects_of_peers}
 use Rattle.bep_run.proofs.Distinct.{distinct_objects}
 use Rattle.bep_run.proofs.Listing.{all_listed}
 use Rattle.bep_run.proofs.workers.objects_of.Goals as goal

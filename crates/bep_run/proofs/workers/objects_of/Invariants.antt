@@ -1,5 +1,5 @@
 use Rattle.std.proofs.Common.{◌≡◌, ◌++◌, take}
-use Rattle.bep_run.specs.Kept.{objects_of_links, objects_of_peers}
+use Rattle.bep_run.specs.inner.Kept.{objects_of_links, objects_of_peers}
 use Rattle.bep_run.proofs.workers.objects_of.Given as goal
 
 -- the first devices, and then all of them and the first links
