@@ -1,5 +1,5 @@
 -- Where logs fit, and no event is a local step, what was settled stays put.
-use Rattle.std.proofs.Common.{◌≡◌, List, [], ◌∷◌, ◌++◌, Option, Some, None, Contains, refl, sym, ap, subst, ◌∙◌, inl, inr, ⊎_elim}
+use Rattle.std.proofs.Common.{List, [], ◌∷◌, Option, Some, None, Contains, sym, ap, subst, inl, inr, ⊎_elim}
 use Rattle.std.proofs.lemmas.List.Elements.{Contains-append_cases, Contains-append_left, Contains-append_right}
 use Rattle.bep_facts.specs.Members.{Contains-first, Contains-from_image, Contains-more, not_in_none}
 use Rattle.bep_record.specs.declared.entry.Entry.{Entry}
