@@ -5,9 +5,9 @@
 
 COUNT runs of each kind (1000 if not given).
 
-A run of the first kind begins at a settled cluster made at random and takes quiet steps, store calls failing among
-them. After each one the stores must be kept, the cut settled for the list of its own winners, with the same names and
-contents, and no own record gone.
+A run of the first kind begins at a settled cluster made at random and takes quiet steps, store calls failing and index
+resets refused among them. After each one the stores must be kept, the cut settled for the list of its own winners, with
+the same names and contents, and no own record gone.
 
 A run of the second kind begins at a settled cluster, or at a calm one made at random, and has index resets too. After
 each step the stores must be kept, and the cluster calm for the same contents, where only the devices that were reset
@@ -154,6 +154,11 @@ class Walk:
         ids = [one.index.id for one in self.cluster.peers[device].replicas.values()]
         return Reset(device, max(ids) + self.random.choice([0, 1, 1, 2]))
 
+    def refused_reset(self) -> Step:
+        """A reset of some device under the greatest id of its own, so one that is refused."""
+        device = self.random.choice(self.devices)
+        return Reset(device, max(one.index.id for one in self.cluster.peers[device].replicas.values()))
+
     def step_back(self) -> Step:
         """A scan, an override or a revert where there is something to do, so that devices can come to agree."""
         device, folder, name = self.place()
@@ -217,14 +222,14 @@ class Settled:
 
 
 def run_from_settled(making: Making, answers: Counter) -> None:
-    """A run of quiet steps from a settled cluster made at random."""
+    """A run of quiet steps from a settled cluster made at random; each reset in it is refused."""
     walk = Walk(making, settled_cluster(making))
     contents = settled_contents(walk.cluster)
     if contents is None:
         raise Contradiction("the cluster that was made isn't settled")
     settled = Settled(walk.cluster, contents)
     for _ in range(making.random.choice([20, 60, 100])):
-        step = walk.quiet_step()
+        step = walk.refused_reset() if making.happens(0.03) else walk.quiet_step()
         walk.take(step)
         settled.check(walk.cluster, step)
     answers.update(walk.answers)
