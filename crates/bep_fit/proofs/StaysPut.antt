@@ -1,6 +1,6 @@
 -- Where logs fit, and no event is a local step, what was settled stays put.
-use Rattle.std.proofs.Common.{◌≡◌, List, [], ◌∷◌, ◌++◌, Option, Some, None, Contains, refl, sym, ap, subst, ◌∙◌, inl, inr, ⊎_elim}
-use Rattle.std.proofs.lemmas.List.Elements.{Contains-append_cases}
+use Rattle.std.proofs.Common.{List, [], ◌∷◌, Option, Some, None, Contains, sym, ap, subst, inl, inr, ⊎_elim}
+use Rattle.std.proofs.lemmas.List.Elements.{Contains-append_cases, Contains-append_left, Contains-append_right}
 use Rattle.bep_facts.specs.Members.{Contains-first, Contains-from_image, Contains-more, not_in_none}
 use Rattle.bep_record.specs.declared.entry.Entry.{Entry}
 use Rattle.bep_record.specs.Content.{Content}
@@ -10,11 +10,12 @@ use Rattle.bep_model.specs.Tables.{Tables, Device}
 use Rattle.bep_machine.specs.declared.logged.Logged.{Logged}
 use Rattle.bep_machine.specs.declared.step.Step.{Step}
 use Rattle.bep_machine.specs.declared.step.Step.TheVariants.{Edit, Remove, Scan, Override, Revert, Connect, Lose, Begin, Deliver, Announce, StartPull, Ask, Finish, Restart, Reset}
+use Rattle.bep_machine.specs.Answer.{Answer, Done, Refused, OutOfMemory}
 use Rattle.bep_machine.specs.HalfLaws.{HasStepsOf}
 use Rattle.bep_machine.specs.Halves.{reset_in_log}
 use Rattle.bep_machine.specs.Laws.{AreAmong, IsSoundStep, SettledStaysPut}
 use Rattle.bep_machine.specs.Said.{tables_of_cluster}
-use Rattle.bep_machine.specs.Steps.{AreQuiet, Event, IsQuiet, reset_by, reset_in}
+use Rattle.bep_machine.specs.Steps.{AreQuiet, Event, IsQuiet, reset_by, reset_made, reset_in}
 use Rattle.bep_fit.specs.declared.stamped.Stamped.{Stamped}
 use Rattle.bep_fit.specs.Fit.{IsMerged}
 use Rattle.bep_fit.specs.FitLaws.{FittingLogsAreOneRun, SettledLogsStayPut}
@@ -56,13 +57,24 @@ merged_is_quiet logs merged is quiet one stands =
     let in_log = (is.holds found.0).0 found.1 in
     subst (λ (l : Logged). IsQuiet l.step) found.2 (quiet in_log.0 found.0 in_log.1 in_log.2)
 
--- the devices of the resets in a run are those of its log
-reset_logged : (logged : List Logged) (events : List Event) → HasStepsOf logged events → reset_in events ≡ reset_in_log logged
-reset_logged [] [] steps = refl
-reset_logged [] (event ∷ events) steps = absurd steps
-reset_logged (one ∷ logged) [] steps = absurd steps
-reset_logged (one ∷ logged) (event ∷ events) steps =
-    ap (λ (s : Step). reset_by s ++ reset_in events) (sym (ap (λ (l : Logged). l.step) steps.0)) ∙ ap (λ (more : List Device). reset_by one.step ++ more) (reset_logged logged events steps.2)
+-- a reset that was made is a reset
+made_is_by : (step : Step) (answer : Answer) → AreAmong (reset_made step answer) (reset_by step)
+made_is_by step (Done moved) device is = is
+made_is_by step (Refused why) device is = absurd (not_in_none device is)
+made_is_by step OutOfMemory device is = absurd (not_in_none device is)
+
+-- the devices of the resets that were made in a run are among those of its log
+reset_logged : (logged : List Logged) (events : List Event) → HasStepsOf logged events → AreAmong (reset_in events) (reset_in_log logged)
+reset_logged [] [] steps device is = is
+reset_logged [] (event ∷ events) steps device is = absurd steps
+reset_logged (one ∷ logged) [] steps device is = absurd steps
+reset_logged (one ∷ logged) (event ∷ events) steps device is =
+    ⊎_elim
+    (λ now.
+    Contains-append_left (reset_by one.step) (reset_in_log logged) device
+    (subst (λ (s : Step). Contains (reset_by s) device) (sym (ap (λ (l : Logged). l.step) steps.0)) (made_is_by event.step event.answer device now)))
+    (λ later. Contains-append_right (reset_by one.step) (reset_in_log logged) device (reset_logged logged events steps.2 device later))
+    (Contains-append_cases (reset_made event.step event.answer) (reset_in events) device is)
 
 -- each of them is of an event in the merged list, so of one in the logs
 reset_is_logged : (logged : List Logged) (device : Device) → Contains (reset_in_log logged) device → (one : Logged) × Contains logged one × Contains (reset_by one.step) device
@@ -101,6 +113,6 @@ module _ (runs : FittingLogsAreOneRun) (puts : SettledStaysPut) where
       let nodes : AreSoundLogs logs = λ log one there stands. quiet_is_sound one.event.step (quiet log one there stands) in
       let run = runs logs bases present count sound replayed nodes fits in
       stays_with tables rows (reset_in run.2.events) reset (tables_of_cluster present)
-      (subst (λ (some : List Device). AreAmong some reset) (sym (reset_logged (events_of run.0) run.2.events run.2.steps)) (merged_resets logs run.0 reset run.2.is_merged all))
+      (λ device is. merged_resets logs run.0 reset run.2.is_merged all device (reset_logged (events_of run.0) run.2.events run.2.steps device is))
       (puts tables rows settled bases present run.2.events sound says run.2.run
       (quiet_run (events_of run.0) run.2.events run.2.steps (merged_is_quiet logs run.0 run.2.is_merged quiet)))

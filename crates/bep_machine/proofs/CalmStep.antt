@@ -1,4 +1,4 @@
--- Every quiet step of a sound cluster keeps calm, and takes no own record away, but for a reset.
+-- Every quiet step of a sound cluster keeps calm, and takes no own record away, but for a reset that is made.
 use Rattle.std.proofs.Common.{◌≡◌, ℕ, Bool, true, false, List, [], ◌∷◌, Option, Some, None, IsSome, Contains, refl, sym, ap, subst, ◌∙◌, inl, ⊎_elim}
 use Rattle.std.specs.FinMap.{get}
 use Rattle.bep_facts.specs.Members.{Contains-first, Contains-one, not_in_none}
@@ -23,7 +23,7 @@ use Rattle.bep_machine.specs.Local.{ScanRow}
 use Rattle.bep_machine.specs.Pull.{StartPullRow, FinishRow}
 use Rattle.bep_machine.specs.Peer.{with_replica}
 use Rattle.bep_machine.specs.Cluster.{Cluster, with_peer}
-use Rattle.bep_machine.specs.Steps.{SharesFolder, IsThere, AtReplica, ResetRow, StepRow, IsStep, IsQuiet, reset_by}
+use Rattle.bep_machine.specs.Steps.{SharesFolder, IsThere, AtReplica, ResetRow, StepRow, IsStep, IsQuiet, reset_made}
 use Rattle.bep_machine.specs.Said.{looked_up, both_share, flight_when, flights_of, tables_of_cluster}
 use Rattle.bep_machine.specs.Sound.{IsSound, IsSoundReplica}
 use Rattle.bep_machine.specs.Laws.{AreAmong, QuietStepsKeepCalm, QuietStepsKeepRecords}
@@ -145,6 +145,22 @@ reading_keeps_records : (old new : Cluster) → IsReadingStep old new → KeepsR
 reading_keeps_records old new step =
     records_said old new step.config (λ device folder name has. subst (λ own. IsSome own) (sym ((step.reads device folder).own name)) has)
 
+-- ---- resets
+
+-- a reset that was done counts as one
+reset_counts : (device : Device) (id : ℕ) (answer : Answer) → answer ≡ Done Changed → reset_made (Reset device id) answer ≡ device ∷ []
+reset_counts device id answer is = ap (λ (a : Answer). reset_made (Reset device id) a) is
+
+-- and one that does not count leaves the cluster as it was
+pub unmade_reset_stays : (device : Device) (id : ℕ) (old new : Cluster) (answer : Answer) → reset_made (Reset device id) answer ≡ [] → ResetRow device id old new answer → new ≡ old
+unmade_reset_stays device id old new answer unmade row =
+    at_answers (λ (one : Cluster). one ≡ old) row refl
+    (λ _ done. absurd (let none : device ∷ [] ≡ [] = sym (reset_counts device id answer done.1) ∙ unmade in cc))
+
+pub unmade_reset_reads : (device : Device) (id : ℕ) (old new : Cluster) (answer : Answer) → reset_made (Reset device id) answer ≡ [] → ResetRow device id old new answer → IsReadingStep old new
+unmade_reset_reads device id old new answer unmade row =
+    subst (λ (one : Cluster). IsReadingStep old one) (sym (unmade_reset_stays device id old new answer unmade row)) (nothing_happens old)
+
 -- ---- the laws
 
 -- a step is made where all that it names is there; else nothing happens
@@ -164,16 +180,16 @@ module _ (found : FoundIsOfBatchOrBefore) (among : AmongIsContained) where
     reading_keeps_calm : IsReadingStep old new → KeepsCalm contents reset old new
     reading_keeps_calm step = parts_keep_calm contents reset old new calm (reading_parts among contents reset old sound calm new step)
 
-    -- a device that is reset, and that may lack records
-    reset_keeps_calm : (device : Device) (id : ℕ) → WasReset reset device → ResetRow device id old new answer → KeepsCalm contents reset old new
+    -- a device that may lack records, if its reset is done
+    reset_keeps_calm : (device : Device) (id : ℕ) → (answer ≡ Done Changed → WasReset reset device) → ResetRow device id old new answer → KeepsCalm contents reset old new
     reset_keeps_calm device id was row =
         at_answers (KeepsCalm contents reset old) row (parts_keep_calm contents reset old old calm (reading_parts among contents reset old sound calm old (nothing_happens old)))
         (λ _ made.
         at_becomes (KeepsCalm contents reset old) made
         (move_keeps_calm contents reset old (after_reset old device id) calm
-        (reset_moves old device id contents reset was calm (reading_parts among contents reset old sound calm (after_restart old device) (restart_reads old (after_restart old device) device (Done Changed) (refl, refl))))))
+        (reset_moves old device id contents reset (was made.1) calm (reading_parts among contents reset old sound calm (after_restart old device) (restart_reads old (after_restart old device) device (Done Changed) (refl, refl))))))
 
-    row_keeps_calm : (step : Step) → IsQuiet step → AreAmong (reset_by step) reset → IsThere old.config step → StepRow step failed old new answer → KeepsCalm contents reset old new
+    row_keeps_calm : (step : Step) → IsQuiet step → AreAmong (reset_made step answer) reset → IsThere old.config step → StepRow step failed old new answer → KeepsCalm contents reset old new
     row_keeps_calm (Edit device folder name node) quiet may there made = absurd quiet
     row_keeps_calm (Remove device folder name) quiet may there made = absurd quiet
     row_keeps_calm (Scan device folder name) quiet may there made = replica_keeps_calm contents reset old new device folder (ScanRow device name failed) answer (λ reset receives contents old new answer. scan_is_quiet reset receives contents device name failed old new answer) sound calm there made
@@ -188,10 +204,11 @@ module _ (found : FoundIsOfBatchOrBefore) (among : AmongIsContained) where
     row_keeps_calm (Ask device other folder name) quiet may there made = reading_keeps_calm (ask_reads old sound device other there.0 folder name new answer made)
     row_keeps_calm (Finish device folder name) quiet may there made = replica_keeps_calm contents reset old new device folder (FinishRow device name failed) answer (λ reset receives contents old new answer only. finish_is_quiet one_length reset receives contents device name failed old new answer) sound calm there made
     row_keeps_calm (Restart device) quiet may there made = reading_keeps_calm (restart_reads old new device answer made)
-    row_keeps_calm (Reset device id) quiet may there made = reset_keeps_calm device id (may device (Contains-first device [])) made
+    row_keeps_calm (Reset device id) quiet may there made =
+        reset_keeps_calm device id (λ done. may device (subst (λ (some : List Device). Contains some device) (sym (reset_counts device id answer done)) (Contains-first device []))) made
 
   module _ (old new : Cluster) (answer : Answer) (failed : Option ℕ) (sound : IsSound old) where
-    row_keeps_records : (step : Step) → IsQuiet step → reset_by step ≡ [] → IsThere old.config step → StepRow step failed old new answer → KeepsRecords (tables_of_cluster old) (tables_of_cluster new)
+    row_keeps_records : (step : Step) → IsQuiet step → reset_made step answer ≡ [] → IsThere old.config step → StepRow step failed old new answer → KeepsRecords (tables_of_cluster old) (tables_of_cluster new)
     row_keeps_records (Edit device folder name node) quiet unreset there made = absurd quiet
     row_keeps_records (Remove device folder name) quiet unreset there made = absurd quiet
     row_keeps_records (Scan device folder name) quiet unreset there made = replica_keeps_records old new device folder (ScanRow device name failed) answer (scan_keeps_own device name failed) made
@@ -206,7 +223,7 @@ module _ (found : FoundIsOfBatchOrBefore) (among : AmongIsContained) where
     row_keeps_records (Ask device other folder name) quiet unreset there made = reading_keeps_records old new (ask_reads old sound device other there.0 folder name new answer made)
     row_keeps_records (Finish device folder name) quiet unreset there made = replica_keeps_records old new device folder (FinishRow device name failed) answer (finish_keeps_own device name failed) made
     row_keeps_records (Restart device) quiet unreset there made = reading_keeps_records old new (restart_reads old new device answer made)
-    row_keeps_records (Reset device id) quiet unreset there made = absurd (let none : device ∷ [] ≡ [] = unreset in cc)
+    row_keeps_records (Reset device id) quiet unreset there made = reading_keeps_records old new (unmade_reset_reads device id old new answer unreset made)
 
   -- a quiet step keeps calm, and each store byte for byte
   pub quiet_steps_keep_calm_lem : CutIsOfOneLength → QuietStepsKeepCalm

@@ -21,12 +21,12 @@ use Rattle.bep_machine.specs.Local.{ScanRow}
 use Rattle.bep_machine.specs.Pull.{StartPullRow, FinishRow}
 use Rattle.bep_machine.specs.Peer.{with_replica}
 use Rattle.bep_machine.specs.Cluster.{Config, Cluster, with_peer}
-use Rattle.bep_machine.specs.Steps.{SharesFolder, IsThere, AtReplica, StepRow, IsQuiet, reset_by}
+use Rattle.bep_machine.specs.Steps.{SharesFolder, IsThere, AtReplica, StepRow, IsQuiet, reset_made}
 use Rattle.bep_machine.specs.Said.{looked_up, replica_said, both_share, flight_when, flights_of, on_its_way, tables_of_cluster}
 use Rattle.bep_machine.specs.Sound.{IsSound, IsSoundReplica}
 use Rattle.bep_machine.specs.Laws.{StepsKeepSound}
 use Rattle.bep_machine.specs.FreeLaws.{StepsAreFree, RunsAreFree, FirmStaysPut}
-use Rattle.bep_machine.proofs.CalmStep.{sound_at, step_or_nothing}
+use Rattle.bep_machine.proofs.CalmStep.{sound_at, step_or_nothing, unmade_reset_reads}
 use Rattle.bep_machine.proofs.Flights.{flights_go_on}
 use Rattle.bep_machine.proofs.FreePlaces.{HasNews, IsFreePlace, free_where_same, free_where_read}
 use Rattle.bep_machine.proofs.FreeRows.{scan_is_free, start_pull_is_free, finish_is_free}
@@ -132,7 +132,7 @@ module _ (found : FoundIsOfBatchOrBefore) (among : AmongIsContained) (old new : 
   abbrev IsFree : Type 0
   IsFree = MayBecome (tables_of_cluster old) (tables_of_cluster new)
 
-  row_is_free : (step : Step) → IsQuiet step → reset_by step ≡ [] → IsThere old.config step → StepRow step failed old new answer → IsFree
+  row_is_free : (step : Step) → IsQuiet step → reset_made step answer ≡ [] → IsThere old.config step → StepRow step failed old new answer → IsFree
   row_is_free (Edit device folder name node) quiet unreset there made = absurd quiet
   row_is_free (Remove device folder name) quiet unreset there made = absurd quiet
   row_is_free (Scan device folder name) quiet unreset there made =
@@ -150,7 +150,7 @@ module _ (found : FoundIsOfBatchOrBefore) (among : AmongIsContained) (old new : 
   row_is_free (Finish device folder name) quiet unreset there made =
       replica_is_free old sound new device folder (FinishRow device name failed) answer (λ before after. finish_is_free _ device name failed before after answer) there made
   row_is_free (Restart device) quiet unreset there made = reading_is_free old sound among new (restart_reads old new device answer made)
-  row_is_free (Reset device id) quiet unreset there made = absurd (let none : device ∷ [] ≡ [] = unreset in cc)
+  row_is_free (Reset device id) quiet unreset there made = reading_is_free old sound among new (unmade_reset_reads device id old new answer unreset made)
 
 pub steps_are_free_lem : FoundIsOfBatchOrBefore → AmongIsContained → StepsAreFree
 steps_are_free_lem found among step failed old new answer quiet unreset sound made =

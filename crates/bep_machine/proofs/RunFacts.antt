@@ -19,7 +19,7 @@ use Rattle.bep_machine.specs.Peer.{Peer, Acted}
 use Rattle.bep_machine.specs.Local.{EditRow, RemoveRow, ScanRow, OverrideRow, RevertRow}
 use Rattle.bep_machine.specs.Pull.{StartPullRow, FinishRow}
 use Rattle.bep_machine.specs.Exchange.{BeginRow, DeliverRow, AnnounceRow, AskRow}
-use Rattle.bep_machine.specs.Steps.{ConnectRow, LoseRow, IsStep, StepRow, AtReplica, AtLink, OverLink, Event, IsRun, IsQuiet, AreQuiet, reset_by, reset_in, HasNoReset}
+use Rattle.bep_machine.specs.Steps.{ConnectRow, LoseRow, IsStep, StepRow, AtReplica, AtLink, OverLink, Event, IsRun, IsQuiet, AreQuiet, reset_made, reset_in, HasNoReset}
 use Rattle.bep_machine.specs.Said.{looked_up, tables_of_cluster}
 use Rattle.bep_machine.specs.Sound.{IsSound}
 use Rattle.bep_machine.specs.Laws.{AreAmong, IsSoundStep, StepsKeepSound, QuietStepsKeepCalm, QuietStepsKeepRecords, SettledStaysPut, SettledStaysSettled}
@@ -105,13 +105,13 @@ step_keeps_config step failed old new answer made =
 
 -- ---- runs
 
--- of a run without a reset neither the first step nor the rest has one
+-- where no reset was made in a run, neither the first step nor the rest made one
 both_empty : (some more : List Device) → some ++ more ≡ [] → (some ≡ []) × (more ≡ [])
 both_empty [] more none = (refl, none)
 both_empty (first ∷ some) more none = absurd (cc)
 
-pub no_reset_parts : (event : Event) (more : List Event) → HasNoReset (event ∷ more) → (reset_by event.step ≡ []) × HasNoReset more
-no_reset_parts event more none = both_empty (reset_by event.step) (reset_in more) none
+pub no_reset_parts : (event : Event) (more : List Event) → HasNoReset (event ∷ more) → (reset_made event.step event.answer ≡ []) × HasNoReset more
+no_reset_parts event more none = both_empty (reset_made event.step event.answer) (reset_in more) none
 
 module _ (sound : StepsKeepSound) (calm : QuietStepsKeepCalm) where
   pub record StaysCalm (contents : Contents) (reset : List Device) (old new : Cluster) : Type 0 where
@@ -128,8 +128,8 @@ module _ (sound : StepsKeepSound) (calm : QuietStepsKeepCalm) where
   run_stays_calm contents reset old (event ∷ more) new quiet may is_sound is_calm run =
       let next = run.0 in
       let step_sound = sound event.step event.failed old next event.answer (quiet_is_sound event.step quiet.0) is_sound run.1 in
-      let step_calm = calm contents reset event.step event.failed old next event.answer quiet.0 (λ device now. may device (Contains-append_left (reset_by event.step) (reset_in more) device now)) is_sound is_calm run.1 in
-      let rest = run_stays_calm contents reset next more new quiet.1 (λ device later. may device (Contains-append_right (reset_by event.step) (reset_in more) device later)) step_sound step_calm.0 run.2 in
+      let step_calm = calm contents reset event.step event.failed old next event.answer quiet.0 (λ device now. may device (Contains-append_left (reset_made event.step event.answer) (reset_in more) device now)) is_sound is_calm run.1 in
+      let rest = run_stays_calm contents reset next more new quiet.1 (λ device later. may device (Contains-append_right (reset_made event.step event.answer) (reset_in more) device later)) step_sound step_calm.0 run.2 in
       record {
         sound_later = rest.sound_later;
         calm_later = rest.calm_later;

@@ -10,14 +10,14 @@ use Rattle.bep_model.specs.Firm.{IsFirm, IsUnchanged}
 use Rattle.bep_machine.specs.declared.step.Step.{Step}
 use Rattle.bep_machine.specs.Answer.{Answer}
 use Rattle.bep_machine.specs.Cluster.{Cluster}
-use Rattle.bep_machine.specs.Steps.{IsStep, Event, IsRun, IsQuiet, AreQuiet, reset_by, HasNoReset}
+use Rattle.bep_machine.specs.Steps.{IsStep, Event, IsRun, IsQuiet, AreQuiet, reset_made, HasNoReset}
 use Rattle.bep_machine.specs.Said.{tables_of_cluster}
 use Rattle.bep_machine.specs.Sound.{IsSound}
 
--- each quiet step that is no reset changes the tables by leave of free peers alone
+-- each quiet step that makes no reset changes the tables by leave of free peers alone
 abbrev pub StepsAreFree : Type 0
 StepsAreFree = (step : Step) (failed : Option ℕ) (old new : Cluster) (answer : Answer) →
-    IsQuiet step → reset_by step ≡ [] → IsSound old → IsStep step failed old new answer → MayBecome (tables_of_cluster old) (tables_of_cluster new)
+    IsQuiet step → reset_made step answer ≡ [] → IsSound old → IsStep step failed old new answer → MayBecome (tables_of_cluster old) (tables_of_cluster new)
 
 -- so each quiet run without a reset is one of free peers
 abbrev pub RunsAreFree : Type 0

@@ -15,7 +15,7 @@ use Rattle.bep_machine.specs.declared.step.Step.{Step}
 use Rattle.bep_machine.specs.declared.step.Step.TheVariants.{Edit, Remove, Scan, Override, Revert, Connect, Lose, Begin, Deliver, Announce, StartPull, Ask, Finish, Restart, Reset}
 use Rattle.bep_machine.specs.Answer.{Answer}
 use Rattle.bep_machine.specs.Cluster.{Cluster}
-use Rattle.bep_machine.specs.Steps.{IsStep, Event, IsRun, IsQuiet, AreQuiet, reset_by, reset_in, HasNoReset}
+use Rattle.bep_machine.specs.Steps.{IsStep, Event, IsRun, IsQuiet, AreQuiet, reset_made, reset_in, HasNoReset}
 use Rattle.bep_machine.specs.Said.{tables_of_cluster}
 use Rattle.bep_machine.specs.Sound.{IsSound}
 use Rattle.bep_machine.specs.Gapless.{HasNoGap, IsGapless, IsOfNoLaterIndex, IsApart, IsFresh}
@@ -64,13 +64,13 @@ StepsKeepSound = (step : Step) (failed : Option ℕ) (old new : Cluster) (answer
 abbrev pub QuietStepsKeepCalm : Type 0
 QuietStepsKeepCalm =
     (contents : Contents) (reset : List Device) (step : Step) (failed : Option ℕ) (old new : Cluster) (answer : Answer) →
-    IsQuiet step → AreAmong (reset_by step) reset → IsSound old → IsCalm (tables_of_cluster old) contents reset → IsStep step failed old new answer →
+    IsQuiet step → AreAmong (reset_made step answer) reset → IsSound old → IsCalm (tables_of_cluster old) contents reset → IsStep step failed old new answer →
     IsCalm (tables_of_cluster new) contents reset × Kept (tables_of_cluster old) (tables_of_cluster new)
 
--- a quiet step that is no reset takes no own record away
+-- a quiet step that makes no reset takes no own record away
 abbrev pub QuietStepsKeepRecords : Type 0
 QuietStepsKeepRecords = (step : Step) (failed : Option ℕ) (old new : Cluster) (answer : Answer) →
-    IsQuiet step → reset_by step ≡ [] → IsSound old → IsStep step failed old new answer →
+    IsQuiet step → reset_made step answer ≡ [] → IsSound old → IsStep step failed old new answer →
     KeepsRecords (tables_of_cluster old) (tables_of_cluster new)
 
 -- no view has a gap, and none is of an index that is still to come, in every cluster that a run reaches from one of which this

@@ -213,11 +213,17 @@ reset_by (Finish device folder name) = []
 reset_by (Restart device) = []
 reset_by (Reset device id) = device ∷ []
 
--- the devices of the resets in a run
+-- the same of a step that was answered: a reset that is refused changes nothing, so only one that is done counts
+abbrev pub reset_made : Step → Answer → List Device
+reset_made step (Done moved) = reset_by step
+reset_made step (Refused why) = []
+reset_made step OutOfMemory = []
+
+-- the devices of the resets that were made in a run
 abbrev pub reset_in : List Event → List Device
 reset_in [] = []
-reset_in (event ∷ more) = reset_by event.step ++ reset_in more
+reset_in (event ∷ more) = reset_made event.step event.answer ++ reset_in more
 
--- a run without a reset
+-- no reset was made in the run
 abbrev pub HasNoReset : List Event → Type 0
 HasNoReset events = reset_in events ≡ []
