@@ -20,7 +20,7 @@ use Rattle.bep_machine.specs.Link.{Link, lost}
 use Rattle.bep_machine.specs.Peer.{Peer, Session}
 use Rattle.bep_machine.specs.Said.{tables_of_cluster}
 use Rattle.bep_machine.specs.Sound.{IsSound}
-use Rattle.bep_machine.specs.Steps.{Event, IsStep, IsRun, LoseRow, AreQuiet, HasNoReset, reset_by, reset_in}
+use Rattle.bep_machine.specs.Steps.{Event, IsStep, IsRun, LoseRow, AreQuiet, HasNoReset, reset_made, reset_in}
 use Rattle.bep_tables.specs.declared.cut.CutParts.{CutParts}
 use Rattle.bep_tables.specs.declared.link.LinkState.{LinkState}
 use Rattle.bep_tables.specs.Cut.{ends_of, link_of, tables_of}
@@ -267,7 +267,7 @@ none_before (device ∷ one) two none = absurd (cc)
 unreset_on : (one two : List Event) → HasNoReset one → HasNoReset two → HasNoReset (one ++ two)
 unreset_on [] two first second = second
 unreset_on (event ∷ one) two first second =
-    let parts = none_before (reset_by event.step) (reset_in one) first in
+    let parts = none_before (reset_made event.step event.answer) (reset_in one) first in
     ap (λ (devices : List Device). devices ++ reset_in (one ++ two)) parts.0 ∙ unreset_on one two parts.1 second
 
 module _ (unique : PrevailingIsUnique) (cut : CutParts) (later : Cluster) (goes : GoesOnPrevailing (tables_of cut) (tables_of_cluster later)) (all : AllPrevail (tables_of cut))

@@ -13,12 +13,12 @@ use Rattle.bep_machine.specs.Local.{ScanRow}
 use Rattle.bep_machine.specs.Pull.{StartPullRow, FinishRow}
 use Rattle.bep_machine.specs.Exchange.{with_block}
 use Rattle.bep_machine.specs.Cluster.{Cluster}
-use Rattle.bep_machine.specs.Steps.{SharesFolder, IsThere, StepRow, ConnectRow, LoseRow, IsQuiet, reset_by, reset_in}
+use Rattle.bep_machine.specs.Steps.{SharesFolder, IsThere, StepRow, ConnectRow, LoseRow, IsQuiet, reset_made, reset_in}
 use Rattle.bep_machine.specs.Said.{is_among, replica_said, tables_of_cluster}
 use Rattle.bep_machine.specs.Sound.{IsSound, IsSoundReplica, FitsFolder}
 use Rattle.bep_machine.specs.FreeLaws.{StepsAreFree}
 use Rattle.bep_machine.specs.Laws.{IsSoundStep, StepsKeepSound}
-use Rattle.bep_machine.proofs.CalmStep.{step_or_nothing}
+use Rattle.bep_machine.proofs.CalmStep.{step_or_nothing, unmade_reset_stays}
 use Rattle.bep_converge.specs.Prevails.{TakesChanges}
 use Rattle.bep_converge.specs.Orderly.{IsOrderlyAt, IsOrderlyRun}
 use Rattle.bep_converge.specs.Received.{AllHaveHashes}
@@ -123,7 +123,7 @@ module _ (one_length : CutIsOfOneLength) (old new : Cluster) (answer : Answer) (
         let fits : FitsFolder old.config device folder before = (sound.peers device (sound.config.sharing folder device shares)).fit folder before here in
         (before.kind, fits.kind, takes)
 
-  row_moves : (step : Step) → IsQuiet step → reset_by step ≡ [] → IsThere old.config step → StepRow step failed old new answer → Everywhere (Orderly old) old new
+  row_moves : (step : Step) → IsQuiet step → reset_made step answer ≡ [] → IsThere old.config step → StepRow step failed old new answer → Everywhere (Orderly old) old new
   row_moves (Edit device folder name node) quiet unreset there made = absurd quiet
   row_moves (Remove device folder name) quiet unreset there made = absurd quiet
   row_moves (Scan device folder name) quiet unreset there made =
@@ -146,7 +146,8 @@ module _ (one_length : CutIsOfOneLength) (old new : Cluster) (answer : Answer) (
       finish_moves (TakesChanges (tables_of_cluster old) device folder) device before one_length (sound_here device folder there before here) (hashes device folder before here)
       (receives device folder there before here) name failed after answer row) made
   row_moves (Restart device) quiet unreset there made = read_moves (restart_reads SameFiles files_stay device old new answer made)
-  row_moves (Reset device id) quiet unreset there made = absurd (let none : device ∷ [] ≡ [] = unreset in cc)
+  row_moves (Reset device id) quiet unreset there made =
+      subst (λ (one : Cluster). Everywhere (Orderly old) old one) (sym (unmade_reset_stays device id old new answer unreset made)) (nothing_changes (Orderly old) (orderly_stays old) old)
 
 pub steps_are_orderly_lem : StepsAreFree → CutIsOfOneLength → StepsAreOrderly
 steps_are_orderly_lem free one_length step failed old new answer quiet unreset sound hashes made =
@@ -185,7 +186,7 @@ both_empty (first ∷ some) more none = absurd (cc)
 pub runs_are_orderly_lem : StepsKeepSound → StepsAreOrderly → StepsKeepHashes → RunsAreOrderly
 runs_are_orderly_lem keep_sound orderly keep_hashes cluster later [] sound hashes run quiet unreset = ([], ap tables_of_cluster run)
 runs_are_orderly_lem keep_sound orderly keep_hashes cluster later (event ∷ more) sound hashes run quiet unreset =
-    let parts = both_empty (reset_by event.step) (reset_in more) unreset in
+    let parts = both_empty (reset_made event.step event.answer) (reset_in more) unreset in
     let next = run.0 in
     let sound_next = keep_sound event.step event.failed cluster next event.answer (quiet_is_sound event.step quiet.0) sound run.1 in
     let hashes_next = keep_hashes event.step event.failed cluster next event.answer hashes run.1 in

@@ -10,7 +10,7 @@ use Rattle.bep_model.specs.Firm.{AreEqual, IsFirm}
 use Rattle.bep_machine.specs.declared.step.Step.{Step}
 use Rattle.bep_machine.specs.Answer.{Answer}
 use Rattle.bep_machine.specs.Cluster.{Cluster}
-use Rattle.bep_machine.specs.Steps.{IsStep, Event, IsRun, IsQuiet, AreQuiet, reset_by, HasNoReset}
+use Rattle.bep_machine.specs.Steps.{IsStep, Event, IsRun, IsQuiet, AreQuiet, reset_made, HasNoReset}
 use Rattle.bep_machine.specs.Said.{tables_of_cluster}
 use Rattle.bep_machine.specs.Sound.{IsSound}
 use Rattle.bep_tables.specs.declared.cut.CutParts.{CutParts}
@@ -75,10 +75,10 @@ TopStays = (old new : Tables) (folder : Folder) (name : FileName) (top own : Ent
 
 -- ---- this project's peers
 
--- each quiet step that is no reset is one of orderly peers, where received blocks have their hashes
+-- each quiet step that makes no reset is one of orderly peers, where received blocks have their hashes
 abbrev pub StepsAreOrderly : Type 0
 StepsAreOrderly = (step : Step) (failed : Option ℕ) (old new : Cluster) (answer : Answer) →
-    IsQuiet step → reset_by step ≡ [] → IsSound old → AllHaveHashes old → IsStep step failed old new answer →
+    IsQuiet step → reset_made step answer ≡ [] → IsSound old → AllHaveHashes old → IsStep step failed old new answer →
     IsOrderlyStep (tables_of_cluster old) (tables_of_cluster new)
 
 -- and they have them after every step
