@@ -5,13 +5,14 @@ use Rattle.bep_fit.specs.declared.stamped.Stamped.{Stamped}
 use Rattle.bep_fit.specs.Fit.{IsMerged}
 use Rattle.bep_fit.specs.Logs.{ObjectLog, events_of}
 use Rattle.bep_fit.specs.Replayed.{AreQuietLogs, AreResetOf}
+use Rattle.bep_machine.specs.Answer.{Answer, Done, Refused, OutOfMemory}
 use Rattle.bep_machine.specs.Cluster.{Cluster}
 use Rattle.bep_machine.specs.declared.logged.Logged.{Logged}
 use Rattle.bep_machine.specs.declared.step.Step.{Step}
 use Rattle.bep_machine.specs.HalfLaws.{HasStepsOf}
 use Rattle.bep_machine.specs.Laws.{SettledStaysPut, SettledStaysSettled}
 use Rattle.bep_machine.specs.Said.{tables_of_cluster}
-use Rattle.bep_machine.specs.Steps.{AreQuiet, Event, HasNoReset, IsQuiet, reset_by, reset_in}
+use Rattle.bep_machine.specs.Steps.{AreQuiet, Event, HasNoReset, IsQuiet, reset_by, reset_made, reset_in}
 use Rattle.bep_model.specs.Stays.{Stays}
 use Rattle.bep_model.specs.Tables.{Device}
 use Rattle.bep_peer.specs.network.Network.{cluster_of}
@@ -27,6 +28,12 @@ none_of : (devices : List Device) → ((device : Device) → Contains devices de
 none_of [] among = refl
 none_of (device ∷ more) among = absurd (not_in_none device (among device (Contains-first device more)))
 
+-- a step that is no reset makes none
+none_made : (step : Step) (answer : Answer) → reset_by step ≡ [] → reset_made step answer ≡ []
+none_made step (Done moved) none = none
+none_made step (Refused why) none = refl
+none_made step OutOfMemory none = refl
+
 -- a run is still where what is logged of it is
 still_run : (logged : List Logged) (events : List Event) → HasStepsOf logged events → ((one : Logged) → Contains logged one → IsStill one.step) → AreQuiet events × HasNoReset events
 still_run [] [] steps still = (tt, refl)
@@ -35,7 +42,7 @@ still_run (one ∷ logged) [] steps still = absurd steps
 still_run (one ∷ logged) (event ∷ events) steps still =
     let first : IsStill event.step = subst IsStill (ap (λ (l : Logged). l.step) steps.0) (still one (Contains-first one logged)) in
     let more = still_run logged events steps.2 (λ later stands. still later (Contains-more one logged later stands)) in
-    ((first.0, more.0), ap (λ (devices : List Device). devices ++ reset_in events) first.1 ∙ more.1)
+    ((first.0, more.0), ap (λ (devices : List Device). devices ++ reset_in events) (none_made event.step event.answer first.1) ∙ more.1)
 
 -- each event of the merged list is one of the logs
 merged_is_still : (logs : List ObjectLog) (merged : List Stamped) → IsMerged logs merged → AreQuietLogs logs → AreResetOf logs [] → (one : Logged) → Contains (events_of merged) one → IsStill one.step
