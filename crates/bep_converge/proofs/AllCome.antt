@@ -21,7 +21,7 @@ use Rattle.bep_converge.specs.Laws.{PrevailingIsUnique, PrevailingGoesOn}
 use Rattle.bep_converge.specs.Bring.{done, repeated, hear, fetch, bring_steps, IsReady}
 use Rattle.bep_converge.specs.BringLaws.{BringBrings}
 use Rattle.bep_converge.specs.Arrival.{IsKept, BringKeeps, Behind, HasAllBehind, steps_for, AllCome}
-use Rattle.bep_converge.proofs.BringSteps.{are_quiet, have_no_reset, steps_run_on}
+use Rattle.bep_converge.proofs.BringSteps.{all_are_done, are_quiet, have_no_reset, steps_run_on}
 use Rattle.bep_converge.proofs.ConvergeFaultless.{at_other_top}
 use Rattle.bep_converge.proofs.PlaceMoves.{same_name}
 use Rattle.bep_converge.proofs.RaisedRuns.{AllBring, bring_at, all_calm, run_rises}
@@ -274,6 +274,7 @@ all_come_lem unique brings keeps keep_sound goes_on cluster behind ready has =
       run = arrival.run;
       quiet = quiet;
       unreset = unreset;
+      each_done = all_are_done arrival.steps;
       few = let same = length-map arrival.steps done in let few = arrival.few in omega arith;
       ended = arrival.ended;
       goes = goes_on (tables_of_cluster cluster) ready.prevails cluster arrival.later (map done arrival.steps) ready.sound ready.hashes refl arrival.run quiet unreset;

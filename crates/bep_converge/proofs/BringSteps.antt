@@ -6,7 +6,7 @@ use Rattle.bep_machine.specs.declared.step.Step.TheVariants.{Connect}
 use Rattle.bep_machine.specs.Cluster.{Cluster}
 use Rattle.bep_machine.specs.Steps.{Event, IsRun, IsQuiet, AreQuiet, reset_by, reset_in, HasNoReset}
 use Rattle.bep_machine.specs.Laws.{IsSoundStep, AreSound}
-use Rattle.bep_converge.specs.Bring.{done, connect}
+use Rattle.bep_converge.specs.Bring.{AreDone, done, connect}
 
 -- ---- runs
 
@@ -18,6 +18,14 @@ runs_on first middle last (event ∷ one) two run more = (run.0, run.1, runs_on 
 done_on : (one two : List Step) → map done (one ++ two) ≡ map done one ++ map done two
 done_on [] two = refl
 done_on (step ∷ one) two = ap (λ (events : List Event). done step ∷ events) (done_on one two)
+
+pub all_are_done : (steps : List Step) → AreDone (map done steps)
+all_are_done [] = tt
+all_are_done (step ∷ more) = (refl, all_are_done more)
+
+pub all_done_on : (one two : List Event) → AreDone one → AreDone two → AreDone (one ++ two)
+all_done_on [] two first second = second
+all_done_on (event ∷ one) two first second = (first.0, all_done_on one two first.1 second)
 
 -- steps that are done, and then others
 pub steps_run_on : (first middle last : Cluster) (one two : List Step) → IsRun first (map done one) middle → IsRun middle (map done two) last → IsRun first (map done (one ++ two)) last

@@ -36,7 +36,7 @@ use Rattle.bep_converge.specs.Arrival.{AllCome, Behind, HasAllBehind}
 use Rattle.bep_converge.specs.CutDown.{AllComeFromCuts, ComesDown, CutsComeDown, IsReadyCut}
 use Rattle.bep_converge.proofs.AllCome.{at_each_top}
 use Rattle.bep_converge.proofs.BringStage.{step_made}
-use Rattle.bep_converge.proofs.BringSteps.{AreCalm, are_quiet, have_no_reset, runs_on}
+use Rattle.bep_converge.proofs.BringSteps.{AreCalm, all_are_done, all_done_on, are_quiet, have_no_reset, runs_on}
 use Rattle.bep_converge.proofs.StepKept.{known_of}
 
 -- ---- links that go down
@@ -240,6 +240,7 @@ module _ (keep_sound : StepsKeepSound) (hashes : CutsHaveHashes) (goes_on : Prev
       run = lower.run;
       quiet = are_quiet lower.steps lower.calm;
       unreset = have_no_reset lower.steps lower.calm;
+      each_done = all_are_done lower.steps;
       few =
           let few = lower.few in
           let events = length-map lower.steps done in
@@ -308,6 +309,7 @@ all_come_from_cuts_lem down comes hashes unique goes_on cut behind ready has =
       run = run;
       quiet = quiet;
       unreset = unreset;
+      each_done = all_done_on fallen.events arrive.events fallen.each_done arrive.each_done;
       few =
           let whole = length-append fallen.events arrive.events in
           let a = fallen.few in

@@ -14,7 +14,7 @@ use Rattle.bep_converge.specs.Prevails.{IsAtTop, Prevails, AllPrevail}
 use Rattle.bep_converge.specs.Orderly.{StaysAt}
 use Rattle.bep_converge.specs.Rises.{GoesOnPrevailing}
 use Rattle.bep_converge.specs.Ended.{IsEnded}
-use Rattle.bep_converge.specs.Bring.{bring, most_batches, most_blocks, IsJoinedUp, IsReached, HasRoomFor, IsReady}
+use Rattle.bep_converge.specs.Bring.{AreDone, bring, most_batches, most_blocks, IsJoinedUp, IsReached, HasRoomFor, IsReady}
 use Rattle.bep_converge.specs.Received.{AllHaveHashes}
 use Rattle.bep_converge.specs.AfterLaws.{Places, AllPrevailBut, AreScans}
 
@@ -56,14 +56,16 @@ abbrev pub steps_for : List Behind → ℕ
 steps_for [] = 0
 steps_for (one ∷ more) = most_steps one.top + steps_for more
 
--- A quiet run without a reset leads to a cluster in which all are at the top. It has so many steps at most. What prevailed does
--- still, no name has come, and each device has the very record and file that it had, or its name rose.
+-- A quiet run without a reset, each step of which is done, leads to a cluster in which all are at the top. It has so many steps
+-- at most. What prevailed does still, no name has come, and each device has the very record and file that it had, or its name
+-- rose.
 pub record AllArrive (cluster : Cluster) (most : ℕ) : Type 0 where
   pub events : List Event
   pub later : Cluster
   pub run : IsRun cluster events later
   pub quiet : AreQuiet events
   pub unreset : HasNoReset events
+  pub each_done : AreDone events
   pub few : length events ≤ most
   pub ended : IsEnded (tables_of_cluster later)
   pub goes : GoesOnPrevailing (tables_of_cluster cluster) (tables_of_cluster later)

@@ -1,7 +1,7 @@
 -- A run that brings what prevails of a name to a device: the device is restarted, and so is one that has the record; they
 -- begin a session, the owner announces its records, and the device pulls the name. And the clusters in which it can be made
 -- (this project's profile).
-use Rattle.std.specs.Prelude.{◌≡◌, ◌≢◌, ◌+◌, ◌≤◌, ◌/◌, ℕ, zero, suc, nat_lt, List, [], ◌∷◌, ◌++◌, map, length, Some, None, IsSome, Contains, if◌then◌else◌}
+use Rattle.std.specs.Prelude.{◌≡◌, ◌≢◌, ◌+◌, ◌≤◌, ◌/◌, ℕ, ⊤, zero, suc, nat_lt, List, [], ◌∷◌, ◌++◌, map, length, Some, None, IsSome, Contains, if◌then◌else◌}
 use Rattle.std.specs.FinMap.{get, len}
 use Rattle.bep_map.specs.NameMap.{ByName}
 use Rattle.bep_record.specs.declared.entry.Entry.{Entry}
@@ -29,6 +29,11 @@ use Rattle.bep_converge.specs.Received.{AllHaveHashes}
 -- a step that is done: no call of a store fails, and memory isn't wanting
 abbrev pub done : Step → Event
 done step = record { step = step; failed = None; answer = Done Changed }
+
+-- each step of the run is done, and none is refused
+abbrev pub AreDone : List Event → Type 0
+AreDone [] = ⊤
+AreDone (event ∷ more) = (event ≡ done event.step) × AreDone more
 
 -- so often the same steps
 abbrev pub repeated : ℕ → List Step → List Step

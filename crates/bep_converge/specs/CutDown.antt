@@ -11,7 +11,7 @@ use Rattle.bep_tables.specs.Cut.{tables_of}
 use Rattle.bep_origin.specs.FromCut.{HasCluster, cluster_from}
 use Rattle.bep_converge.specs.Prevails.{AllPrevail}
 use Rattle.bep_converge.specs.Orderly.{StaysAt}
-use Rattle.bep_converge.specs.Bring.{IsJoinedUp, HasRoomFor, IsReady}
+use Rattle.bep_converge.specs.Bring.{AreDone, IsJoinedUp, HasRoomFor, IsReady}
 use Rattle.bep_converge.specs.Arrival.{Behind, HasAllBehind, steps_for, AllArrive}
 
 -- The cut prevails, no view of it has a gap or is of an index that is still to come, all who share a folder are linked, and there
@@ -24,14 +24,15 @@ pub record IsReadyCut (turns : ℕ) (cut : CutParts) : Type 0 where
   pub joined : IsJoinedUp (cluster_from cut).config
   pub room : HasRoomFor turns (cluster_from cut)
 
--- A quiet run without a reset, of a step for each link at most, leads to a cluster that is ready. Each device has the very records
--- and files that it had.
+-- A quiet run without a reset, each step of which is done, leads to a cluster that is ready, in a step for each link at most.
+-- Each device has the very records and files that it had.
 pub record ComesDown (turns : ℕ) (cut : CutParts) : Type 0 where
   pub events : List Event
   pub later : Cluster
   pub run : IsRun (cluster_from cut) events later
   pub quiet : AreQuiet events
   pub unreset : HasNoReset events
+  pub each_done : AreDone events
   pub few : length events ≤ length cut.links
   pub config : later.config ≡ (cluster_from cut).config
   pub ready : IsReady turns later
