@@ -1,2 +1,3 @@
 mod LineText
 mod SettledLife
+mod ReachedByThreads

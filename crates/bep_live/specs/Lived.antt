@@ -14,6 +14,7 @@ use Rattle.bep_fit.specs.Fit as logs
 use Rattle.bep_fit.specs.Replayed.{AreQuietLogs, AreResetOf}
 use Rattle.bep_fit.specs.declared.verdict.RunVerdict.{RunVerdict}
 use Rattle.bep_fit.specs.declared.verdict.RunVerdict.TheVariants.{Fits, Misfit}
+use Rattle.bep_machine.specs.Gapless.{IsGapless, IsOfNoLaterIndex}
 use Rattle.bep_machine.specs.Laws.{StaysSettled}
 use Rattle.bep_machine.specs.Laws as laws
 use Rattle.bep_model.specs.Settled.{IsSettled}
@@ -31,6 +32,7 @@ use Rattle.bep_live.specs.Lines.{run_line}
 
 -- The scenario's steps were made, and this is told of them. The run's logs begin at the cluster to which they lead: at its
 -- devices, by their tables and sessions, and at its links. No event in them is a local step, and none a reset. The logs fit.
+-- Where they end, no view has a gap, and none is of an index that is still to come.
 pub record LeadsOn (scenario : Said) (run : RunState) (told : List ℕ) : Type 0 where
   pub last : Network
   pub leads : EndsAt scenario last told
@@ -39,6 +41,8 @@ pub record LeadsOn (scenario : Said) (run : RunState) (told : List ℕ) : Type 0
   pub quiet : AreQuietLogs run.logs
   pub no_reset : AreResetOf run.logs []
   pub fit : (count : ℕ) × logs.Fits run.logs count
+  pub gapless : IsGapless (cluster_of run.present)
+  pub earlier : IsOfNoLaterIndex (cluster_of run.present)
 
 -- the cut of the devices and links of a run cut as they are
 abbrev pub cut_in : RunState → CutParts

@@ -6,6 +6,7 @@ ghost use Rattle.bep_scenario.specs.Scenario.{said_lazily};
 ghost use Rattle.bep_live.specs.Lived.{IsJudged, LeadsOn};
 
 use bep_blocks::OpenGate;
+use bep_core::reached_is_gapless;
 use bep_fit::{RunVerdict, logs_have_one_verdict};
 use bep_play::played;
 use bep_run::run_turns;
@@ -16,7 +17,7 @@ use std::sync::Wait;
 use std::thread::Threads;
 
 /// Makes the scenario's steps, has threads run the cluster to which they lead for so many turns each, and answers a cut of it
-/// and the lines of the steps that are refused. May wait.
+/// and the lines of the steps that are refused. What its devices know of each other then has no gap. May wait.
 pub(crate) fn lived<R: Threads + Wait + Sync>(
     rt: &R,
     alloc: Global,
@@ -28,7 +29,12 @@ pub(crate) fn lived<R: Threads + Wait + Sync>(
 {
     let (cluster, told) = played(alloc, scenario)?;
     match run_turns(rt, alloc, cluster, &OpenGate, turns) {
-        Ok(run) => Ok((run, told)),
+        Ok(run) => {
+            // these are called for what their clauses say of the logs, and of what runs lead to
+            run.logs();
+            reached_is_gapless();
+            Ok((run, told))
+        }
         // Stores in memory never fail, and a cluster has one of each device and link. So only memory can be wanting.
         Err(_) => Err(AllocError),
     }

@@ -2,3 +2,4 @@ mod PlayFacts
 mod StepText
 mod SettledEnd
 mod OneEnd
+pub mod ReachedOn

@@ -12,6 +12,7 @@ use Rattle.bep_document.specs.Reading.{Reading, Read, Refused}
 use Rattle.bep_machine.specs.Answer.{Answer, Done, OutOfMemory, Refused as Refuses, number_of as number_of_refusal}
 use Rattle.bep_machine.specs.Cluster.{Cluster}
 use Rattle.bep_machine.specs.Determined.{HadMemory}
+use Rattle.bep_machine.specs.Gapless.{IsGapless, IsOfNoLaterIndex}
 use Rattle.bep_machine.specs.Laws.{AreSound, StaysPut, StaysSettled}
 use Rattle.bep_machine.specs.Sound.{IsSound}
 use Rattle.bep_machine.specs.Steps.{Event, IsRun}
@@ -69,13 +70,16 @@ abbrev pub beginning_of : Said → Network
 beginning_of scenario = begun (λ store. store) (λ _. 0) scenario.config
 
 -- The scenario's steps lead from where it begins, a sound cluster, to these devices and links, which are a sound cluster
--- too, and this is told of them. Their cut says what that very cluster does.
+-- too, and this is told of them. Their cut says what that very cluster does. No view in it has a gap, and none is of an
+-- index that is still to come.
 pub record EndsAt (scenario : Said) (last : Network) (told : List ℕ) : Type 0 where
   pub begins : IsSound (cluster_of (beginning_of scenario))
   pub leads : Leads (cluster_of (beginning_of scenario)) scenario.steps (cluster_of last) told
   pub network : IsNetwork last
   pub sound : IsSound (cluster_of last)
   pub says : Says (cluster_of last) (cut_at last.members last.links)
+  pub gapless : IsGapless (cluster_of last)
+  pub earlier : IsOfNoLaterIndex (cluster_of last)
 
 -- what the answer of a step adds to what is told
 abbrev pub IsTold : ℕ → Result Moved Why → List ℕ → List ℕ → Type 0

@@ -1,11 +1,12 @@
 //! The steps of a scenario, made one after another.
 ghost use Rattle.std.specs.Prelude.{◌≡◌, ◌++◌, IfOk, IsUtf8, OnOk};
+ghost use Rattle.bep_core.specs.Reached.{IsReached};
 ghost use Rattle.bep_lines.specs.Lines.{step_line};
 ghost use Rattle.bep_peer.specs.network.Network.{cluster_of};
 ghost use Rattle.bep_scenario.specs.Scenario.{said_lazily};
 ghost use Rattle.bep_play.specs.Played.{EndsAt, IsTold, Leads};
 
-use bep_core::{Cluster, Why};
+use bep_core::{Cluster, Why, reached_is_gapless};
 use bep_cut::cut_says_cluster;
 use bep_lines::push_step;
 use bep_machine::Moved;
@@ -14,19 +15,21 @@ use bep_store::MemStore;
 use std::alloc::{AllocError, Global};
 
 /// Makes the scenario's steps from where it begins, and answers the cluster to which they lead, whose cut says what it does,
-/// and the lines of those that are refused.
+/// and the lines of those that are refused. What its devices know of each other has no gap.
 pub fn played(
     alloc: Global,
     scenario: LazyScenario,
 ) -> Result<(Cluster<MemStore>, Vec<u8>), AllocError>
     ensures ends { IfOk result (λ end. EndsAt (said_lazily scenario) end.0 end.1.items) }
     ensures text { IfOk result (λ end. IsUtf8 end.1.items) }
+    ensures reached { IfOk result (λ end. IsReached (cluster_of end.0)) }
 {
     let mut cluster = Cluster::new(alloc, scenario.config)?;
     cluster.cluster_is_sound();
     let told = play(alloc, &mut cluster, scenario.steps)?;
     cluster.cluster_is_sound();
     cut_says_cluster();
+    reached_is_gapless();
     // `peers` is called for its clause `a_network`
     let _devices = cluster.peers();
     Ok((cluster, told))

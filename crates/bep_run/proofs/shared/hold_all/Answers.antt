@@ -50,4 +50,5 @@ returns g c =
       all = none_seen known (length c.loop-peer.devices.items) all is c.loop-peer.invariant.left;
       seat =
           subst (λ (these : List Member). IsFirstSeat g.O.Tabled.table (objects_of_peers these ++ objects_of_links c.args.joining.now) c.loop-peer.seat) is c.loop-peer.invariant.seat;
+      only = tt;
     }
