@@ -3,6 +3,7 @@ mod Places
 mod StayQuiet
 mod Still
 mod Vain
+mod SameView
 mod Seating
 mod Grown
 mod Distinct

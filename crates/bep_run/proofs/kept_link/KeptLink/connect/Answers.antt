@@ -1,5 +1,6 @@
-use Rattle.std.proofs.Common.{refl}
+use Rattle.std.proofs.Common.{refl, subst}
 use Rattle.std.specs.Option.{option_copied}
+use Rattle.bep_log.specs.LoggedLink.{LinkLogs, LoggedBetween}
 use Rattle.bep_machine.specs.Steps.{ConnectRow}
 use Rattle.bep_machine.specs.declared.step.Step.TheVariants as steps
 use Rattle.bep_run.proofs.Grown.{link_grows, link_kept, link_may_tell}
@@ -25,3 +26,11 @@ invariant_of-self g c =
     let grows = link_grows step ConnectRow ticket old c.connect-answer.new.self c.connect-answer.result logs in
     link_kept g.O.Origin.start g.O.Tabled.table c.self.inside.place old c.connect-answer.new.self c.self.inside.seat c.draw-ticket.new.self c.self.invariant step ticket grows refl c.draw-ticket.ensures (option_copied c.get.result) (lent_behind old.log c.connect-answer.new.self.log c.log-before.result.now c.log.result.now c.get.result c.log-before.ensures.value c.log.ensures.value c.get.ensures.lookup) c.tell.new.self c.tell.ensures
     (quiet_link g.O.Origin.start step ConnectRow ticket old c.connect-answer.new.self c.connect-answer.result logs refl c.self.invariant.quiet)
+
+pub returns : goal.returns
+returns g c =
+    let ticket = c.draw-ticket.result in
+    let logs =
+    subst (λ (old : LoggedBetween). LinkLogs (steps.Connect old.now.ends.0 old.now.ends.1) ConnectRow ticket old c.connect-answer.new.self c.connect-answer.result) c.self.view_is
+    c.connect-answer.ensures.logs in
+    record { logs = (ticket, logs) }

@@ -3,6 +3,7 @@ use Rattle.std.specs.Option.{option_copied}
 use Rattle.bep_log.specs.Over.{announces, asks, begins, delivers}
 use Rattle.bep_run.proofs.GrownBoth.{both_grow, both_may_tell, device_kept_over, link_kept_over}
 use Rattle.bep_run.proofs.Lent.{lent_behind}
+use Rattle.bep_run.proofs.SameView.{logs_as}
 use Rattle.bep_run.proofs.StayQuiet.{quiet_delivered}
 use Rattle.bep_run.proofs.kept_peer.KeptPeer.deliver.Goals as goal
 
@@ -40,3 +41,12 @@ invariant_of-link g c =
     let grow = both_grow delivers ticket old new link after c.deliver-answer.result logs (λ device other. refl) in
     link_kept_over g.O.Origin.start g.O.Tabled.table c.self.inside.place c.link.inside.place old new link after c.self.inside.seat c.draw-ticket.new.self c.link.inside.seat c.self.invariant c.link.invariant ticket grow c.log_replays.ensures c.log_replays-2.ensures c.log_replays-3.ensures c.draw-ticket.ensures (option_copied c.get.result) (lent_behind old.log c.deliver-answer.new.self.log c.log-before.result.now c.log.result.now c.get.result c.log-before.ensures.value c.log.ensures.value c.get.ensures.lookup) c.tell_both.new.other c.tell_both.ensures.other
     ((quiet_delivered g.O.Origin.start ticket old new link after c.deliver-answer.result logs).1 c.link.invariant.quiet)
+
+pub returns : goal.returns
+returns g c =
+    let ticket = c.draw-ticket.result in
+    let answer = c.deliver-answer in
+    let logs =
+    logs_as delivers ticket c.self.inside.logged c.args.self.now answer.new.self c.link.inside.logged c.args.link.now answer.new.link answer.result
+    c.self.view_is c.link.view_is answer.ensures.logs in
+    record { logs = (ticket, logs) }

@@ -1,6 +1,7 @@
-use Rattle.std.proofs.Common.{refl, None, Some}
+use Rattle.std.proofs.Common.{refl, subst, None, Some}
 use Rattle.std.specs.Option.{option_copied}
-use Rattle.bep_log.specs.Acts.{MakesIn}
+use Rattle.bep_log.specs.Acts.{LogsIn, MakesIn}
+use Rattle.bep_log.specs.LoggedPeer.{LoggedMember}
 use Rattle.bep_machine.specs.Local.{ScanRow}
 use Rattle.bep_machine.specs.declared.step.Step.TheVariants as steps
 use Rattle.bep_run.proofs.Grown.{device_kept, device_may_tell, grows_in}
@@ -28,3 +29,14 @@ invariant_of-self g c =
     let grows = grows_in None folder (MakesIn folder (ScanRow old.now.number c.args.name.now)) step ticket old c.scan-answer.new.self c.scan-answer.result logs in
     device_kept g.O.Origin.start g.O.Tabled.table c.self.inside.place old c.scan-answer.new.self c.self.inside.seat c.draw-ticket.new.self c.self.invariant step ticket grows refl c.draw-ticket.ensures (option_copied c.get.result) (lent_behind old.log c.scan-answer.new.self.log c.log-before.result.now c.log.result.now c.get.result c.log-before.ensures.value c.log.ensures.value c.get.ensures.lookup) c.tell.new.self c.tell.ensures
     (quiet_in g.O.Origin.start None folder (MakesIn folder (ScanRow old.now.number c.args.name.now)) step ticket old c.scan-answer.new.self c.scan-answer.result logs refl c.self.invariant.quiet)
+
+pub returns : goal.returns
+returns g c =
+    let folder = c.args.folder.now in
+    let ticket = c.draw-ticket.result in
+    let logs =
+    subst
+    (λ (old : LoggedMember).
+    LogsIn None folder (MakesIn folder (ScanRow old.now.number c.args.name.now)) (steps.Scan old.now.number folder c.args.name.now) ticket old c.scan-answer.new.self c.scan-answer.result)
+    c.self.view_is c.scan-answer.ensures.logs in
+    record { logs = (ticket, logs) }

@@ -1,5 +1,7 @@
-use Rattle.std.proofs.Common.{refl, None, Some}
+use Rattle.std.proofs.Common.{refl, subst, None, Some}
 use Rattle.std.specs.Option.{option_copied}
+use Rattle.bep_log.specs.Acts.{LogsIn}
+use Rattle.bep_log.specs.LoggedPeer.{LoggedMember}
 use Rattle.bep_peer.specs.Within.{CommitsWithin}
 use Rattle.bep_machine.specs.declared.step.Step.TheVariants as steps
 use Rattle.bep_run.proofs.Grown.{device_kept, device_may_tell, grows_in}
@@ -27,3 +29,14 @@ invariant_of-self g c =
     let grows = grows_in None folder (CommitsWithin folder c.args.scan) step ticket old c.scan_commit-answer.new.self c.scan_commit-answer.result logs in
     device_kept g.O.Origin.start g.O.Tabled.table c.self.inside.place old c.scan_commit-answer.new.self c.self.inside.seat c.draw-ticket.new.self c.self.invariant step ticket grows refl c.draw-ticket.ensures (option_copied c.get.result) (lent_behind old.log c.scan_commit-answer.new.self.log c.log-before.result.now c.log.result.now c.get.result c.log-before.ensures.value c.log.ensures.value c.get.ensures.lookup) c.tell.new.self c.tell.ensures
     (quiet_in g.O.Origin.start None folder (CommitsWithin folder c.args.scan) step ticket old c.scan_commit-answer.new.self c.scan_commit-answer.result logs refl c.self.invariant.quiet)
+
+pub returns : goal.returns
+returns g c =
+    let folder = c.args.folder.now in
+    let ticket = c.draw-ticket.result in
+    let logs =
+    subst
+    (λ (old : LoggedMember).
+    LogsIn None folder (CommitsWithin folder c.args.scan) (steps.Scan old.now.number folder c.args.scan.name) ticket old c.scan_commit-answer.new.self c.scan_commit-answer.result)
+    c.self.view_is c.scan_commit-answer.ensures.logs in
+    record { logs = (ticket, logs) }
