@@ -8,10 +8,10 @@ use Rattle.bep_machine.specs.declared.refusal.Refusal.TheVariants.{NotShared, St
 abbrev pub IsOfStores : LogError → Type 0
 IsOfStores error = (error ≡ Refused StoreFault) ⊎ (error ≡ Memory)
 
--- the link doesn't stand where it should, or memory was wanting
+-- something doesn't stand where it should, or memory was wanting
 abbrev pub IsOfPlaces : LogError → Type 0
 IsOfPlaces error = (error ≡ Refused NotShared) ⊎ (error ≡ Memory)
 
--- one of these two
+-- something doesn't stand where it should, a store failed, or memory was wanting
 abbrev pub IsOfCopies : LogError → Type 0
 IsOfCopies error = (error ≡ Refused NotShared) ⊎ IsOfStores error
