@@ -46,11 +46,12 @@ func OpenKept(directory string) (*Kept, error) {
 	if errors.Is(err, syscall.EWOULDBLOCK) {
 		err = ErrBusy
 	}
-	if err == nil {
-		err = kept.open()
+	if err != nil {
+		lock.Close() // and nothing else: what stands there is the other run's
+	} else if err = kept.open(); err != nil {
+		kept.Close()
 	}
 	if err != nil {
-		kept.Close()
 		return nil, fmt.Errorf("the index that is kept in %s: %w", directory, err)
 	}
 	return kept, nil

@@ -59,7 +59,12 @@ func TestKeptStays(t *testing.T) {
 	if _, err := OpenKept(directory); !errors.Is(err, ErrBusy) {
 		t.Errorf("two runs at once: %v", err)
 	}
-	kept.Close()
+	if err := kept.Next().Put(fileOf("a", 1, true), fileOf("b", 2, true)); err != nil {
+		t.Fatal(err)
+	}
+	if err := kept.Finish(); err != nil {
+		t.Errorf("a run beside which another one tried: %v", err)
+	}
 	for _, end := range []func(){
 		func() {},
 		func() { // between the two renamings
