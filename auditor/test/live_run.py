@@ -126,6 +126,13 @@ cd "{room}/$machine/user" && HOME=$PWD PATH={programs}:$PATH exec sh -c "$*"
         self.assertEqual((ran.returncode, ran.stdout.splitlines()[0]), (1, self.fault("StoreDiffers", "folder/large", self.two)), ran.stderr)
         self.assertIn(f"{self.two.id} (two:{self.two.home})", ran.stderr)
 
+    def test_steps_go_into_scripts(self):
+        with rot(self.two.files / "folder" / "large", 1000):
+            ran = self.run_on("--script", self.room / "steps")
+        scripts = [path.read_text() for path in (self.room / "steps").iterdir()]
+        self.assertEqual((ran.returncode, len(scripts)), (1, 1), ran.stderr)
+        self.assertIn("fetch 2 \"$folder_1\" 'folder/large' \"$source_1\" over\n", scripts[0])
+
     def test_what_no_scan_has_seen(self):
         """Without a scan it waits; with one that is asked for before it is recorded, and the others take it."""
         path = self.one.files / "late"

@@ -66,6 +66,12 @@ type Options struct {
 	HasJobs    bool // whether they were asked for
 }
 
+// OfLooks is what is asked of looks that this program made: all but where these were made.
+func (o Options) OfLooks() Options {
+	o.Homes, o.Parts, o.Data, o.Maps, o.Disks = nil, nil, nil, nil, nil
+	return o
+}
+
 // Stillness is how long a second look waits until Syncthing is idle.
 func (o *Options) Stillness() time.Duration { return time.Duration(o.Still * float64(time.Second)) }
 

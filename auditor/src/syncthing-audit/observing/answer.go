@@ -8,7 +8,6 @@ import (
 
 	"syncthing-audit/answering"
 	"syncthing-audit/ask"
-	"syncthing-audit/commandline"
 	"syncthing-audit/fault"
 	"syncthing-audit/finding"
 	"syncthing-audit/inputs"
@@ -57,7 +56,8 @@ func (o *observing) leavesOut() map[string]bool {
 
 // answer joins what was seen of all devices, and tells the answer. A device that failed on the way is left out, which the answer says.
 func (o *observing) answer(program ask.Program, files map[string]string, output io.Writer) (int, error) {
-	read := commandline.Options{Folders: o.asked.Folders, Names: o.asked.Names, Strict: o.asked.Strict, LeaveOut: o.leavesOut(), Lines: o.asked.Lines, JSON: o.asked.JSON, Jobs: o.asked.Jobs, Take: o.asked.Take, Script: o.asked.Script}
+	read := o.asked.OfLooks()
+	read.LeaveOut = o.leavesOut()
 	for path := range files {
 		read.Parts = append(read.Parts, path)
 	}

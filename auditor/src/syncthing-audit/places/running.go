@@ -272,7 +272,7 @@ var isForRun = regexp.MustCompile(`^syncthing-audit: (the first look was over .*
 
 // answer joins what was seen at all devices, and tells the answer.
 func (r *running) answer(program ask.Program, output io.Writer) (int, error) {
-	read := commandline.Options{Folders: r.asked.Folders, Names: r.asked.Names, Strict: r.asked.Strict, LeaveOut: r.asked.LeaveOut, Observers: r.asked.Observers, Lines: r.asked.Lines, JSON: r.asked.JSON, Jobs: r.asked.Jobs, Take: r.asked.Take}
+	read := r.asked.OfLooks()
 	names := map[string]string{}
 	for _, at := range r.present() {
 		place := r.places[at]
