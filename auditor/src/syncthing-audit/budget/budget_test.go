@@ -5,6 +5,7 @@ import (
 	"fmt"
 	"math/rand"
 	"path/filepath"
+	"reflect"
 	"testing"
 	"time"
 
@@ -151,6 +152,24 @@ func TestADeviceThatWasNotReached(t *testing.T) {
 	}
 	if got := c.look(100, 3, all); !same(got, "a") {
 		t.Errorf("%v", got)
+	}
+}
+
+// What was asked for by a clock that was years ahead has its turn as what was never asked for, and not years later.
+func TestAClockThatWasAhead(t *testing.T) {
+	c, asked := newCluster(t, 1), map[string]int{}
+	for _, name := range []string{"a", "b", "c"} {
+		c.record(name, 100, 0)
+	}
+	for look, at := range []int64{time.Now().AddDate(10, 0, 0).Unix(), 1, 2, 3, 4, 5, 6} {
+		for name := range c.look(100, at, all) {
+			if look > 0 {
+				asked[name]++
+			}
+		}
+	}
+	if !reflect.DeepEqual(asked, map[string]int{"a": 2, "b": 2, "c": 2}) {
+		t.Error(asked)
 	}
 }
 

@@ -43,6 +43,7 @@ func readAsked(value []byte) (AskedFor, error) {
 // AskedReader goes through what was asked for of a device in a folder, in the order of names.
 type AskedReader struct {
 	all    iterator.Iterator
+	now    time.Time
 	prefix int
 	isEnd  bool
 }
@@ -50,7 +51,7 @@ type AskedReader struct {
 // AskedReader begins before the first name.
 func (h *History) AskedReader(folder string, device uint64) *AskedReader {
 	prefix := keyOfAsked(folder, device, "")
-	reader := &AskedReader{all: h.db.NewIterator(util.BytesPrefix(prefix), nil), prefix: len(prefix)}
+	reader := &AskedReader{all: h.db.NewIterator(util.BytesPrefix(prefix), nil), now: h.now(), prefix: len(prefix)}
 	reader.isEnd = !reader.all.Next()
 	return reader
 }
@@ -58,7 +59,8 @@ func (h *History) AskedReader(folder string, device uint64) *AskedReader {
 // name gives the name at which the reader is.
 func (r *AskedReader) name() string { return string(r.all.Key()[r.prefix:]) }
 
-// Of gives what was asked for of a name, which is behind the one before.
+// Of gives what was asked for of a name, which is behind the one before. When that was isn't known where a clock that was wrong says that it is still to
+// come: the name would wait until then.
 func (r *AskedReader) Of(name string) (AskedFor, bool, error) {
 	for !r.isEnd && r.name() < name {
 		r.isEnd = !r.all.Next()
@@ -67,7 +69,10 @@ func (r *AskedReader) Of(name string) (AskedFor, bool, error) {
 		return AskedFor{}, false, r.all.Error()
 	}
 	asked, err := readAsked(r.all.Value())
-	return asked, err == nil, err
+	if err != nil || asked.At > r.now.Unix() {
+		return AskedFor{}, false, err
+	}
+	return asked, true, nil
 }
 
 // Release lets go of the reader.

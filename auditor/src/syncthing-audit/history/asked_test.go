@@ -3,9 +3,11 @@ package history
 import (
 	"errors"
 	"fmt"
+	"math"
 	"math/rand"
 	"reflect"
 	"testing"
+	"time"
 
 	"github.com/syndtr/goleveldb/leveldb"
 )
@@ -39,6 +41,7 @@ func keptOfAsked(t *testing.T, history *History, of pair) map[string]AskedFor {
 func TestWhatWasAskedFor(t *testing.T) {
 	for seed := int64(0); seed < 40; seed++ {
 		random, history := rand.New(rand.NewSource(seed)), opened(t)
+		history.now = func() time.Time { return time.Unix(math.MaxInt64, 0) } // no time is to come
 		kept := map[pair]map[string]AskedFor{}
 		pairs := []pair{{"docs", 1}, {"docs", 2}, {"docs\x01", 1}, {"doc", 1}}
 		for _, of := range pairs {
