@@ -60,6 +60,7 @@ type Outlook struct {
 	MoreNames    int64     `json:"fates_unlisted"`
 	Plans        []*Plan   `json:"plans"`                   // for names that need a hand; those of the names in most danger come first
 	WithoutSteps int64     `json:"without_steps,omitempty"` // names that something is to be done for before a start, and that no plan has
+	ToDecide     int64     `json:"to_decide,omitempty"`     // names that a start has all devices change or delete, and that no plan has
 	Choices      []*Choice `json:"choices,omitempty"`       // for the whole folder, on devices that only send or only receive
 
 	FirstWithout []part.Bytes `json:"-"` // the first of the names without steps, which a person reads

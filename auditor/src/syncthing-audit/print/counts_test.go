@@ -91,7 +91,8 @@ func TestWhatComesBehindTheSteps(t *testing.T) {
 	for without := int64(0); without <= 2; without++ {
 		for choices := 0; choices <= 2; choices++ {
 			for unknown := int64(0); unknown <= 2; unknown++ {
-				of := &outlook.Outlook{Names: 5, NotKnown: unknown, WithoutSteps: without, FirstWithout: namesTo(int(without)), Plans: []*outlook.Plan{{Names: namesTo(1), Count: 1, Steps: []outlook.Step{{Act: outlook.Save, Device: "A"}}}},
+				decided := 2 - unknown
+				of := &outlook.Outlook{Names: 5, NotKnown: unknown, ToDecide: decided, WithoutSteps: without, FirstWithout: namesTo(int(without)), Plans: []*outlook.Plan{{Names: namesTo(1), Count: 1, Steps: []outlook.Step{{Act: outlook.Save, Device: "A"}}}},
 					Choices: []*outlook.Choice{{Act: outlook.Revert, Device: "A"}, {Act: outlook.Both, Device: "A"}}[:choices]}
 				number, due := 1, ""
 				next := func(format string, words ...any) {
@@ -101,7 +102,8 @@ func TestWhatComesBehindTheSteps(t *testing.T) {
 				if without > 0 {
 					next("do what the entries below say to do before Syncthing starts or scans, for %s that no step here puts right: %s", []string{"", "1 name", "2 names"}[without], []string{"", "n1", "n1 n2"}[without])
 				}
-				next("start Syncthing on all its devices%s", []string{"", "; of 1 name it isn't known what that does: see to it first", "; of 2 names it isn't known what that does: see to them first"}[unknown])
+				next("start Syncthing on all its devices%s%s", []string{"", "; that has all devices change or delete 1 name below: see first whether that is wanted",
+					"; that has all devices change or delete 2 names below: see first whether that is wanted"}[decided], []string{"", "; of 1 name it isn't known what that does: see to it first", "; of 2 names it isn't known what that does: see to them first"}[unknown])
 				if choices > 0 {
 					next("audit again, once they are idle. What may be chosen for the whole folder (%s) is told then: these steps change what it does",
 						[]string{"", "'Revert Local Changes' on a", "'Revert Local Changes' on a, 'Send & Receive' on a"}[choices])

@@ -25,7 +25,7 @@ func (p *Person) plans(folder string, o *outlook.Outlook) {
 		p.Line("  %s. do what the entries below say to do before Syncthing starts or scans, for %s: %s", Thousands(number),
 			Counted(o.WithoutSteps, "name that no step here puts right", "names that no step here puts right"), firstOf(o.FirstWithout, o.WithoutSteps))
 	}
-	p.Line("  %s. start Syncthing on all its devices%s", Thousands(number+1), unknownFirst(o))
+	p.Line("  %s. start Syncthing on all its devices%s", Thousands(number+1), seeFirst(o))
 	if len(o.Choices) > 0 {
 		p.Line("  %s. audit again, once they are idle. What may be chosen for the whole folder (%s) is told then: these steps change what it does", Thousands(number+2), p.choosers(o))
 	}
@@ -34,12 +34,16 @@ func (p *Person) plans(folder string, o *outlook.Outlook) {
 	}
 }
 
-// unknownFirst says that a start may do something to names of which nothing is known.
-func unknownFirst(o *outlook.Outlook) string {
-	if o.NotKnown == 0 {
-		return ""
+// seeFirst says what a start does to names that no step is for: it sends their changes and deletions, and of some nothing is known.
+func seeFirst(o *outlook.Outlook) string {
+	told := ""
+	if o.ToDecide > 0 {
+		told = "; that has all devices change or delete " + Counted(o.ToDecide, "name", "names") + " below: see first whether that is wanted"
 	}
-	return "; of " + Counted(o.NotKnown, "name", "names") + " it isn't known what that does: see to " + itOrThem(o.NotKnown) + " first"
+	if o.NotKnown > 0 {
+		told += "; of " + Counted(o.NotKnown, "name", "names") + " it isn't known what that does: see to " + itOrThem(o.NotKnown) + " first"
+	}
+	return told
 }
 
 // plan prints the steps of a plan behind so many others, and gives how many there are then.

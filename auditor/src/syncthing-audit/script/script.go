@@ -61,6 +61,7 @@ type writing struct {
 	rounds  int   // of all steps
 	first   int   // what the answer says is to be done first
 	without int64 // names that no step puts right
+	decided int64 // names that a start has all devices change or delete
 	unknown int64 // names of which it isn't known what a start does
 	hidden  int64 // names that no plan lists
 }
@@ -82,6 +83,7 @@ type source struct {
 // note notes what no script of a folder does.
 func (w *writing) note(told *outlook.Outlook) {
 	w.without += told.WithoutSteps
+	w.decided += told.ToDecide
 	w.unknown += told.NotKnown
 	for _, plan := range told.Plans {
 		w.hidden += plan.Count - int64(len(plan.Names))

@@ -76,6 +76,9 @@ func (w *writing) rest() []string {
 	if w.without > 0 {
 		lines = append(lines, "The answer's entries say what to do before Syncthing starts, for "+print.Counted(w.without, "name that no script puts right.", "names that no script puts right."))
 	}
+	if w.decided > 0 {
+		lines = append(lines, "A start has all devices change or delete "+print.Counted(w.decided, "name", "names")+": see first whether that is wanted.")
+	}
 	if w.unknown > 0 {
 		lines = append(lines, "It isn't known what a start does to "+print.Counted(w.unknown, "name: see to it first.", "names: see to them first."))
 	}

@@ -101,22 +101,24 @@ func TestLastWordsOfScripts(t *testing.T) {
 	const made, start = "All steps of this script are made.", "Once all scripts are through, start Syncthing on all devices."
 	const begins, without, unknown = "The answer begins with what is to be done before Syncthing starts: 2 lines.",
 		"The answer's entries say what to do before Syncthing starts, for 3 names that no script puts right.", "It isn't known what a start does to 4 names: see to them first."
+	const decided = "A start has all devices change or delete 6 names: see first whether that is wanted."
 	const hidden, again = "5 more names need such steps, and no script has them: audit again after these.", "Audit again, before Syncthing starts, for the steps that no script has."
 	for _, row := range []struct {
-		first                    int
-		without, unknown, hidden int64
-		notes, last              []string
+		first                             int
+		without, decided, unknown, hidden int64
+		notes, last                       []string
 	}{
-		{0, 0, 0, 0, nil, []string{made, start}},
-		{2, 0, 0, 0, []string{begins}, []string{made, begins, start}},
-		{0, 3, 0, 0, []string{without}, []string{made, without, start}},
-		{0, 0, 4, 0, []string{unknown}, []string{made, unknown, start}},
-		{2, 3, 4, 0, []string{begins, without, unknown}, []string{made, begins, without, unknown, start}},
-		{2, 3, 4, 5, []string{hidden, begins, without, unknown}, []string{made, again}},
+		{0, 0, 0, 0, 0, nil, []string{made, start}},
+		{2, 0, 0, 0, 0, []string{begins}, []string{made, begins, start}},
+		{0, 3, 0, 0, 0, []string{without}, []string{made, without, start}},
+		{0, 0, 6, 0, 0, []string{decided}, []string{made, decided, start}},
+		{0, 0, 0, 4, 0, []string{unknown}, []string{made, unknown, start}},
+		{2, 3, 6, 4, 0, []string{begins, without, decided, unknown}, []string{made, begins, without, decided, unknown, start}},
+		{2, 3, 0, 4, 5, []string{hidden, begins, without, unknown}, []string{made, again}},
 	} {
 		told := summaryOf([]*outlook.Plan{planOf(ids[0], "x")})
 		told.First = make([]summary.First, row.first)
-		told.Folders[0].Outlook.WithoutSteps, told.Folders[0].Outlook.NotKnown = row.without, row.unknown
+		told.Folders[0].Outlook.WithoutSteps, told.Folders[0].Outlook.ToDecide, told.Folders[0].Outlook.NotKnown = row.without, row.decided, row.unknown
 		told.Folders[0].Outlook.Plans[0].Count += row.hidden
 		text := Of(told, time.Unix(0, 0))[0].Text
 		above, _, _ := strings.Cut(text, "\nstopped=no")

@@ -83,6 +83,11 @@ func (f *File) withoutSteps() []string {
 	return devices
 }
 
+// isToDecide says whether a start has all devices change or delete the name, which somebody may not want.
+func (f *File) isToDecide() bool {
+	return f.foretold.plan == nil && (f.foretold.is(outlook.Changed) || f.foretold.is(outlook.Deleted))
+}
+
 // The dangers of names, the greatest one first.
 const (
 	losesBytes = iota

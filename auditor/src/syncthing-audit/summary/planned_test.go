@@ -39,6 +39,11 @@ func TestNothingStartsBeforeWhatHasNoSteps(t *testing.T) {
 			planned.Plans[0].Goal, planned.Plans[0].Steps[0].Act = nil, outlook.Save
 			return planned
 		}(), []string{"a"}},
+		{"one changes and one goes", "2. start Syncthing on all its devices; that has all devices change or delete 2 names below: see first whether that is wanted", func() *outlook.Outlook {
+			planned := planFor(0, "a")
+			planned.Listed = []outlook.Name{{Name: "b", Fate: outlook.Changed}, {Name: "c", Fate: outlook.Deleted}, {Name: "d", Fate: outlook.ByItself}, {Name: "a", Fate: outlook.Changed}}
+			return planned
+		}(), []string{"a", "b", "c", "d"}},
 	} {
 		answer := answerOf(2, func(folder *finding.Folder) {
 			folder.Outlook = row.outlook

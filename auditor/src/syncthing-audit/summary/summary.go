@@ -252,6 +252,8 @@ func folderOf(answer *finding.Answer, from *finding.Folder, all *folding) *Folde
 		all.take(file)
 		if len(file.withoutSteps()) > 0 {
 			folder.Outlook.AddWithoutSteps(told.Name)
+		} else if file.isToDecide() {
+			folder.Outlook.ToDecide++
 		}
 	})
 	folder.Wrong, folder.modes = all.wrong, all.modes
