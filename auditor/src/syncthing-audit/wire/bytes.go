@@ -49,7 +49,7 @@ func (s *Shared) Bytes(ctx context.Context, index *Index, isWanted func(device.E
 	ctx, cancel := context.WithCancel(ctx)
 	defer cancel()
 	defer s.over.keepPace("answers", s.over.limits.BytesWhole, func() gave { return s.over.answers })()
-	asker := &asker{of: s, room: newRoom()}
+	asker := &asker{of: s, room: newRoom(), turns: newTurns()}
 	results := make(chan looking, mostRequests)
 	failed := make(chan error, 1)
 	go func() {
@@ -69,14 +69,16 @@ func (s *Shared) Bytes(ctx context.Context, index *Index, isWanted func(device.E
 		if err := take(result.entry, seen.found); err != nil {
 			return err
 		}
+		asker.turns.leave(len(result.entry.Blocks))
 	}
 	return <-failed
 }
 
 // asker asks a device about a folder, with as many requests at once as there is room for.
 type asker struct {
-	of   *Shared
-	room *room
+	of    *Shared
+	room  *room
+	turns *turns
 }
 
 // looked is what was found of a name, or why nothing was.
@@ -93,6 +95,9 @@ type looking struct {
 
 // begin begins to look at a name, once few wait for their turn: so what is found takes little room.
 func (a *asker) begin(ctx context.Context, entry device.Entry, results chan<- looking) error {
+	if err := a.turns.enter(ctx, len(entry.Blocks)); err != nil {
+		return err
+	}
 	result := looking{entry, make(chan looked, 1)}
 	select {
 	case results <- result:

@@ -1,6 +1,7 @@
 package wire
 
 import (
+	"context"
 	"sync"
 
 	"syncthing-audit/request"
@@ -45,4 +46,51 @@ func (r *room) leave(asked request.Request) {
 	r.requests--
 	r.bytes -= int64(asked.Size())
 	r.left.Broadcast()
+}
+
+// mostBlocks is how many blocks the files have together that are looked at at once: the hashes of a block, as it is recorded and as it is found, take 100
+// bytes, and a message has room for two million of them. A file with more blocks goes alone. Tests have fewer.
+var mostBlocks = 1 << 20
+
+// turns have files wait until those before them have let few enough blocks go. One file waits at a time.
+type turns struct {
+	mutex  sync.Mutex
+	blocks int
+	left   chan struct{} // one waits there once blocks were let go
+}
+
+func newTurns() *turns { return &turns{left: make(chan struct{}, 1)} }
+
+// enter waits until a file has its turn, or until nobody wants it any more.
+func (t *turns) enter(ctx context.Context, blocks int) error {
+	for !t.takes(blocks) {
+		select {
+		case <-t.left:
+		case <-ctx.Done():
+			return ctx.Err()
+		}
+	}
+	return nil
+}
+
+// takes takes a file, if it has its turn.
+func (t *turns) takes(blocks int) bool {
+	t.mutex.Lock()
+	defer t.mutex.Unlock()
+	if t.blocks > 0 && t.blocks+blocks > mostBlocks {
+		return false
+	}
+	t.blocks += blocks
+	return true
+}
+
+// leave lets a file's blocks go.
+func (t *turns) leave(blocks int) {
+	t.mutex.Lock()
+	defer t.mutex.Unlock()
+	t.blocks -= blocks
+	select {
+	case t.left <- struct{}{}:
+	default:
+	}
 }
