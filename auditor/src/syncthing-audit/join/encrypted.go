@@ -2,14 +2,14 @@ package join
 
 import "syncthing-audit/part"
 
-// unopened adds what an observer says of a folder that it couldn't open at a device; nothing where it says nothing.
+// unopened adds what an observer says of a folder that it couldn't open at a device or, where none looked, how it can be read.
 func (p *Plan) unopened(folder, device string) string {
 	why := p.unreached[device]
 	if here := p.device(device); here != nil && here.Head.WhyWithout(folder) != nil {
 		why = here.whyUnseen(folder)
 	}
 	if why == "" {
-		return ""
+		why = "'observe' with --passwords reads it"
 	}
 	return ": " + why
 }

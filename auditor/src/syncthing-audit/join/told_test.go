@@ -51,9 +51,9 @@ func TestEachRefusalOfAPlanIsToldWhole(t *testing.T) {
 		{"its part hasn't the folder", map[byte]string{1: "2", 2: "1"}, func(devices []*Device) { devices[1].Head.Folders, devices[1].Head.Others = nil, []part.Other{} },
 			[]Refusal{of(part.Unshared, two, "called AAAAAAA", "it doesn't share the folder; device own 0 (AAAAAAA) shares it with this one")}, nil},
 		{"it is encrypted there", map[byte]string{1: "2", 2: "1"}, func(devices []*Device) { first(devices).Kind = part.KindEncrypted },
-			[]Refusal{of(part.Encrypted, one, "own 0", "the folder is encrypted there")}, nil},
+			[]Refusal{of(part.Encrypted, one, "own 0", "the folder is encrypted there: 'observe' with --passwords reads it")}, nil},
 		{"it is shared encrypted", map[byte]string{1: "2", 2: "1"}, func(devices []*Device) { first(devices).Sharing[0].Encrypted = true },
-			[]Refusal{of(part.Encrypted, two, "called AAAAAAA", "the folder is shared encrypted with it by device own 0 (AAAAAAA)")}, nil},
+			[]Refusal{of(part.Encrypted, two, "called AAAAAAA", "the folder is shared encrypted with it by device own 0 (AAAAAAA): 'observe' with --passwords reads it")}, nil},
 		{"an earlier moment", map[byte]string{1: "2", 2: "1"}, func(devices []*Device) {
 			first(devices).Views = []part.View{{Device: deviceID(9), IndexID: 2, Max: 99}, {Device: two, IndexID: 7, Max: 99}, {Device: two, IndexID: 2, Max: 6}}
 		}, nil, []Refusal{of(part.Moment, two, "own 1", "it is of an earlier moment than 1, which knows of its change 6, and here its last one is 5. To compare all "+
