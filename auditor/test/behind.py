@@ -234,6 +234,7 @@ class NamesThatNoScanTakes(Exporting):
         self.assertTrue((self.one.files / odd).exists())
         ran = self.on_homes("check", [device.home for device in self.devices], "--syncaudit", self.auditor)
         self.assertEqual(ran.returncode, 1, ran.stderr)
+        self.assertEqual(self.foretold()[odd]["fate"], "not-known")
         self.assertIn(f"rename it on {self.one.id[:7]}: its name isn't in Unicode's form NFC, in which Syncthing has names", " ".join(ran.stdout.split()))
         (self.one.files / odd).rename(self.one.files / "another")
         self.start()

@@ -194,6 +194,7 @@ var unknowns = map[string]struct{ why, toKnow string }{
 	"never-told":       {"a device may never tell a change of it", ""},
 	"conflict-copies":  {"it may come to have more conflict copies than are kept", ""},
 	"same-bytes":       {"a device may take its bytes from another name that has the same", ""},
+	"odd-name":         {"the name isn't in Unicode's form NFC, in which Syncthing has names", "rename it, and audit again"},
 	"too-many":         {"more names differ than are looked at", "audit some of the names alone (--names), or mend the first ones and audit again"},
 	"budget":           {"there are too many orders to try", ""},
 	"no-end":           {"in some orders that were tried it came to no end", ""},

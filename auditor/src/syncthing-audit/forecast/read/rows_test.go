@@ -187,6 +187,18 @@ func TestWhatIsNotKnownOfAName(t *testing.T) {
 	}
 }
 
+// What a scan does with a name that isn't in Unicode's form NFC isn't foretold; one at rest isn't told.
+func TestAnOddNameIsNotKnown(t *testing.T) {
+	const odd = "mu\u0308ll"
+	for why, change := range map[Why]func(*join.Row){OddName: func(row *join.Row) { row.At[1].Own, row.At[0] = nil, nil }, "": nil} {
+		rows := NewRows(folderOf(2))
+		rows.Take(calm(odd, change))
+		if rows.Unknown[odd] != why {
+			t.Errorf("%q: %v", why, rows.Unknown)
+		}
+	}
+}
+
 // A name that is left out is counted, and what is below it isn't known.
 func TestWhatIsLeftOut(t *testing.T) {
 	rows := NewRows(folderOf(2))

@@ -2,6 +2,7 @@ package read
 
 import (
 	"golang.org/x/exp/slices"
+	"golang.org/x/text/unicode/norm"
 	"syncthing-audit/choice"
 	"syncthing-audit/forecast"
 	"syncthing-audit/join"
@@ -24,6 +25,7 @@ const (
 	Asked      Why = "names-not-asked"  // not all names were read
 	LeftOut    Why = "left-out"         // something of the name isn't audited
 	Moving     Why = "in-motion"        // it changed while it was looked at
+	OddName    Why = "odd-name"         // it isn't in Unicode's form NFC: a scan renames it, or passes it over
 	Damaged    Why = "damaged"          // a disk fails to give what it has
 	NeverTold  Why = "never-told"       // a device may never tell a change of it
 	Copies     Why = "conflict-copies"  // it may come to have more conflict copies than are kept
@@ -34,7 +36,7 @@ const (
 )
 
 // AllWhys are all of them.
-var AllWhys = []Why{Absent, Unlinked, OverWire, Untried, Untold, Paused, Attributes, Writers, OtherIndex, Asked, LeftOut, Moving, Damaged, NeverTold, Copies,
+var AllWhys = []Why{Absent, Unlinked, OverWire, Untried, Untold, Paused, Attributes, Writers, OtherIndex, Asked, LeftOut, Moving, OddName, Damaged, NeverTold, Copies,
 	Twins, TooMany, Budget, Endless}
 
 // Unknown is why it isn't known what comes of all names of a folder, and of which devices that is.
@@ -128,6 +130,9 @@ func (r *Rows) unknownAt(row *join.Row) Why {
 	}
 	if len(row.Later) > 0 {
 		return Moving
+	}
+	if !norm.NFC.IsNormalString(row.Name) {
+		return OddName
 	}
 	for member, at := range row.At {
 		switch {
