@@ -66,6 +66,14 @@ func TestWhatBecomesOfAName(t *testing.T) {
 	}
 }
 
+// Of a device that isn't audited it is told who shares the folder with it.
+func TestWhoSharesWithADeviceThatIsNotAudited(t *testing.T) {
+	of := &outlook.Outlook{Unknown: []outlook.Group{{Why: "device-left-out", Devices: at(2, 0)}}}
+	if told := WhyUnknown(of, nil, strings.ToLower); told != "a device that isn't audited shares the folder with laptop, phone; to know it, audit that device, too" {
+		t.Error(told)
+	}
+}
+
 // Why a name isn't known is told by its own reason or, of one that isn't listed, by the first one: with all devices of that, and what makes it known.
 func TestWhyANameIsNotKnown(t *testing.T) {
 	of := &outlook.Outlook{Unknown: []outlook.Group{{Why: "paused", Devices: at(2, 0)}, {Why: "budget"}, {Why: "damaged", Devices: at(1)}}}

@@ -5,6 +5,7 @@ import (
 	"time"
 
 	"syncthing-audit/forecast"
+	"syncthing-audit/forecast/read"
 	"syncthing-audit/outlook"
 	"syncthing-audit/outside"
 	"syncthing-audit/shell"
@@ -167,7 +168,10 @@ func (p *Person) notKnown(o *outlook.Outlook) {
 // whyUnknown says why it isn't known what becomes of names, on which devices, and what makes it known.
 func whyUnknown(of *outlook.Group, devices string) string {
 	told := unknowns[of.Why].why
-	if devices != "" {
+	switch {
+	case devices != "" && of.Why == string(read.Absent): // those that are audited
+		told += " with " + devices
+	case devices != "":
 		told += " (" + devices + ")"
 	}
 	if toKnow := unknowns[of.Why].toKnow; toKnow != "" {
@@ -178,23 +182,23 @@ func whyUnknown(of *outlook.Group, devices string) string {
 
 // unknowns say why it isn't known what becomes of a name, and what is to be done for it to be known. Of what is left out nobody can say that.
 var unknowns = map[string]struct{ why, toKnow string }{
-	"device-left-out":  {"the folder is shared with a device that isn't audited", "audit that device, too"},
+	"device-left-out":  {"a device that isn't audited shares the folder", "audit that device, too"},
 	"not-linked":       {"no way leads from one device to all others by those who share the folder with one another", "audit those who share the folder with both"},
 	"over-the-wire":    {"a device was seen over the wire, which doesn't show the times, modes and directories of its disk", "make a part on the device"},
 	"untried-version":  {"this version of Syncthing wasn't compared with the forecast", ""},
 	"options-not-told": {"the part doesn't say which options the folder has; make it anew with this version, or with --config where disks were walked", "make the part anew with this version"},
-	"paused":           {"the folder or a device is paused", "resume it, let it finish, and audit again"},
+	"paused":           {"the folder or a device is paused", "once what is to stay is saved, resume it, let it finish, and audit again"},
 	"attributes":       {"owners or extended attributes are scanned, which the forecast leaves out", ""},
 	"writers":          {"something else of Syncthing writes into the directory", ""},
-	"another-index":    {"another index is known elsewhere, or the index is to be repaired", "start Syncthing on these devices once what no scan has seen is saved, let them finish, and audit again"},
+	"another-index":    {"another index is known elsewhere, or the index is to be repaired", "once what is to stay is saved, start Syncthing on these devices, let them finish, and audit again"},
 	"names-not-asked":  {"not all names of the folder were asked for", "audit the whole folder"},
-	"left-out":         {"something of the name or of a directory above isn't audited", "audit without leaving it out"},
+	"left-out":         {"something of the name or of a directory above isn't audited", "see below why it is left out"},
 	"in-motion":        {"it changed while it was looked at, or between two parts, or waits for a scan", "audit again once it is at rest"},
+	"odd-name":         {"the name isn't in Unicode's form NFC, in which Syncthing has names", "rename it, and audit again"},
 	"damaged":          {"a disk fails to give what it has", "see what the disk still gives, and audit again"},
 	"never-told":       {"a device may never tell a change of it", ""},
 	"conflict-copies":  {"it may come to have more conflict copies than are kept", ""},
 	"same-bytes":       {"a device may take its bytes from another name that has the same", ""},
-	"odd-name":         {"the name isn't in Unicode's form NFC, in which Syncthing has names", "rename it, and audit again"},
 	"too-many":         {"more names differ than are looked at", "audit some of the names alone (--names), or mend the first ones and audit again"},
 	"budget":           {"there are too many orders to try", ""},
 	"no-end":           {"in some orders that were tried it came to no end", ""},

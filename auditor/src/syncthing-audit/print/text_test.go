@@ -60,7 +60,7 @@ if nobody does anything in docs, and all devices scan, then run and reach one an
   1 name stays wrong:
     1 name on server: it only sends, so it doesn't take what the others have
   of 1 name it isn't known what becomes of it:
-    1 name: something of the name or of a directory above isn't audited; to know it, audit without leaving it out
+    1 name: something of the name or of a directory above isn't audited; to know it, see below why it is left out
   of 1 name not all orders were tried: what is said of it holds in all orders tried
 `},
 	{"several of each", outlook.Outlook{Names: 2021, Walked: 2,
