@@ -33,6 +33,23 @@ func TestWhatAHarmedChangeReplacedIsLost(t *testing.T) {
 	}
 }
 
+// A name that is missing on all disks, and that nobody recorded as deleted, doesn't come right: a deletion that no scan has seen goes to all.
+func TestMissingOnAllDisks(t *testing.T) {
+	gone := calm("a", 3, 1)
+	for _, at := range gone.At {
+		at.Disk = nil
+	}
+	if told := outlookOf(folderOf("send-receive", "send-receive", "send-receive"), []*join.Row{gone}); told.Changed != 1 {
+		t.Errorf("%v", countsOf(told))
+	}
+	deleted := *gone.At[1].Own
+	deleted.Deleted, deleted.Content, deleted.Version, deleted.Sequence = true, nil, [][2]uint64{{2, 5}, {9, 1}}, 12
+	gone.At[1].Own = &deleted
+	if told := outlookOf(folderOf("send-receive", "send-receive", "send-receive"), []*join.Row{gone}); told.Changed != 0 {
+		t.Errorf("deleted: %v", countsOf(told))
+	}
+}
+
 // What a recorded empty file replaces is told to be lost, and saved: a scan may have taken a harmed file for a change.
 func TestWhatAnEmptyFileReplacesIsLost(t *testing.T) {
 	row := calm("a", 3, 1)

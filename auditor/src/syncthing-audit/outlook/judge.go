@@ -61,7 +61,7 @@ func (j *judge) name(name *forecast.Name) Name {
 		told.Fate = Depends
 	case len(told.Kept) > 0:
 		told.Fate = Stays
-	case len(j.goesBy(name, byUnscanned)) > 0:
+	case len(j.goesBy(name, byUnscanned)) > 0 || len(told.Ends[0]) == 0 && isMissingEverywhere(name):
 		told.Fate = Changed
 	case len(told.Ends[0]) == 0 && isOnSomeDisk(name):
 		told.Fate = Deleted
@@ -153,6 +153,14 @@ func (j *judge) minority(things []Thing) []int {
 		}
 	}
 	return few
+}
+
+// isMissingEverywhere says whether nothing stands at a name on any disk, while a device has something recorded that no recorded deletion came after.
+func isMissingEverywhere(name *forecast.Name) bool {
+	isThere := func(own *forecast.Record) bool {
+		return isValid(own) && !own.Deleted && !lists.Has(name.Own, func(other *forecast.Record) bool { return isValid(other) && other.Deleted && own.IsBelow(other) })
+	}
+	return !isOnSomeDisk(name) && lists.Has(name.Own, isThere)
 }
 
 func isOnSomeDisk(name *forecast.Name) bool {

@@ -43,7 +43,7 @@ func (f *File) beforeStart(named print.Names) []string {
 		return []string{"before Syncthing starts or scans on any of these devices, copy elsewhere what is to stay"}
 	case f.foretold.is(outlook.Deleted):
 		return []string{"nothing, if " + f.say("it", "they") + " may go. If not, copy " + it + " elsewhere before Syncthing starts on any of these devices"}
-	case f.foretold.is(outlook.Changed):
+	case f.foretold.is(outlook.Changed) && !f.isWithoutCopy():
 		return []string{"nothing, if the " + f.say("change is", "changes are") + " wanted"}
 	case f.foretold.is(outlook.Stays) && !f.isWithoutCopy():
 		return []string{f.toLeave()}

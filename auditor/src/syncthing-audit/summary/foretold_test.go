@@ -76,7 +76,7 @@ var foretoldSo = []struct {
 	{"missing", []*part.Name{file(1, 1), with(file(1, 1), absent)}, []string{"StoreDiffers 2"}, "send-receive",
 		[]string{"if nothing is done: no device has it then; what laptop has now goes.", "then all devices have what laptop has now", "to do: the steps for it above, behind 'to do in'. not"}, "isn't known"},
 	{"missing everywhere", []*part.Name{with(file(1, 1), absent), with(file(1, 1), absent)}, []string{"StoreDiffers 1", "StoreDiffers 2"}, "send-receive",
-		[]string{"if nothing is done: no device has it then.", "to do: look among old versions and backups: no audited device has what is recorded. not"}, "let Syncthing run"},
+		[]string{"1 name takes a change that no scan has seen yet", "if nothing is done: no device has it then.", "to do: look among old versions and backups: no audited device has what is recorded. not"}, "let Syncthing run"},
 	{"rot", []*part.Name{file(1, 1), with(file(1, 1), rotten)}, []string{"StoreDiffers 2"}, "send-receive",
 		[]string{"if nothing is done: laptop keeps what it has; server keeps what it has (server: it has other bytes than recorded", "to do: the steps for it above"}, "to have again"},
 	{"changed", []*part.Name{file(1, 1), changedTo(7)}, []string{"StoreDiffers 2"}, "send-receive",
