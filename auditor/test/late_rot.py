@@ -66,12 +66,19 @@ class RotThatIsFetched(LateRot):
         for device in (self.two, self.three):
             device.start()
         wait_until("the third device has both", lambda: text_of(self.three.files / LOST) and text_of(self.three.files / KEPT))
-        self.one.start()
+        wait_until("the second device has recorded its rot", lambda: self.two.is_in_step_with(self.three) and self.three.is_in_step_with(self.two))
+        self.stop()
+        taken = self.foretold()
+        self.assertEqual([taken[name]["fate"] for name in (KEPT, LOST)], ["right", "lost"], "the first device has the last good copy")
+        entry, _ = self.entry(LOST)
+        self.assertIn(f"{self.label(self.one)}: behind: hasn't taken what is newest: other bytes under the time of its own, as of rot that a scan took", entry)
+        self.start()
         wait_until("the rotten bytes are on all devices", lambda: all(
             text_of(device.files / LOST) == "rotten " + LOST for device in self.devices))
         self.assertEqual([text_of(device.files / KEPT) for device in self.devices], ["binary " + KEPT] * 3)
         self.stop()
         self.assert_came(fates, LOST)
+        self.assert_came(taken, LOST)
 
 
 class RotThatIsFetchedBesideAChange(LateRot):

@@ -62,6 +62,24 @@ func TestWhatAnEmptyFileReplacesIsLost(t *testing.T) {
 	}
 }
 
+// What other recorded bytes replace under the very time is told to be lost, and saved: a scan may have taken rot for a change. Under another time they are an
+// edit, and the same bytes lose nothing.
+func TestWhatOtherBytesUnderOneTimeReplaceIsLost(t *testing.T) {
+	for _, row := range []struct {
+		hash  byte
+		time  int64
+		lost  int64
+		plans string
+	}{{2, 100, 1, "a: save on 0"}, {2, 101, 0, ""}, {1, 100, 0, ""}, {1, 101, 0, ""}} {
+		name := calm("a", 3, 1)
+		changed(name, 1, row.hash, row.time)
+		told := outlookOf(folderOf("send-receive", "send-receive", "send-receive"), []*join.Row{name})
+		if told.Lost != row.lost || shown(told.Plans) != row.plans {
+			t.Errorf("%+v: %v %s", row, countsOf(told), shown(told.Plans))
+		}
+	}
+}
+
 // Where something is on no disk at some end and isn't told to be lost, something came after it: a deletion, or what stands there at that end.
 func TestNothingIsReplacedByNothing(t *testing.T) {
 	gone := 0
@@ -114,7 +132,7 @@ func (j *judge) hasSuccessor(name *forecast.Name, thing Thing) bool {
 			continue
 		}
 		what := name.Disk[member]
-		isRecorded := !isOf(own, thing) && !isEmptied(own, thing) && (own.Deleted || j.survives(name.Name, thingOfRecord(own)))
+		isRecorded := !isOf(own, thing) && !looksHarmed(own, thing) && (own.Deleted || j.survives(name.Name, thingOfRecord(own)))
 		if isRecorded || what != nil && !isOf(own, thingOf(what)) && !isRot(own, what) && what.Content.Size+int64(len(what.Target)) > 0 || what != nil && what.Type != own.Type {
 			return true
 		}

@@ -15,7 +15,7 @@ import (
 // renamed gives a name that one of several devices renamed to another one, where nobody has heard of that, and rots it on some others. Over is whether
 // the other name stood before.
 func renamed(devices, by int, rotten []int, over bool) []*join.Row {
-	from, to := calm("a", devices, 1), calm("b", devices, 2)
+	from, to := calm("a", devices, 1), modifiedAt(50, calm("b", devices, 2))
 	if !over {
 		to = &join.Row{Name: "b", At: make([]*part.Name, devices)}
 		for member := range to.At {
@@ -36,6 +36,17 @@ func renamed(devices, by int, rotten []int, over bool) []*join.Row {
 		from.At[member].Disk.Contents[0].Hash = part.Hash{byte(90 + member)}
 	}
 	return []*join.Row{from, to}
+}
+
+// modifiedAt gives a row at rest another time.
+func modifiedAt(seconds int64, row *join.Row) *join.Row {
+	for _, at := range row.At {
+		at.Own.ModifiedS, at.Disk.ModifiedS = seconds, seconds
+		for _, seen := range at.Views {
+			seen.Record.ModifiedS = seconds
+		}
+	}
+	return row
 }
 
 // Rotten bytes that a device moves to the name that another one gave them have steps: the right bytes are copied to it.

@@ -69,7 +69,7 @@ func comesTo(name *forecast.Name, told *Name) *forecast.Node {
 }
 
 // lastRecorded gives that of some things which is recorded, and after which none of the others was. It gives nothing where a later change was recorded
-// whose bytes are on no disk, or that has none: nobody can tell what is right.
+// whose bytes are on no disk, or that looks harmed: nobody can tell what is right.
 func lastRecorded(name *forecast.Name, things []Thing) *forecast.Node {
 	var found *forecast.Record
 	var node *forecast.Node
@@ -82,7 +82,7 @@ func lastRecorded(name *forecast.Name, things []Thing) *forecast.Node {
 	}
 	for _, own := range name.Own {
 		if found != nil && isValid(own) && !own.Deleted && found.IsBelow(own) &&
-			(nodeOf(name, thingOfRecord(own)) == nil || isEmptied(own, thingOf(node))) {
+			(nodeOf(name, thingOfRecord(own)) == nil || looksHarmed(own, thingOf(node), found)) {
 			return nil
 		}
 	}

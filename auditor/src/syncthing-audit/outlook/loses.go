@@ -49,14 +49,14 @@ func (j *judge) staysIn(bytes []map[forecast.Content]bool, name string, thing Th
 }
 
 // wayOf says what came after something that stands at a name. What no device has recorded nothing can have replaced, and a recorded change whose bytes
-// are harmed has replaced nothing: what was there before it is the best that is left. Neither has an empty file, as in showsChange, nor what looks damaged.
+// are harmed has replaced nothing: what was there before it is the best that is left. Neither has what looks harmed in the record or on a disk.
 func (j *judge) wayOf(name *forecast.Name, thing Thing) way {
 	of := lists.Where(name.Own, func(own *forecast.Record) bool { return isValid(own) && isOf(own, thing) })
 	if len(of) == 0 {
 		return byNothing
 	}
 	for _, own := range name.Own {
-		isKept := isValid(own) && !isOf(own, thing) && (own.Deleted || !isEmptied(own, thing) && j.survives(name.Name, thingOfRecord(own)))
+		isKept := isValid(own) && !isOf(own, thing) && (own.Deleted || !looksHarmed(own, thing, of...) && j.survives(name.Name, thingOfRecord(own)))
 		if isKept && areAll(of, func(record *forecast.Record) bool { return record.IsBelow(own) }) {
 			return byRecord
 		}
@@ -81,7 +81,14 @@ func areAll(records []*forecast.Record, is func(*forecast.Record) bool) bool {
 	return !lists.Has(records, func(record *forecast.Record) bool { return !is(record) })
 }
 
-// isEmptied says whether an empty file is recorded in place of a file's bytes: a scan may have taken a harmed file for a change.
+// looksHarmed says whether what is recorded in place of a file looks like harm that a scan took for a change: it is empty, or has other bytes under the very
+// time of these earlier records.
+func looksHarmed(record *forecast.Record, thing Thing, earlier ...*forecast.Record) bool {
+	isUnderItsTime := func(before *forecast.Record) bool { return before.Time == record.Time }
+	return isEmptied(record, thing) || !record.Deleted && record.Type == forecast.File && thing.Type == forecast.File && record.Content != thing.Content && thing.Content.Size > 0 && lists.Has(earlier, isUnderItsTime)
+}
+
+// isEmptied says whether an empty file is recorded in place of a file's bytes.
 func isEmptied(record *forecast.Record, thing Thing) bool {
 	return !record.Deleted && record.Type == forecast.File && record.Content.Size == 0 && thing.Type == forecast.File && thing.Content.Size > 0
 }

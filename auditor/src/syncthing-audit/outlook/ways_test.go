@@ -121,7 +121,12 @@ func plainWay(judge *judge, name *forecast.Name, thing Thing, kinds []damage.Kin
 		return len(of) > 0
 	}
 	for _, own := range valid {
-		hasBytes := !(own.Type == forecast.File && own.Content.Size == 0 && thing.Type == forecast.File && thing.Content.Size > 0) && judge.survives(name.Name, thingOfRecord(own))
+		isOfOneTime := false
+		for _, before := range of {
+			isOfOneTime = isOfOneTime || before.Time == own.Time
+		}
+		areOtherBytes := own.Type == forecast.File && thing.Type == forecast.File && thing.Content.Size > 0 && own.Content != thing.Content
+		hasBytes := !(areOtherBytes && (own.Content.Size == 0 || isOfOneTime)) && judge.survives(name.Name, thingOfRecord(own))
 		if isAfterAll(own, false) && !isOf(own, thing) && (own.Deleted || hasBytes) {
 			return byRecord
 		}

@@ -146,6 +146,8 @@ func (f *File) adviceOfFault(fault *Fault, named print.Names) string {
 		return f.say("audit it by itself: --names with this name tells more", "audit some of them by themselves: --names with how they begin tells more") + "; parts are made anew with it"
 	case fault.Cause == NotScanned && f.isOdd:
 		return "rename " + f.say("it", "them") + " on " + at + ": " + f.say("its name isn't", "their names aren't") + " in Unicode's form NFC, in which Syncthing has names"
+	case fault.IsOfOneTime && (!f.foretold.isKnown() || f.foretold.is(outlook.Lost)):
+		return "to have again what " + at + " has now: put " + f.say("the saved copy", "the saved copies") + " back once all devices are idle, and 'touch' " + f.say("it", "them")
 	case fault.isUntold:
 		return at + " has heard of later changes of those who have " + f.say("it, and not of this one", "them, and not of these") + ": stop Syncthing on " + at + ", and " + resetDeltas
 	case len(fault.sources) > 0 && (fault.isHarm() || fault.Cause == Changed) && !fault.Damage.MayBeOfRecord() && !f.foretold.hasGoal() && (!f.foretold.isKnown() || f.foretold.is(outlook.Changed) || fault.Damage != damage.None):

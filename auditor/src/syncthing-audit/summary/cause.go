@@ -66,8 +66,10 @@ type Fault struct {
 	Found    *State      `json:"found,omitempty"`  // on its disk
 	Damage   damage.Kind `json:"damage,omitempty"` // why what stands on the disk looks like damage, and not like an edit
 	Blocks   *Blocks     `json:"blocks,omitempty"`
-	Reasons  []string    `json:"reasons"`       // in syncaudit's words
-	Why      string      `json:"why,omitempty"` // of Damaged: the system's words
+	Reasons  []string    `json:"reasons"` // in syncaudit's words
+	// Of Behind: what is due has other bytes, under the very time of what the device recorded. Rot that a scan took looks so.
+	IsOfOneTime bool   `json:"under_one_time,omitempty"`
+	Why         string `json:"why,omitempty"` // of Damaged: the system's words
 	// Other devices on whose disks the very bytes stand that the device recorded, at their time.
 	sources    []string
 	at         *part.Name   // all that the device has of the name, if that was kept
@@ -149,6 +151,15 @@ func blocksOf(at *part.Name) *Blocks {
 // isCutOtherwise says whether a device has the winner's bytes on its disk and in its record, cut into blocks otherwise.
 func isCutOtherwise(at *part.Name, winner *part.Record) bool {
 	return at != nil && at.Own != nil && at.Own.Content != nil && at.Disk != nil && !at.HasOtherBytes() && winner.Content != nil && slices.Contains(at.Disk.Contents, *winner.Content)
+}
+
+// isOfOneTime says whether two records of a file have other bytes under one time. Of the same bytes, cut into blocks of another size, the hashes tell nothing.
+func isOfOneTime(own, due *part.Record) bool {
+	if own == nil || due == nil || own.Deleted || due.Deleted || own.Content == nil || due.Content == nil || own.Content.Size == 0 {
+		return false
+	}
+	isSameCut := own.Content.Size == due.Content.Size && own.Content.BlockSize != due.Content.BlockSize
+	return own.ModifiedS == due.ModifiedS && own.ModifiedNs == due.ModifiedNs && *own.Content != *due.Content && !isSameCut
 }
 
 // has says whether this is so of some fault.

@@ -253,6 +253,7 @@ func (r *reader) add(member int, cause Cause) {
 		}
 		fault.sources = r.sourcesOf(member)
 		fault.isTied = cause == Behind && r.isTied(at)
+		fault.IsOfOneTime = cause == Behind && isOfOneTime(at.Own, r.winner)
 	}
 	fault.isUntold = cause == Behind && !fault.isTied && r.isUntold(member)
 	fault.Deletion = cause == Behind && fault.lacksDeletion() ||

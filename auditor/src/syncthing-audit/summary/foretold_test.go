@@ -64,6 +64,10 @@ func shareAll(answer *finding.Answer) {
 	}
 }
 
+func minuteBefore(at *part.Name) {
+	at.Own.ModifiedS, at.Disk.ModifiedS = at.Own.ModifiedS-60, at.Disk.ModifiedS-60
+}
+
 // foretoldSo are cases with all that an entry says of what happens and what to do.
 var foretoldSo = []struct {
 	why     string
@@ -84,9 +88,12 @@ var foretoldSo = []struct {
 			"to have again what server recorded, copy elsewhere what stands there, if it may be right, and copy it from laptop to server with its time alone"}, "isn't known"},
 	{"emptied", []*part.Name{file(1, 1), with(file(1, 1), afterwards(emptied))}, []string{"StoreDiffers 2"}, "send-receive",
 		[]string{"looks damaged", "if nothing is done: all devices then have what server has now", "to do: the steps for it above, behind 'to do in'. not"}, "if the change is wanted"},
-	{"behind", []*part.Name{file(2, 2), file(1, 1)}, []string{"RecordDiffers 2", "StoreDiffers 2"}, "send-receive",
+	{"behind", []*part.Name{file(2, 2), with(file(1, 1), minuteBefore)}, []string{"RecordDiffers 2", "StoreDiffers 2"}, "send-receive",
 		[]string{"if nothing is done: all devices then have what laptop has now; what server has now goes.", "to do: nothing: let Syncthing run on all of these devices until it is idle",
 			"if not, see whether a device or the folder is paused"}, "isn't known"},
+	{"behind with other bytes under the time of its own", []*part.Name{file(2, 2), file(1, 1)}, []string{"RecordDiffers 2", "StoreDiffers 2"}, "send-receive",
+		[]string{"1 name loses something that stands on a disk now", "1. on server: copy it elsewhere, if it is to stay", "to do: the steps for it above, behind 'to do in', which save what is to stay. to do: to have again what server has now: put"},
+		"let Syncthing run"},
 	{"deleted", []*part.Name{with(with(file(2, 2), again), absent), file(1, 1)}, []string{"RecordDiffers 2", "StoreDiffers 2"}, "send-receive",
 		[]string{"to do: nothing, if it may go. If not, copy it elsewhere before Syncthing starts on any of these devices"}, "isn't known"},
 	{"behind on a device that only sends", []*part.Name{file(2, 2), file(1, 1)}, []string{"RecordDiffers 2", "StoreDiffers 2"}, sendOnly,

@@ -36,7 +36,7 @@ type Group struct {
 // canBeTold says whether a name may be told with others: where all that is wrong with it asks for the same everywhere.
 func (f *File) canBeTold() bool {
 	return !f.has(func(fault *Fault) bool {
-		return fault.Cause != f.Faults[0].Cause || !kinds[fault.Cause].canFold || fault.isTied || len(f.Permissions) > 0
+		return fault.Cause != f.Faults[0].Cause || !kinds[fault.Cause].canFold || fault.isTied || fault.IsOfOneTime || len(f.Permissions) > 0
 	})
 }
 
@@ -45,7 +45,7 @@ func (f *File) canBeTold() bool {
 func (f *folding) keyOf(file *File) string {
 	key, many := fmt.Sprint(file.danger(), file.Permissions, file.Have, file.isOfAnotherTime, file.Same, file.isOfNobody()), file.asMany()
 	for _, fault := range file.Faults {
-		key += fmt.Sprint(" ", fault.Device, fault.Cause, fault.Kind, fault.Deletion, fault.isTied, fault.isWithout(), fault.Damage, fault.lacksDeletion())
+		key += fmt.Sprint(" ", fault.Device, fault.Cause, fault.Kind, fault.Deletion, fault.isTied, fault.IsOfOneTime, fault.isWithout(), fault.Damage, fault.lacksDeletion())
 		if fault.Cause == Changed {
 			key += fault.types()
 		}

@@ -94,6 +94,8 @@ func wordsOfFaults(faults []*Fault, isMany bool) string {
 		return "other bytes on the disk, of the recorded size: rot, or an edit that no scan has taken" + fault.ofDamage()
 	case fault.isTied:
 		return "has something else under the same version"
+	case fault.IsOfOneTime:
+		return kinds[Behind].words + ": other bytes under the time of its own, as of rot that a scan took"
 	case fault.Cause == Behind && fault.Deletion:
 		return "behind: hasn't deleted " + it + " yet"
 	case fault.isWithout():

@@ -139,6 +139,18 @@ a  (in docs, 300.0 kB)
   to do: before Syncthing starts or scans on any of these devices, copy elsewhere what is to stay of
          what stands on laptop, server.
 ` + lastLine},
+	{"a device that is behind with other bytes under the time of its own", 2, func(folder *finding.Folder) {
+		fails(folder, "a", []*part.Name{file(2, 1), file(1, 2)}, "RecordDiffers 2", "StoreDiffers 2")
+	}, lineOfFolder + `
+a  (in docs, 300.0 kB)
+  server: behind: hasn't taken what is newest: other bytes under the time of its own, as of rot that a scan took (modified 2020-09-13 12:26:40 UTC)
+  as recorded on: laptop
+  if nothing is done: it isn't known what happens: nothing is foretold of it.
+  to do: before Syncthing starts or scans on any of these devices, copy elsewhere what is to stay of
+         what stands on laptop, server.
+  to do: to have again what server has now: put the saved copy back once all devices are idle, and
+         'touch' it.
+` + lastLine},
 	{"a device that is behind as a whole", 2, func(folder *finding.Folder) {
 		for next := 0; next < 7; next++ {
 			row := []*part.Name{file(1, 1), nil}
