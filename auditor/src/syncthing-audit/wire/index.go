@@ -46,13 +46,15 @@ func (t *taker) take(text []byte, isUpdate bool) error {
 	batch, highest := new(leveldb.Batch), t.index.Highest
 	if !isUpdate {
 		highest = 0
-		if err := t.index.clear(batch); err != nil {
-			return err
-		}
 	}
 	highest, err := t.read(text, highest, batch)
 	if err != nil {
 		return badlyIf("its index", err)
+	}
+	if !isUpdate {
+		if err := t.index.clear(); err != nil {
+			return err
+		}
 	}
 	return t.index.write(batch, highest)
 }

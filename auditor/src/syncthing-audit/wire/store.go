@@ -8,6 +8,7 @@ import (
 
 	"github.com/syndtr/goleveldb/leveldb"
 	ldberrors "github.com/syndtr/goleveldb/leveldb/errors"
+	"github.com/syndtr/goleveldb/leveldb/iterator"
 	"github.com/syndtr/goleveldb/leveldb/opt"
 	"github.com/syndtr/goleveldb/leveldb/storage"
 	"github.com/syndtr/goleveldb/leveldb/util"
@@ -110,24 +111,40 @@ func (i *Index) write(batch *leveldb.Batch, highest int64) error {
 	return nil
 }
 
-// clear has a batch take away all records.
-func (i *Index) clear(batch *leveldb.Batch) error {
+// mostCleared is how many bytes of names are taken away at once.
+const mostCleared = 1 << 20
+
+// clear takes away all records, a few at a time: a device may have sent any number of them. From its begin on nothing counts as had.
+func (i *Index) clear() error {
+	batch := new(leveldb.Batch)
+	if err := i.write(batch, 0); err != nil {
+		return err
+	}
+	batch.Reset()
 	all := i.db.NewIterator(util.BytesPrefix([]byte(prefixOfNames)), nil)
 	defer all.Release()
 	for all.Next() {
-		batch.Delete(all.Key())
+		if batch.Delete(all.Key()); len(batch.Dump()) < mostCleared {
+			continue
+		}
+		if err := i.db.Write(batch, nil); err != nil {
+			return err
+		}
+		batch.Reset()
 	}
-	return all.Error()
+	if err := all.Error(); err != nil {
+		return err
+	}
+	return i.db.Write(batch, nil)
 }
 
 // begin begins an index of this id, of which nothing is had.
 func (i *Index) begin(id uint64) error {
-	batch := new(leveldb.Batch)
-	if err := i.clear(batch); err != nil {
+	if err := i.clear(); err != nil {
 		return err
 	}
 	i.ID = id
-	return i.write(batch, 0)
+	return i.write(new(leveldb.Batch), 0)
 }
 
 // snapshot gives the index as it is now. It is closed with the index.
@@ -163,6 +180,36 @@ func (i *Index) Each(take func(device.Entry) error) error {
 		}
 	}
 	return all.Error()
+}
+
+// Names go through the names of an index, rising.
+type Names struct {
+	all   iterator.Iterator
+	isEnd bool
+}
+
+// Names begins at the first name.
+func (i *Index) Names() *Names {
+	names := &Names{all: i.read.NewIterator(util.BytesPrefix([]byte(prefixOfNames)), nil)}
+	names.Next()
+	return names
+}
+
+// Name gives the name at which they are, and whether there is one.
+func (n *Names) Name() (string, bool) {
+	if n.isEnd {
+		return "", false
+	}
+	return string(n.all.Key()[len(prefixOfNames):]), true
+}
+
+// Next goes on.
+func (n *Names) Next() { n.isEnd = !n.all.Next() }
+
+// Close lets go of the index, and says what couldn't be read of it.
+func (n *Names) Close() error {
+	defer n.all.Release()
+	return n.all.Error()
 }
 
 // Count counts the names.
