@@ -3,9 +3,11 @@ package observe
 import (
 	"context"
 	"errors"
+	"fmt"
 	"os"
 	"path/filepath"
 	"reflect"
+	"runtime"
 	"strings"
 	"testing"
 
@@ -318,5 +320,45 @@ func TestWhatWasKeptCannotBeRead(t *testing.T) {
 	kept.last.Close()
 	if from, err := kept.WentBackFrom(); err == nil {
 		t.Errorf("%d", from)
+	}
+}
+
+// However many names came between the looks, they take no memory.
+func TestManyNamesBetweenTheLooks(t *testing.T) {
+	const names, bytesOfAName = 20000, 1000
+	folder, directory, records := seenIn(t, "docs", nil), t.TempDir(), [][]byte{}
+	var err error
+	if folder.since, err = wire.OpenIndex(directory); err != nil {
+		t.Fatal(err)
+	}
+	for at := 0; at < names; at++ {
+		records = append(records, fileOf(fmt.Sprintf("%05d", at)+strings.Repeat("x", bytesOfAName-5), uint64(at+1), true))
+	}
+	if err := folder.since.Put(records...); err != nil {
+		t.Fatal(err)
+	}
+	records = nil
+	folder.since.Close()
+	if folder.since, err = wire.OpenIndex(directory); err != nil {
+		t.Fatal(err)
+	}
+	defer folder.since.Close()
+	inUse := func() int64 {
+		var memory runtime.MemStats
+		runtime.GC()
+		runtime.ReadMemStats(&memory)
+		return int64(memory.HeapAlloc)
+	}
+	before, count := inUse(), 0
+	err = folder.each(asked, func(*part.Name) error {
+		if count++; count == 1 {
+			if more := inUse() - before; more > names*bytesOfAName*3/4 { // LevelDB keeps 8 MiB
+				t.Errorf("%d bytes more are in use at the first name", more)
+			}
+		}
+		return nil
+	})
+	if err != nil || count != names {
+		t.Errorf("%d names, %v", count, err)
 	}
 }

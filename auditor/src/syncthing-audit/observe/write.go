@@ -52,12 +52,8 @@ func (f *Folder) lines(asked Asked, highest int64, isLast bool, take part.Sink) 
 
 // each gives the lines of all names that were asked for, in the order of a part: names that are too long for one stand behind all others.
 func (f *Folder) each(asked Asked, take func(*part.Name) error) error {
-	news, err := f.news()
-	if err != nil {
-		return err
-	}
 	long := []*part.Name{}
-	tell := func(entry device.Entry) error {
+	err := f.eachEntry(func(entry device.Entry) error {
 		if !asked.Names.Has(f.ID(), entry.Name) {
 			return nil
 		}
@@ -70,19 +66,7 @@ func (f *Folder) each(asked Asked, take func(*part.Name) error) error {
 			err = take(line)
 		}
 		return err
-	}
-	err = f.index.Each(func(entry device.Entry) error {
-		for len(news) > 0 && news[0] < entry.Name {
-			if err := tell(device.Entry{Name: news[0]}); err != nil {
-				return err
-			}
-			news = news[1:]
-		}
-		return tell(entry)
 	})
-	for ; err == nil && len(news) > 0; news = news[1:] {
-		err = tell(device.Entry{Name: news[0]})
-	}
 	sort.Slice(long, func(a, b int) bool { return long[a].Name < long[b].Name })
 	for at := 0; err == nil && at < len(long); at++ {
 		err = take(long[at])
@@ -90,17 +74,35 @@ func (f *Folder) each(asked Asked, take func(*part.Name) error) error {
 	return err
 }
 
-// news gives the names that came between the looks, rising.
-func (f *Folder) news() ([]string, error) {
-	names := []string{}
-	err := f.since.Each(func(entry device.Entry) error {
-		_, is, err := f.index.Get(entry.Name)
-		if err == nil && !is {
-			names = append(names, entry.Name)
+// eachEntry gives what the index of the first look has, and between these, by their names alone, what came between the looks, rising. A device may send
+// any number of such names, so they are read one by one.
+func (f *Folder) eachEntry(take func(device.Entry) error) error {
+	news := f.since.Names()
+	takeNews := func(isBefore func(name string) bool) error {
+		for name, is := news.Name(); is && isBefore(name); name, is = news.Name() {
+			if err := take(device.Entry{Name: name}); err != nil {
+				return err
+			}
+			news.Next()
 		}
-		return err
+		return nil
+	}
+	err := f.index.Each(func(entry device.Entry) error {
+		if err := takeNews(func(name string) bool { return name < entry.Name }); err != nil {
+			return err
+		}
+		if name, is := news.Name(); is && name == entry.Name { // it came again
+			news.Next()
+		}
+		return take(entry)
 	})
-	return names, err
+	if err == nil {
+		err = takeNews(func(string) bool { return true })
+	}
+	if failed := news.Close(); err == nil {
+		err = failed
+	}
+	return err
 }
 
 // line gives what was seen of a name.
