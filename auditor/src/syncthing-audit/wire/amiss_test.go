@@ -53,6 +53,15 @@ func responseOf(id, code uint64, data string) []byte {
 	return message.AppendNumber(message.AppendText(message.AppendNumber(nil, responseID, id), responseData, []byte(data)), responseCode, code)
 }
 
+// A device that ends a connection behind its Hello may not know the observer: whose id it is that it lacks is told.
+func TestADeviceThatDoesNotKnowTheObserver(t *testing.T) {
+	observer := newObserver(t)
+	err := refusalOf(observer, newFake(t, (*fake).hello), short())
+	if due := "it may not know the observer (" + observer.ID.String()[:7] + ")"; !errors.Is(err, Closed) || !strings.Contains(err.Error(), due) {
+		t.Error(err)
+	}
+}
+
 // What a device answers amiss to a request ends the look at its bytes, and is told as what it is. An answer of a code alone has no length.
 func TestAnswersThatAreAmiss(t *testing.T) {
 	observer := newObserver(t)

@@ -2,6 +2,7 @@ package wire
 
 import (
 	"crypto/subtle"
+	"errors"
 	"fmt"
 	"sort"
 
@@ -42,8 +43,11 @@ func (c *Connection) Shared(folder string) *Shared {
 // there, or that is encrypted with another password, isn't answered: the device would log that, and offer the folder to its user.
 func (o *Observer) agree(c *Connection, look Look) error {
 	what, text, err := readFrame(c.stream, c.limits.Message, func() {})
+	if err = ended(err); errors.Is(err, Closed) {
+		return fmt.Errorf("%w by the device behind its Hello: it may not know the observer (%s), or have paused it: see its page", Closed, o.ID.String()[:7])
+	}
 	if err != nil {
-		return ended(err)
+		return err
 	}
 	if what != kindClusterConfig {
 		return fmt.Errorf("%w: a message of kind %d where a ClusterConfig is due", BadMessage, what)
