@@ -6,6 +6,7 @@ import (
 	"path/filepath"
 	"sort"
 
+	"github.com/syncthing/syncthing/lib/protocol"
 	"syncthing-audit/answering"
 	"syncthing-audit/ask"
 	"syncthing-audit/fault"
@@ -30,7 +31,7 @@ func (o *observing) write() (map[string]string, error) {
 	}
 	files := map[string]string{}
 	for _, device := range seen {
-		path := filepath.Join(o.room, device.ID.String()[:7]+".part")
+		path := filepath.Join(o.room, fileOf(device.ID, seen))
 		to, err := target.Of(path)
 		if err != nil {
 			return nil, err
@@ -43,6 +44,19 @@ func (o *observing) write() (map[string]string, error) {
 		files[path] = given[device]
 	}
 	return files, nil
+}
+
+// fileOf gives the name of a device's part: the first letters of its id, by which a person knows it, or all of them where another one's begin alike, as
+// whoever makes ids for a while can have it.
+func fileOf(id protocol.DeviceID, all []*observe.Device) string {
+	const extension = ".part"
+	letters := id.String()[:7]
+	for _, other := range all {
+		if other.ID != id && other.ID.String()[:7] == letters {
+			return id.String() + extension
+		}
+	}
+	return letters + extension
 }
 
 // leavesOut gives what is left out of the answer: devices that failed on the way, too. What the next look is asked for stays as it is.

@@ -6,8 +6,10 @@ import (
 	"testing"
 	"time"
 
+	"github.com/syncthing/syncthing/lib/protocol"
 	"syncthing-audit/ask"
 	"syncthing-audit/exit"
+	"syncthing-audit/observe"
 )
 
 // The time between the looks is that of the observer's own clock. A part that can't be read is told by what its device was given as.
@@ -69,5 +71,26 @@ func TestAWalkWithoutAnIndex(t *testing.T) {
 	}
 	if err := meeting.waitForDisks(); err == nil {
 		t.Error("it goes on")
+	}
+}
+
+// Each device has a file of its own, also where somebody made an id that begins as another one's.
+func TestWhichFilesPartsHave(t *testing.T) {
+	first, alike, other := protocol.DeviceID{0: 1, 7: 1}, protocol.DeviceID{0: 1, 7: 2}, protocol.DeviceID{0: 9}
+	for _, row := range []struct {
+		of   protocol.DeviceID
+		all  []protocol.DeviceID
+		name string
+	}{
+		{first, []protocol.DeviceID{first}, first.String()[:7] + ".part"}, {first, []protocol.DeviceID{other, first}, first.String()[:7] + ".part"},
+		{first, []protocol.DeviceID{other, first, alike}, first.String() + ".part"}, {alike, []protocol.DeviceID{first, alike}, alike.String() + ".part"},
+	} {
+		devices := []*observe.Device{}
+		for _, id := range row.all {
+			devices = append(devices, &observe.Device{ID: id})
+		}
+		if name := fileOf(row.of, devices); name != row.name {
+			t.Errorf("%s of %v", name, row.all)
+		}
 	}
 }
