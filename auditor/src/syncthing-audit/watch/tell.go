@@ -9,6 +9,7 @@ import (
 	"strings"
 	"syscall"
 	"time"
+	"unicode"
 
 	"syncthing-audit/outside"
 )
@@ -89,14 +90,20 @@ func mail(to, subject, text string, log io.Writer) error {
 // longestLine is how many bytes a line of a mail may have, with some to spare: RFC 5322 has 998, and mail servers refuse more. A name may have more.
 const longestLine = 900
 
-// body gives a mail's text behind its last header: encoded, where a line is too long to be sent as it is.
+// body gives a mail's text behind its last header: encoded, where a line is too long to be sent as it is. Without a word on that a mail is of ASCII alone.
 func body(text string) string {
-	isLong := false
+	isLong, isASCII := false, true
 	for _, line := range strings.Split(text, "\n") {
 		isLong = isLong || len(line) > longestLine
 	}
-	if !isLong {
+	for _, letter := range text {
+		isASCII = isASCII && letter <= unicode.MaxASCII
+	}
+	switch {
+	case !isLong && isASCII:
 		return "\n" + text
+	case !isLong:
+		return "Content-Transfer-Encoding: 8bit\n\n" + text
 	}
 	var whole strings.Builder
 	whole.WriteString("Content-Transfer-Encoding: quoted-printable\n\n")

@@ -33,10 +33,11 @@ func mailed(t *testing.T, text string) (head, rest string) {
 	return head, rest
 }
 
-// A mail has no line that a mail server refuses, however long a name is, and its text is what was told.
+// A mail has no line that a mail server refuses, however long a name is, and its text is what was told. Its head says how other letters than ASCII's are sent.
 func TestLinesOfAMail(t *testing.T) {
-	for _, text := range []string{"", "a\n", "é = 1\n", strings.Repeat("x", longestLine) + "\n"} {
-		if head, rest := mailed(t, text); rest != text || strings.Contains(head, "Encoding") {
+	for text, isPlain := range map[string]bool{"": true, "a\n": true, strings.Repeat("x", longestLine) + "\n": true, "é = 1\n": false} {
+		head, rest := mailed(t, text)
+		if rest != text || strings.Contains(head, "Encoding") == isPlain || strings.Contains(head, "\nContent-Transfer-Encoding: 8bit") == isPlain {
 			t.Errorf("%q: %s, %q", text, head, rest)
 		}
 	}
