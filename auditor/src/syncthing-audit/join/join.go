@@ -175,16 +175,7 @@ func (d *Device) end(about *part.Folder) (*part.End, error) {
 func (d *Device) Label() string { return "device " + d.Called() }
 
 // Called gives what a person calls a device: its configured name and its id.
-func (d *Device) Called() string {
-	short := d.Head.Device
-	if len(short) > 7 {
-		short = short[:7]
-	}
-	if d.Head.Name == "" {
-		return short
-	}
-	return fmt.Sprintf("%s (%s)", shell.Printable(d.Head.Name), short)
-}
+func (d *Device) Called() string { return shell.Device(d.Head.Name, d.Head.Device) }
 
 // Rows gives the rows of a folder, rising by name, and then how many bytes were hashed. Folders are asked for in the
 // order of their ids.

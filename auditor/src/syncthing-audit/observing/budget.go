@@ -114,7 +114,7 @@ func (o *observing) printWaiting(output io.Writer) error {
 func (o *observing) called(number uint64) string {
 	for _, device := range o.devices {
 		if device != nil && part.Number(device.ID.String()) == number {
-			return fmt.Sprintf("%s (%s)", shell.Printable(device.Hello.Name), device.ID.String()[:7])
+			return shell.Device(device.Hello.Name, device.ID.String())
 		}
 	}
 	return strconv.FormatUint(number, 10)

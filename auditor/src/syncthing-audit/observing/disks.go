@@ -126,8 +126,8 @@ func (o *observing) tellCommand(at int) error {
 		directory = "each folder's directory"
 	}
 	command := commandOfHalf(looks.Token(device.ID.String(), o.lookID), folders, filepath.Base(path), sizes, o.asked.Names.Flags())
-	outside.Printf(o.log, "syncthing-audit: now on %s (%s), with %s in place of DIR:\n  %s\nsyncthing-audit: waiting for that file at %s\n",
-		shell.Printable(device.Hello.Name), device.ID.String()[:7], directory, command, shell.Quoted(path))
+	outside.Printf(o.log, "syncthing-audit: now on %s, with %s in place of DIR:\n  %s\nsyncthing-audit: waiting for that file at %s\n",
+		shell.Device(device.Hello.Name, device.ID.String()), directory, command, shell.Quoted(path))
 	return nil
 }
 
