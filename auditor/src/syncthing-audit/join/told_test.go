@@ -46,6 +46,8 @@ func TestEachRefusalOfAPlanIsToldWhole(t *testing.T) {
 		{"in order", map[byte]string{1: "2", 2: "1"}, func([]*Device) {}, nil, nil},
 		{"a part is missing, and two devices name it", map[byte]string{1: "23", 2: "13"}, func([]*Device) {},
 			[]Refusal{of(part.Absent, three, "called AAAAAAA", "it shares the folder, and no home or part of it is given ("+three+"). If it is an observer, which keeps no files, give --observer and this id")}, nil},
+		{"it isn't asked", map[byte]string{1: "3"}, func(devices []*Device) { devices[0].Head.Wire = part.NewWire(deviceID(9), false) },
+			[]Refusal{of(part.Absent, three, "called AAAAAAA", "it shares the folder, and isn't among the devices that were asked ("+three+")")}, nil},
 		{"it isn't shared back", map[byte]string{1: "2", 2: ""}, func([]*Device) {},
 			[]Refusal{of(part.Unshared, two, "own 1", "it doesn't share the folder with device own 0 (AAAAAAA), which shares it with this one")}, nil},
 		{"its part hasn't the folder", map[byte]string{1: "2", 2: "1"}, func(devices []*Device) { devices[1].Head.Folders, devices[1].Head.Others = nil, []part.Other{} },

@@ -80,6 +80,9 @@ func (p *Plan) whyAbsent(device string) string {
 	if why := p.unreached[device]; why != "" {
 		return why
 	}
+	if slices.IndexFunc(p.Devices, func(device *Device) bool { return !device.Head.IsOverWire() }) < 0 { // 'observe' has no --observer, and needs none
+		return "it shares the folder, and isn't among the devices that were asked (" + device + ")"
+	}
 	return "it shares the folder, and no home or part of it is given (" + device + "). If it is an observer, which keeps no files, give --observer and this id"
 }
 
