@@ -15,8 +15,10 @@ const receiveOnly = "receive-only"
 func adviceOf(file *File, named print.Names) []string {
 	advice := append(file.withoutCopy(named), file.beforeStart(named)...)
 	for _, fault := range file.Faults {
-		if told := file.adviceOfFault(fault, named); told != "" {
-			advice = print.AddOnce(advice, told)
+		for _, told := range []string{file.adviceOfFault(fault, named), file.afterSaving(fault, named)} {
+			if told != "" {
+				advice = print.AddOnce(advice, told)
+			}
 		}
 	}
 	if len(file.Faults) == 0 && len(file.Permissions) > 0 {
@@ -133,6 +135,14 @@ func (f *File) withoutCopy(named print.Names) []string {
 	return []string{told}
 }
 
+// afterSaving says how what was saved before other bytes came under its very time comes back, as a change that all take.
+func (f *File) afterSaving(fault *Fault, named print.Names) string {
+	if !fault.IsOfOneTime || f.foretold.isKnown() && !f.foretold.is(outlook.Lost) {
+		return ""
+	}
+	return "to have again what " + named(fault.Device) + " has now: put " + f.say("the saved copy", "the saved copies") + " back once all devices are idle, and 'touch' " + f.say("it", "them")
+}
+
 // adviceOfFault says what a fault asks for by itself.
 func (f *File) adviceOfFault(fault *Fault, named print.Names) string {
 	at := named(fault.Device)
@@ -146,8 +156,6 @@ func (f *File) adviceOfFault(fault *Fault, named print.Names) string {
 		return f.say("audit it by itself: --names with this name tells more", "audit some of them by themselves: --names with how they begin tells more") + "; parts are made anew with it"
 	case fault.Cause == NotScanned && f.isOdd:
 		return "rename " + f.say("it", "them") + " on " + at + ": " + f.say("its name isn't", "their names aren't") + " in Unicode's form NFC, in which Syncthing has names"
-	case fault.IsOfOneTime && (!f.foretold.isKnown() || f.foretold.is(outlook.Lost)):
-		return "to have again what " + at + " has now: put " + f.say("the saved copy", "the saved copies") + " back once all devices are idle, and 'touch' " + f.say("it", "them")
 	case fault.isUntold:
 		return at + " has heard of later changes of those who have " + f.say("it, and not of this one", "them, and not of these") + ": stop Syncthing on " + at + ", and " + resetDeltas
 	case len(fault.sources) > 0 && (fault.isHarm() || fault.Cause == Changed) && !fault.Damage.MayBeOfRecord() && !f.foretold.hasGoal() && (!f.foretold.isKnown() || f.foretold.is(outlook.Changed) || fault.Damage != damage.None):

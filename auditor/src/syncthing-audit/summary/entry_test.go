@@ -90,7 +90,7 @@ func TestManyDeletions(t *testing.T) {
 	answer := answerOf(2, func(folder *finding.Folder) {
 		deleted := func(at *part.Name) { at.Own.Deleted, at.Own.Content, at.Disk = true, nil, nil }
 		for next := 0; next < 40; next++ {
-			fails(folder, fmt.Sprintf("c/%02d", next), []*part.Name{file(2, 1), file(1, 2)}, "RecordDiffers 2", "StoreDiffers 2")
+			fails(folder, fmt.Sprintf("c/%02d", next), []*part.Name{file(2, 1), with(file(1, 2), minuteBefore)}, "RecordDiffers 2", "StoreDiffers 2")
 			fails(folder, fmt.Sprintf("d/%02d", next), []*part.Name{with(file(2, 1), deleted), file(1, 2)}, "RecordDiffers 2", "StoreDiffers 2")
 		}
 	})
@@ -121,8 +121,8 @@ func TestManyConflicts(t *testing.T) {
 		}
 		deleted := func(at *part.Name) { other(at); at.Own.Deleted, at.Own.Content, at.Disk = true, nil, nil }
 		for next := 0; next < 40; next++ {
-			fails(folder, fmt.Sprintf("c/%02d", next), []*part.Name{file(2, 1), with(file(1, 2), other), file(1, 3)}, "RecordDiffers 2", "RecordDiffers 3")
-			fails(folder, fmt.Sprintf("d/%02d", next), []*part.Name{file(2, 1), with(file(1, 2), deleted), file(1, 3)}, "RecordDiffers 2", "RecordDiffers 3")
+			fails(folder, fmt.Sprintf("c/%02d", next), []*part.Name{file(2, 1), with(file(1, 2), other), with(file(1, 3), minuteBefore)}, "RecordDiffers 2", "RecordDiffers 3")
+			fails(folder, fmt.Sprintf("d/%02d", next), []*part.Name{file(2, 1), with(file(1, 2), deleted), with(file(1, 3), minuteBefore)}, "RecordDiffers 2", "RecordDiffers 3")
 		}
 	})
 	var written strings.Builder

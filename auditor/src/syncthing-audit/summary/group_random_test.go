@@ -88,7 +88,7 @@ func TestNamesThatBecomeOtherThingsAreNotOneGroup(t *testing.T) {
 	answer := answerOf(2, func(folder *finding.Folder) {
 		for number := 0; number <= mostAlone; number++ {
 			other := byte(10 + 3*number)
-			fails(folder, fmt.Sprint("changed ", number), []*part.Name{file(2, other), file(1, other+1)}, "RecordDiffers 2", "StoreDiffers 2")
+			fails(folder, fmt.Sprint("changed ", number), []*part.Name{file(2, other), with(file(1, other+1), minuteBefore)}, "RecordDiffers 2", "StoreDiffers 2")
 			fails(folder, fmt.Sprint("new ", number), []*part.Name{file(2, other+2), nil}, "RecordMissing 2", "StoreDiffers 2")
 		}
 	})
