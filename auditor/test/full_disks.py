@@ -14,7 +14,7 @@ from large_folders import rot
 from watched import Nights
 
 NO_SPACE = "no space left on device"
-NEW = "\nnew: 00000/07.bin in docs: StoreDiffers\n"
+NEW = "\nnew: 00000/07.bin in docs on device1: StoreDiffers\n"
 PAGE = 4096
 
 
@@ -68,7 +68,7 @@ class FullDisks(Nights):
         self.assertEqual(self.tonight(elements)[::2], (1, ""))
         self.mends()
         status, _, mails = self.tonight(elements)
-        self.assertEqual((status, mails.count("\nmended: 00000/07.bin in docs: StoreDiffers\n")), (0, 1), mails)
+        self.assertEqual((status, mails.count("\nmended: 00000/07.bin in docs on device1: StoreDiffers\n")), (0, 1), mails)
         self.assertEqual(self.tonight(elements)[::2], (0, ""))
 
     def test_the_disk_of_the_history(self):

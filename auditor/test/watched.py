@@ -103,7 +103,7 @@ class Watched(Nights):
         try:
             status, text, mails = self.night()
             self.assertEqual((status, self.subjects(mails)), (1, ["NOT in step, with news"]), self.printed)
-            self.assertIn("\nnew: 00000/07.bin in docs: StoreDiffers\n", mails)
+            self.assertIn("\nnew: 00000/07.bin in docs on device1: StoreDiffers\n", mails)
             self.assertIn("\n  device1: other bytes on the disk", mails)
             status, text, mails = self.night()
             self.assertEqual((status, mails), (1, ""))
@@ -111,7 +111,7 @@ class Watched(Nights):
         finally:
             undo()
         status, _, mails = self.night()
-        self.assertEqual((status, "\nmended: 00000/07.bin in docs: StoreDiffers\n" in mails), (0, True), mails)
+        self.assertEqual((status, "\nmended: 00000/07.bin in docs on device1: StoreDiffers\n" in mails), (0, True), mails)
         self.assertEqual(self.night()[::2], (0, ""))
 
     def test_a_machine_that_is_off(self):
@@ -127,7 +127,7 @@ class Watched(Nights):
             status, _, mails = self.night(both)
         finally:
             undo()
-        self.assertEqual((status, "\nnew: 00000/03.bin in docs: StoreDiffers\n" in mails), (1, True))
+        self.assertEqual((status, "\nnew: 00000/03.bin in docs on device2: StoreDiffers\n" in mails), (1, True))
         self.night(both)
         self.assertIn("\nno device and no folder is left out any more\n", self.night()[2])
 
@@ -136,7 +136,7 @@ class Watched(Nights):
         self.night()
         undo, home = rot(self.room / "made/device2/files/00000/03.bin", 5), self.homes[1]
         try:
-            self.assertIn("\nnew: 00000/03.bin in docs: StoreDiffers\n", self.night()[2])
+            self.assertIn("\nnew: 00000/03.bin in docs on device2: StoreDiffers\n", self.night()[2])
             home.rename(home.with_name("away"))
             try:
                 status, _, mails = self.night()
@@ -149,7 +149,7 @@ class Watched(Nights):
             self.assertEqual(self.night()[::2], (1, ""))
         finally:
             undo()
-        self.assertIn("\nmended: 00000/03.bin in docs: StoreDiffers\n", self.night()[2])
+        self.assertIn("\nmended: 00000/03.bin in docs on device2: StoreDiffers\n", self.night()[2])
 
     def test_a_home_that_cannot_be_read(self):
         """It is left out with why, in one line: its certificate says whose it is."""

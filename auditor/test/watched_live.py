@@ -46,7 +46,7 @@ class WatchedLive(Live):
         with rot(self.two.files / "folder" / "large", 1000):
             status, subject, text = self.night()
             self.assertEqual((status, subject), (1, "NOT in step, with news"))
-            self.assertIn(f"new: folder/large in {FOLDER}: StoreDiffers\n", text)
+            self.assertIn(f"new: folder/large in {FOLDER} on {self.two.id[:7]}: StoreDiffers\n", text)
             self.assertEqual(self.night(), (1, "", ""))
             (self.one.files / "made tonight").write_text("no scan has seen it")
             try:
@@ -54,7 +54,7 @@ class WatchedLive(Live):
             finally:
                 (self.one.files / "made tonight").unlink()
         status, subject, text = self.night()
-        self.assertEqual((status, subject, f"mended: folder/large in {FOLDER}: StoreDiffers\n" in text), (0, "in step, with news", True), text)
+        self.assertEqual((status, subject, f"mended: folder/large in {FOLDER} on {self.two.id[:7]}: StoreDiffers\n" in text), (0, "in step, with news", True), text)
         self.assertEqual(self.night(), (0, "", ""))
 
     def test_an_edit_at_night_silences_nothing(self):
@@ -66,7 +66,7 @@ class WatchedLive(Live):
                 status, _, text = self.night()
         finally:
             self.scan_and_wait()
-        self.assertEqual((status, f"new: folder/large in {FOLDER}: StoreDiffers\n" in text), (1, True), text)
+        self.assertEqual((status, f"new: folder/large in {FOLDER} on {self.two.id[:7]}: StoreDiffers\n" in text), (1, True), text)
         self.assertIn("in motion: 1, NOT audited, of which no scan has seen: 1 is changed\n", text)
 
 

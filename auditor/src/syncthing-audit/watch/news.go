@@ -5,6 +5,7 @@ import (
 
 	"syncthing-audit/history"
 	"syncthing-audit/outside"
+	"syncthing-audit/print"
 	"syncthing-audit/shell"
 	"syncthing-audit/summary"
 )
@@ -19,7 +20,7 @@ type Limits map[string]int
 // News says what an answer has that the one before it hadn't, and no longer, a line each. Parts of different moments are told once two nights in a row
 // have them: an edit at night makes such.
 func News(told *summary.Summary, isOfParts bool, before Limits) ([]string, Limits) {
-	lines := faults(told.Since)
+	lines := faults(told.Since, told.Called())
 	now := Limits{}
 	add := func(what summary.LeftOut, called, why string, nights int) {
 		key := fmt.Sprintf("%s\x00%s\x00%s\x00%s", called, what.Folder, what.Device, what.Kind)
@@ -62,7 +63,7 @@ func placeOf(folder, device string) string {
 }
 
 // faults says which faults are new, and which are mended.
-func faults(since *history.Since) []string {
+func faults(since *history.Since, called print.Names) []string {
 	lines := []string{}
 	if since == nil {
 		return lines
@@ -75,7 +76,11 @@ func faults(since *history.Since) []string {
 			if place == mostNews {
 				break
 			}
-			lines = append(lines, outside.Sprintf("%s: %s in %s: %s", kind.called, shell.Path(string(fault.Name)), shell.Folder(fault.Folder, ""), fault.Reason))
+			on := ""
+			if fault.Device != "" {
+				on = " on " + called(fault.Device)
+			}
+			lines = append(lines, outside.Sprintf("%s: %s in %s%s: %s", kind.called, shell.Path(string(fault.Name)), shell.Folder(fault.Folder, ""), on, fault.Reason))
 		}
 		if kind.all.Count > mostNews {
 			lines = append(lines, outside.Sprintf("%s: %d more", kind.called, kind.all.Count-mostNews))

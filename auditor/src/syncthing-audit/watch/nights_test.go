@@ -88,7 +88,7 @@ func TestNewsOfFaults(t *testing.T) {
 	list := func(count int) history.List {
 		made := history.List{Count: int64(count)}
 		for number := 0; number < count && number < 12; number++ {
-			made.First = append(made.First, history.Told{Folder: "docs", Name: "a", Reason: "other-bytes"})
+			made.First = append(made.First, history.Told{Folder: "docs", Name: "a", Device: "NAS", Reason: "other-bytes"})
 		}
 		return made
 	}
@@ -96,7 +96,7 @@ func TestNewsOfFaults(t *testing.T) {
 		told, _ := News(&summary.Summary{Since: &history.Since{New: list(count), Lasting: list(5), Unasked: list(5)}}, false, nil)
 		expected := []string{}
 		for number := 0; number < count && number < 10; number++ {
-			expected = append(expected, "new: a in docs: other-bytes")
+			expected = append(expected, "new: a in docs on NAS: other-bytes")
 		}
 		if more != "" {
 			expected = append(expected, more)
@@ -106,7 +106,7 @@ func TestNewsOfFaults(t *testing.T) {
 		}
 	}
 	told, _ := News(&summary.Summary{Since: &history.Since{Mended: list(1), Unkept: "no room"}}, false, nil)
-	if !reflect.DeepEqual(told, []string{"mended: a in docs: other-bytes", "the history doesn't have all of this night: no room"}) {
+	if !reflect.DeepEqual(told, []string{"mended: a in docs on NAS: other-bytes", "the history doesn't have all of this night: no room"}) {
 		t.Errorf("%q", told)
 	}
 }
