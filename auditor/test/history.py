@@ -73,7 +73,7 @@ class RotThatSpread(History):
         ran = self.audit()
         self.assertEqual(ran.returncode, 6, ran.stderr)
         self.assertIn("1 file has other bytes than before on all devices that have it, under one time and size", ran.stdout)
-        self.assertRegex(ran.stdout, r"  text in docs: its bytes changed between .* on \w{7}, \w{7}\. If nobody changed it, 'syncthing-audit find'")
+        self.assertRegex(ran.stdout, r"  text in docs: its bytes changed between .* on \w{7}, \w{7}\. If nobody changed it, look .*: syncthing-audit find --history \S+ --folder docs text DIR\.")
         self.assertIn("new: text in docs (BytesChangedEverywhere), since", ran.stdout)
         told, = self.since()[0]["bytes_changed_everywhere"]
         self.assertEqual((told["name"], told["size"], sorted(told["devices"])), ("text", 5, sorted(device.id for device in self.devices)))

@@ -21,6 +21,7 @@ import (
 // Remembering keeps what an audit reads and finds in a history, where one was asked for.
 type Remembering struct {
 	History *history.History
+	in      string // its directory
 	watch   *history.Watch
 	tees    []*history.Tee
 	Waiting []history.Waiting // what isn't read yet
@@ -47,7 +48,7 @@ func Remember(directory string, read *inputs.Inputs) (*Remembering, error) {
 		kept.Close()
 		return nil, fault.Of(err)
 	}
-	remembering := &Remembering{History: kept, watch: watch}
+	remembering := &Remembering{History: kept, in: directory, watch: watch}
 	for _, device := range read.Devices {
 		tee := kept.Tee(device.Stream, watch)
 		device.Stream = tee
@@ -119,7 +120,7 @@ func (r *Remembering) keep(answer *finding.Answer, now time.Time) (*history.Sinc
 	if err != nil {
 		return nil, fault.Of(err)
 	}
-	since.Unkept, since.Waiting = strings.Join(unkept, "; "), r.Waiting
+	since.Unkept, since.Waiting, since.Directory = strings.Join(unkept, "; "), r.Waiting, r.in
 	return since, nil
 }
 

@@ -25,6 +25,8 @@ type Since struct {
 	Read    []Read     `json:"read"`
 	Waiting []Waiting  `json:"not_read_yet,omitempty"`
 	Unkept  string     `json:"not_kept,omitempty"` // why the history doesn't have all of this audit
+
+	Directory string `json:"-"` // of the history
 }
 
 // List has the first of some faults, and counts all.
