@@ -137,7 +137,7 @@ func (p *plain) why(row *join.Row) Why {
 	if len(row.Later) > 0 {
 		return Moving
 	}
-	for member, at := range row.At {
+	for _, at := range row.At {
 		if at == nil {
 			continue
 		}
@@ -154,6 +154,11 @@ func (p *plain) why(row *join.Row) Why {
 		}
 		if len(at.Moved) > 0 || at.Receiving != "" {
 			return Moving
+		}
+	}
+	for member, at := range row.At {
+		if at == nil {
+			continue
 		}
 		if own := at.Own; own != nil {
 			if own.Invalid && own.Local == nil {

@@ -172,6 +172,7 @@ var unknownNames = []struct {
 	{Damaged, func(row *join.Row) { row.At[1].Disk.Lost = "a bad sector" }},
 	{Damaged, func(row *join.Row) { row.At[1].Disk.Unread, row.At[0].Disk = 7, nil }},
 	{Moving, func(row *join.Row) { row.At[1].Receiving, row.At[0].Disk = ".syncthing.a.tmp", nil }},
+	{Moving, func(row *join.Row) { row.At[1].Moved, row.At[1].Views = []string{"record"}, nil }},
 	{NeverTold, func(row *join.Row) { row.At[1].Own.Version = [][2]uint64{{1, 2}} }},
 	{NeverTold, func(row *join.Row) { row.At[1].Own.Invalid = true }},
 }

@@ -134,7 +134,7 @@ func (r *Rows) unknownAt(row *join.Row) Why {
 	if !norm.NFC.IsNormalString(row.Name) {
 		return OddName
 	}
-	for member, at := range row.At {
+	for _, at := range row.At {
 		switch {
 		case at == nil:
 		case at.IsDamaged() || at.Disk != nil && at.Disk.Unread > 0:
@@ -143,7 +143,10 @@ func (r *Rows) unknownAt(row *join.Row) Why {
 			return LeftOut
 		case len(at.Moved) > 0 || at.Receiving != "":
 			return Moving
-		case at.Own != nil && at.Own.Invalid && at.Own.Local == nil || r.isNeverTold(member, row):
+		}
+	}
+	for member, at := range row.At { // of what is in motion or left out no view is there
+		if at != nil && (at.Own != nil && at.Own.Invalid && at.Own.Local == nil || r.isNeverTold(member, row)) {
 			return NeverTold
 		}
 	}
