@@ -77,6 +77,7 @@ var looking = []struct {
 	has       string
 	isDamaged bool
 }{
+	{"a byte longer later", afterwards(func(at *part.Name) { at.Disk.Size++; at.Disk.Contents[0].Size++ }), "server: changed on the disk since the last scan: 300,000 bytes recorded, 300,001 bytes on the disk (modified", false},
 	{"emptied at the recorded time", emptied, "server: looks damaged: 300.0 kB recorded, 0 bytes on the disk: EMPTY (modified", true},
 	{"emptied later", afterwards(emptied), "server: looks damaged: 300.0 kB recorded, 0 bytes on the disk: EMPTY (modified", true},
 	{"cut at the recorded time", resized, "server: looks damaged: 300.0 kB recorded, 1.0 kB on the disk: cut short under the recorded time (modified", true},

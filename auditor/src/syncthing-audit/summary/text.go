@@ -138,13 +138,22 @@ func wordsOfChanged(faults []*Fault) string {
 		words = "looks damaged"
 	}
 	if recorded != found {
-		words += ": " + size(recorded) + " recorded, " + size(found) + " on the disk"
+		words += ": " + sizes(recorded, found)
 	}
 	words += faults[0].ofDamage()
 	if why.MayBeOfRecord() {
 		words += ": nobody can tell which bytes are the right ones"
 	}
 	return words
+}
+
+// sizes tell two sizes that differ: to the byte where they read alike otherwise.
+func sizes(recorded, found int64) string {
+	tell := size
+	if size(recorded) == size(found) {
+		tell = func(bytes int64) string { return counted(bytes, "byte", "bytes") }
+	}
+	return tell(recorded) + " recorded, " + tell(found) + " on the disk"
 }
 
 // since says when a file was modified, as far as that is known, or why its disk fails to give it.
