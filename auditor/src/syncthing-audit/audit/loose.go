@@ -52,7 +52,7 @@ func hasOneVersion(row *join.Row) bool {
 			return false
 		}
 		for _, seen := range name.Views {
-			if !is(seen.Record) {
+			if seen.Record != name.Own && !is(seen.Record) {
 				return false
 			}
 		}

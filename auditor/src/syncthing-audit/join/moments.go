@@ -86,7 +86,7 @@ func (f *Folder) addLater(row *Row) {
 		for _, seen := range at.Views {
 			view := f.Members[knower].About.Views[seen.View]
 			of := f.Member(view.Device)
-			if of >= 0 && view.IndexID == f.Members[of].About.IndexID && seen.Record.Sequence > f.Members[of].About.Max {
+			if of >= 0 && view.IndexID == f.Members[of].About.IndexID && seen.Sequence() > f.Members[of].About.Max {
 				isLater[of] = true
 			}
 		}

@@ -229,8 +229,9 @@ type seen struct {
 func (r *reading) viewsOf(name *part.Name, folder string) map[string]seen {
 	views := map[string]seen{}
 	for _, view := range name.Views {
-		of := r.Head().Folder(folder).Views[view.View]
-		views[of.Device] = seen{of.IndexID, *view.Record}
+		of, record := r.Head().Folder(folder).Views[view.View], *view.Record
+		record.Sequence = view.Sequence()
+		views[of.Device] = seen{of.IndexID, record}
 	}
 	return views
 }

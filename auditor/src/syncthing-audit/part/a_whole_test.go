@@ -3,6 +3,7 @@ package part
 import (
 	"bytes"
 	"io"
+	"reflect"
 	"testing"
 	"time"
 
@@ -98,6 +99,21 @@ func readAll(data []byte) (*Reader, []Line, error) {
 		}
 		lines = append(lines, line)
 	}
+}
+
+// areOne says whether lines are one, however each view has a record that is the own one.
+func areOne(lines, others []Line) bool {
+	return reflect.DeepEqual(allShortened(lines), allShortened(others))
+}
+
+func allShortened(lines []Line) []Line {
+	short := append([]Line(nil), lines...)
+	for place := range short {
+		if name := short[place].Name; name != nil {
+			short[place].Name = shortened(name)
+		}
+	}
+	return short
 }
 
 // looking makes a part one of a first look, with this id.

@@ -24,7 +24,7 @@ func FuzzPackedParts(f *testing.F) {
 		change(whole)
 		text := unzipped(f, whole.written(f))
 		seed := text[len(begin)+2 : len(text)-len(Hash{})-len(trailerFrame(2, 5))]
-		if _, lines, err := readAll(framed(seed, 2, 5)); err != nil || !reflect.DeepEqual(lines, whole.lines) {
+		if _, lines, err := readAll(framed(seed, 2, 5)); err != nil || !areOne(lines, whole.lines) {
 			f.Fatal(err)
 		}
 		f.Add(seed, uint64(2), uint64(5))
@@ -40,7 +40,7 @@ func FuzzPackedParts(f *testing.F) {
 			return
 		}
 		anew, found, err := readAll((&aWhole{read.Head(), lines}).written(t))
-		if err != nil || !reflect.DeepEqual(read.Head(), anew.Head()) || !reflect.DeepEqual(lines, found) {
+		if err != nil || !reflect.DeepEqual(read.Head(), anew.Head()) || !areOne(lines, found) {
 			t.Errorf("%v\n%+v\n%+v", err, lines, found)
 		}
 	})

@@ -207,7 +207,7 @@ func checkName(name *Name, in *Folder, hasBytes bool) error {
 			return fmt.Errorf("the views of %s aren't in their places", shell.Path(string(name.Name)))
 		}
 		last = seen.View
-		if err := checkRecord(seen.Record, in.Views[seen.View].Max); err != nil {
+		if err := checkSeen(seen, in.Views[seen.View].Max); err != nil {
 			return fmt.Errorf("a view of %s: %w", shell.Path(string(name.Name)), err)
 		}
 	}
@@ -229,11 +229,28 @@ func checkName(name *Name, in *Folder, hasBytes bool) error {
 	return nil
 }
 
+// checkSequence says why a sequence is none of an index or view.
+func checkSequence(sequence, greatest int64) error {
+	if sequence < 1 || sequence > greatest {
+		return fmt.Errorf("its sequence %d isn't 1 to %d", sequence, greatest)
+	}
+	return nil
+}
+
+// checkSeen says why a record in a view is none. The own one is checked by itself.
+func checkSeen(seen *Seen, greatest int64) error {
+	if seen.Same != 0 {
+		return checkSequence(seen.Same, greatest)
+	}
+	return checkRecord(seen.Record, greatest)
+}
+
 // checkRecord says why a record is none.
 func checkRecord(record *Record, greatest int64) error {
+	if err := checkSequence(record.Sequence, greatest); err != nil {
+		return err
+	}
 	switch {
-	case record.Sequence < 1 || record.Sequence > greatest:
-		return fmt.Errorf("its sequence %d isn't 1 to %d", record.Sequence, greatest)
 	case !IsType(record.Type):
 		return fmt.Errorf("its type is %d", record.Type)
 	case (record.Content != nil) != (isFile(record.Type) && !record.Deleted):

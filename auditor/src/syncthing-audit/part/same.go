@@ -16,7 +16,7 @@ func shortened(name *Name) *Name {
 	for place, seen := range name.Views {
 		copied.Views[place] = seen
 		if isSame(name.Own, seen.Record) {
-			copied.Views[place] = Seen{View: seen.View, Same: seen.Record.Sequence}
+			copied.Views[place] = Seen{View: seen.View, Same: seen.Sequence()}
 		}
 	}
 	return &copied
@@ -39,7 +39,6 @@ func isEqual[Any comparable](one, other *Any) bool {
 
 // lengthen gives each view of a name its record.
 func lengthen(name *Name) error {
-	var records []Record // of all views
 	for place := range name.Views {
 		seen := &name.Views[place]
 		switch {
@@ -50,12 +49,7 @@ func lengthen(name *Name) error {
 		case name.Own == nil:
 			return errors.New("a view has the own record, and there is none")
 		}
-		if cap(records) == len(records) {
-			records = make([]Record, 0, len(name.Views)-place)
-		}
-		records = append(records, *name.Own)
-		seen.Record = &records[len(records)-1]
-		seen.Record.Sequence, seen.Same = seen.Same, 0
+		seen.Record = name.Own
 	}
 	return nil
 }

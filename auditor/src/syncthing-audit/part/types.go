@@ -211,11 +211,19 @@ type Name struct {
 }
 
 // Seen is a record in a view. Most records are the own one with another sequence. In a part they are written so. In memory
-// the record is always there.
+// the record is always there: where it is the own one, Same is its sequence in the view.
 type Seen struct {
 	View   int     `json:"view"`           // the place among the folder's views
 	Same   int64   `json:"same,omitempty"` // the sequence of a record that is the own one but for it
 	Record *Record `json:"record,omitempty"`
+}
+
+// Sequence gives the record's sequence in the view.
+func (s *Seen) Sequence() int64 {
+	if s.Same != 0 {
+		return s.Same
+	}
+	return s.Record.Sequence
 }
 
 // Record is an entry of an index, as it goes over the wire.

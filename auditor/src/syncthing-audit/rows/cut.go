@@ -59,8 +59,9 @@ func (c *cut) takeSequences(row *join.Row) *part.LeftOut {
 		if name.Own != nil {
 			free = c.members[at].own.take(name.Own.Sequence) && free
 		}
-		for _, seen := range name.Views {
-			free = c.members[at].views[seen.View].take(seen.Record.Sequence) && free
+		for place := range name.Views {
+			seen := &name.Views[place]
+			free = c.members[at].views[seen.View].take(seen.Sequence()) && free
 		}
 	}
 	if free {

@@ -18,9 +18,10 @@ type row struct {
 	isKnown bool // whether anything holds the name: a node, an own record, or one in a view that others may take
 }
 
-// writtenRecord is a record with where it is written.
+// writtenRecord is a record with its sequence in an index or view, and with where it is written.
 type writtenRecord struct {
-	*part.Record
+	record                       *part.Record
+	number                       int64
 	begin, sequence, behind, end int
 }
 
@@ -93,25 +94,26 @@ func (r *row) addRecords(of *cut, at int, name *part.Name) {
 	*made = cell{member: at, views: made.views[:0]}
 	r.isKnown = r.isKnown || name.Own != nil || name.Disk != nil
 	if name.Own != nil {
-		made.own = r.placeOf(name.Own)
+		made.own = r.placeOf(name.Own, name.Own.Sequence)
 	}
-	for _, known := range name.Views {
+	for place := range name.Views {
+		known := &name.Views[place]
 		if of.members[at].views[known.View].number != 0 {
 			r.isKnown = r.isKnown || !known.Record.Invalid
-			made.views = append(made.views, seen{known.View, r.placeOf(known.Record)})
+			made.views = append(made.views, seen{known.View, r.placeOf(known.Record, known.Sequence())})
 		}
 	}
 }
 
-// placeOf gives the place of a record, which is written where it isn't there yet.
-func (r *row) placeOf(record *part.Record) int {
+// placeOf gives the place of a record with a sequence, which is written where it isn't there yet.
+func (r *row) placeOf(record *part.Record, sequence int64) int {
 	for place := range r.records {
-		other := r.records[place].Record
-		if record == other || record.Sequence == other.Sequence && isOneButForSequence(record, other) {
+		other := &r.records[place]
+		if sequence == other.number && isOneButForSequence(record, other.record) {
 			return place + 1
 		}
 	}
-	made := writtenRecord{Record: record}
+	made := writtenRecord{record: record, number: sequence}
 	if count := len(r.records); count > 0 {
 		r.text(",")
 		r.addBehind(&made, &r.records[count-1])
@@ -125,15 +127,15 @@ func (r *row) placeOf(record *part.Record) int {
 // addFirst writes a record.
 func (r *row) addFirst(made *writtenRecord) {
 	made.begin = len(r.written)
-	r.addUntilSequence(made.Record)
+	r.addUntilSequence(made.record)
 	r.addSequence(made)
-	r.addBehindSequence(made.Record)
+	r.addBehindSequence(made.record)
 	made.end = len(r.written)
 }
 
 // addBehind writes a record behind another one. Mostly it is that one but for its sequence, so the text is copied.
 func (r *row) addBehind(made, other *writtenRecord) {
-	if !isOneButForSequence(made.Record, other.Record) {
+	if !isOneButForSequence(made.record, other.record) {
 		r.addFirst(made)
 		return
 	}
@@ -146,13 +148,13 @@ func (r *row) addBehind(made, other *writtenRecord) {
 
 func (r *row) addSequence(made *writtenRecord) {
 	made.sequence = len(r.written)
-	r.written = strconv.AppendInt(r.written, made.Sequence, 10)
+	r.written = strconv.AppendInt(r.written, made.number, 10)
 	made.behind = len(r.written)
 }
 
 // isOneButForSequence says whether a row says the same of two records, but for their sequences.
 func isOneButForSequence(one, other *part.Record) bool {
-	return one.Type == other.Type && one.ModifiedS == other.ModifiedS && one.ModifiedNs == other.ModifiedNs && one.ModifiedBy == other.ModifiedBy &&
+	return one == other || one.Type == other.Type && one.ModifiedS == other.ModifiedS && one.ModifiedNs == other.ModifiedNs && one.ModifiedBy == other.ModifiedBy &&
 		one.Deleted == other.Deleted && one.Invalid == other.Invalid && one.Target == other.Target && slices.Equal(one.Version, other.Version) &&
 		(one.Content == other.Content || one.Content != nil && other.Content != nil && *one.Content == *other.Content)
 }

@@ -12,7 +12,7 @@ import (
 func recordOf(withBytes bool, record *part.Record) string {
 	made := &row{writer: writer{withBytes: withBytes}}
 	made.begin("a")
-	return string(made.record(made.placeOf(record)))
+	return string(made.record(made.placeOf(record, record.Sequence)))
 }
 
 // A record's block size is the one for the length of the file that the document has: of its bytes, or of a stand-in.

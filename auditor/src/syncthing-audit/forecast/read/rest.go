@@ -62,13 +62,14 @@ func isOne(a, b *part.Record) bool {
 	return !a.Invalid && !b.Invalid && a.Deleted == b.Deleted && a.Type == b.Type && a.Target == b.Target && isSameContent && slices.Equal(a.Version, b.Version)
 }
 
-// knowsAtRest says whether a device knows of each other one's own record.
+// knowsAtRest says whether a device knows of each other one's own record. Its own one, if there is one, is what is due.
 func (r *Rows) knowsAtRest(member int, row *join.Row, due *part.Record) bool {
 	known := 0
-	if row.At[member] != nil {
-		for _, seen := range row.At[member].Views {
+	if at := row.At[member]; at != nil {
+		for _, seen := range at.Views {
 			if other := r.viewed[member][seen.View]; other >= 0 {
-				if !isOne(seen.Record, due) || !hasOwn(row.At[other]) {
+				isDue := seen.Record == at.Own || isOne(seen.Record, due)
+				if !isDue || !hasOwn(row.At[other]) {
 					return false
 				}
 				known++
