@@ -9,6 +9,7 @@ import (
 	"github.com/syncthing/syncthing/lib/protocol"
 	"syncthing-audit/ask"
 	"syncthing-audit/exit"
+	"syncthing-audit/fixture/stranger"
 	"syncthing-audit/observe"
 )
 
@@ -92,5 +93,31 @@ func TestWhichFilesPartsHave(t *testing.T) {
 		if name := fileOf(row.of, devices); name != row.name {
 			t.Errorf("%s of %v", name, row.all)
 		}
+	}
+}
+
+// What a device says of its folder and its devices costs its own part alone, also where no part has such. The other device is answered for.
+func TestALiarOfWhichThereIsNoPart(t *testing.T) {
+	here := newWorld(t, 2, map[string]string{"a": "text"})
+	lie := func(change func(state *stranger.State)) {
+		here.devices[1].Change(func(state *stranger.State) {
+			state.IndexID, state.Others = 2, nil
+			change(state)
+		})
+	}
+	another := func(number int) protocol.Device {
+		return protocol.Device{ID: protocol.DeviceID{9, byte(number), byte(number >> 8)}, Name: strings.Repeat("n", 1000), IndexID: 7, MaxSequence: 1}
+	}
+	for why, change := range map[string]func(state *stranger.State){
+		"an index without an id": func(state *stranger.State) { state.IndexID = 0 },
+		"a device twice":         func(state *stranger.State) { state.Others = []protocol.Device{another(1), another(1)} },
+		"very many devices": func(state *stranger.State) {
+			for number := 0; number < 1500; number++ {
+				state.Others = append(state.Others, another(number))
+			}
+		},
+	} {
+		lie(change)
+		here.expect(why, exit.Partial, "docs: in step as far as seen over the wire", "on device a")
 	}
 }

@@ -9,7 +9,8 @@ import (
 // of them by each other one would take hours then.
 const (
 	mostFolders = 10000 // and as many others
-	mostPeers   = 1000  // devices of one folder
+
+	MostPeers = 1000 // devices of one folder
 )
 
 // checkMany says of which folders or devices a head has too many.
@@ -19,14 +20,14 @@ func checkMany(head *Head) error {
 	}
 	for _, folder := range head.Folders {
 		for _, count := range []int{len(folder.Sharing), len(folder.Views), len(folder.PausedDevices), len(folder.Writers)} {
-			if count > mostPeers {
-				return fmt.Errorf("folder %q has %d devices or what writes into it, and at most %d go into a part", folder.ID, count, mostPeers)
+			if count > MostPeers {
+				return fmt.Errorf("folder %q has %d devices or what writes into it, and at most %d go into a part", folder.ID, count, MostPeers)
 			}
 		}
 	}
 	for _, other := range head.Others {
-		if len(other.Devices) > mostPeers {
-			return fmt.Errorf("folder %q has %d devices, and at most %d go into a part", other.ID, len(other.Devices), mostPeers)
+		if len(other.Devices) > MostPeers {
+			return fmt.Errorf("folder %q has %d devices, and at most %d go into a part", other.ID, len(other.Devices), MostPeers)
 		}
 	}
 	return nil

@@ -42,8 +42,8 @@ func TestWhatAPartMayHave(t *testing.T) {
 		},
 		"the last folder has nothing": func(w *aWhole) { w.lines[6].End.ToIgnore = 3 },
 		"as many devices as there may be": func(w *aWhole) {
-			w.head.Folders[0].Writers = make([]string, mostPeers)
-			w.head.Others[0].Devices = manyDevices(mostPeers)
+			w.head.Folders[0].Writers = make([]string, MostPeers)
+			w.head.Others[0].Devices = manyDevices(MostPeers)
 		},
 	} {
 		whole := aPart()
@@ -265,9 +265,9 @@ func TestAHeadThatIsTooLarge(t *testing.T) {
 	for told, change := range map[string]func(head *Head){
 		"it is of 10001 folders, and has 2 others": func(head *Head) { head.Folders = make([]Folder, mostFolders+1) },
 		"it is of 2 folders, and has 10001 others": func(head *Head) { head.Others = make([]Other, mostFolders+1) },
-		`folder "docs" has 1001 devices`:           func(head *Head) { head.Folders[0].Sharing = make([]Sharing, mostPeers+1) },
-		`folder "pics" has 1001 devices`:           func(head *Head) { head.Folders[1].PausedDevices = make([]string, mostPeers+1) },
-		`folder "z" has 1001 devices`:              func(head *Head) { head.Others[1].Devices = manyDevices(mostPeers + 1) },
+		`folder "docs" has 1001 devices`:           func(head *Head) { head.Folders[0].Sharing = make([]Sharing, MostPeers+1) },
+		`folder "pics" has 1001 devices`:           func(head *Head) { head.Folders[1].PausedDevices = make([]string, MostPeers+1) },
+		`folder "z" has 1001 devices`:              func(head *Head) { head.Others[1].Devices = manyDevices(MostPeers + 1) },
 	} {
 		head := aPart().head
 		change(head)

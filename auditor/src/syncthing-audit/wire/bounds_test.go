@@ -117,9 +117,15 @@ func TestBoundsOfAHello(t *testing.T) {
 
 // What a device says of its folders is read up to each limit, of those that are asked for, each once, with all that it says.
 func TestBoundsOfAConfiguration(t *testing.T) {
-	id := protocol.DeviceID{7}
+	id, last := protocol.DeviceID{7}, protocol.DeviceID{7, 4}
 	device := func(sequence uint64, token string) []byte {
-		text := message.AppendText(message.AppendText(nil, deviceID, id[:]), deviceName, []byte("nas"))
+		of := id
+		if sequence == 1 || sequence == 4 {
+			of = last
+		} else if sequence == 2 {
+			of[2] = 2
+		}
+		text := message.AppendText(message.AppendText(nil, deviceID, of[:]), deviceName, []byte("nas"))
 		return message.AppendText(message.AppendNumber(message.AppendNumber(text, deviceSequence, sequence), deviceIndexID, 4), deviceToken, []byte(token))
 	}
 	folder := func(id string, more ...[]byte) []byte {
@@ -153,6 +159,7 @@ func TestBoundsOfAConfiguration(t *testing.T) {
 		"an id with a zero byte": {config(folder("a\x00")), nil, "", BadMessage},
 		"a zero byte as an id":   {config(folder("\x00")), nil, "", BadMessage},
 		"two devices":            {config(folder("a", device(0, ""), device(1, ""))), nil, "a", nil},
+		"one of them twice":      {config(folder("a", device(0, ""), device(0, ""))), nil, "a", nil},
 		"three devices":          {config(folder("a", device(0, ""), device(1, ""), device(2, ""))), nil, "", TooManyDevices},
 		"a sequence below 0":     {config(folder("a", device(1<<63, ""))), nil, "", BadMessage},
 		"no device's id":         {config(folder("a", message.AppendText(nil, deviceID, id[:31]))), nil, "", BadMessage},
@@ -171,7 +178,7 @@ func TestBoundsOfAConfiguration(t *testing.T) {
 		folderPaused: func(f *Folder) bool { return f.Paused }} {
 		for value := uint64(0); value < 2; value++ {
 			read, err := folderOf(message.AppendNumber(folder("a", device(3, "token"), device(4, "")), flag, value), 9)
-			if err != nil || is(read) != (value == 1) || read.Label != "Label" || len(read.Devices) != 2 || read.Devices[0] != (Sharing{id, "nas", 4, 3, true}) || read.Devices[1] != (Sharing{id, "nas", 4, 4, false}) {
+			if err != nil || is(read) != (value == 1) || read.Label != "Label" || len(read.Devices) != 2 || read.Devices[0] != (Sharing{id, "nas", 4, 3, true}) || read.Devices[1] != (Sharing{last, "nas", 4, 4, false}) {
 				t.Errorf("%d, %d: %+v, %v", flag, value, read, err)
 			}
 			if flags := map[bool]int{}; err == nil {
@@ -189,6 +196,9 @@ func TestBoundsOfAConfiguration(t *testing.T) {
 		if err != nil || !reflect.DeepEqual(*read, due) {
 			t.Errorf("type %d: %+v, %v", value, read, err)
 		}
+	}
+	if read, err := folderOf(folder("a", device(0, ""), device(0, "")), 9); err != nil || len(read.Devices) != 1 {
+		t.Errorf("a device twice: %+v, %v", read, err)
 	}
 	agreed := &Folder{Devices: []Sharing{{Device: id, IndexID: 4}}}
 	if sharing, is := agreed.Of(id); !is || sharing.IndexID != 4 {

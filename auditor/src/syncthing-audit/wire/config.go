@@ -121,9 +121,9 @@ func (f *Folder) takeType(value uint64) {
 	f.OtherType = value > typeReceiveEncrypted
 }
 
-// folderOf reads what is said of a folder.
+// folderOf reads what is said of a folder, and of its devices, each once.
 func folderOf(text []byte, most int) (*Folder, error) {
-	folder := &Folder{}
+	folder, count := &Folder{}, 0
 	err := message.Each(text, func(field message.Field) error {
 		switch field.Number {
 		case folderID:
@@ -137,10 +137,13 @@ func folderOf(text []byte, most int) (*Folder, error) {
 		case folderPaused:
 			folder.Paused = field.Value != 0
 		case folderDevice:
-			if len(folder.Devices) == most {
+			if count++; count > most {
 				return fmt.Errorf("%w: over %d", TooManyDevices, most)
 			}
 			sharing, token, err := sharingOf(field.Text)
+			if _, isTaken := folder.Of(sharing.Device); isTaken {
+				return err
+			}
 			folder.Devices = append(folder.Devices, sharing)
 			if sharing.Encrypted {
 				if folder.tokens == nil {

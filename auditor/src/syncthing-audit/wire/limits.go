@@ -1,6 +1,10 @@
 package wire
 
-import "time"
+import (
+	"time"
+
+	"syncthing-audit/part"
+)
 
 // Limits are what the observer takes from a device. What goes over them is refused, and costs that device's part alone.
 type Limits struct {
@@ -27,7 +31,7 @@ type Limits struct {
 // Usual are the limits where nothing else is asked for. A record of a file of 16 TiB has 45 MB of block hashes. An index of a million files comes in an
 // hour over the slowest line, and a disk on that a program waits for gives some files each second. Of more bytes than two days give, slices are asked for.
 var Usual = Limits{
-	Message: 64 << 20, Hello: 32767, Index: 8 << 30, Records: 10_000_000, Name: 32 << 10, Devices: 4096, Folders: 256,
+	Message: 64 << 20, Hello: 32767, Index: 8 << 30, Records: 10_000_000, Name: 32 << 10, Devices: part.MostPeers, Folders: 256,
 	Handshake: 20 * time.Second, Frame: 2 * time.Minute, Silence: 5 * time.Minute, Ping: time.Minute, Answer: 2 * time.Minute, IndexQuiet: time.Minute,
 	IndexWhole: 2 * time.Hour, BytesWhole: 48 * time.Hour, Grace: 10 * time.Minute, LeastSteps: 1, LeastBytes: 16 << 10,
 }

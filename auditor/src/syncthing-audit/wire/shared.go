@@ -146,6 +146,8 @@ func sharedWith(folder *Folder, device, observer protocol.DeviceID) (Sharing, er
 		return own, EncryptedForObserver
 	case !isThere:
 		return own, fmt.Errorf("%w: a ClusterConfig without the device itself", BadMessage)
+	case own.IndexID == 0:
+		return own, fmt.Errorf("%w: a ClusterConfig in which the device's own index has no id", BadMessage)
 	}
 	return own, nil
 }
