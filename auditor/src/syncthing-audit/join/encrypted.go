@@ -36,11 +36,33 @@ func (p *Plan) takeOutEncrypted(folder *Folder) map[string]bool {
 	}
 	for _, member := range folder.Members {
 		for _, other := range member.About.Sharing {
-			if other.Encrypted {
-				takeOut(other.Device, other.Name, "the folder is shared encrypted with it by "+member.Label())
+			if other.Encrypted && folder.Member(other.Device) < 0 {
+				takeOut(other.Device, other.Name, sharedEncrypted+member.Label())
 			}
 		}
 	}
 	folder.takeOut(func(member Member) bool { return encrypted[member.Head.Device] })
+	before := append([]Member{}, folder.Members...)
+	p.partBy(part.Encrypted, folder, p.atOddsOnEncryption)
+	for _, member := range before {
+		encrypted[member.Head.Device] = encrypted[member.Head.Device] || folder.Member(member.Head.Device) < 0
+	}
 	return encrypted
+}
+
+const sharedEncrypted = "the folder is shared encrypted with it by "
+
+// atOddsOnEncryption gives the members of which one says that it shares the folder encrypted with another that says of itself that it isn't encrypted
+// there: one device's word alone takes out no other.
+func (p *Plan) atOddsOnEncryption(folder *Folder) []odds {
+	found := []odds{}
+	for _, member := range folder.Members {
+		for _, other := range member.About.Sharing {
+			if at := folder.Member(other.Device); other.Encrypted && at >= 0 && !folder.Members[at].About.IsOpened {
+				found = append(found, odds{other.Device, member.Head.Device, sharedEncrypted + member.Label() + p.unopened(folder.ID, other.Device),
+					"it says that it shares the folder encrypted with " + folder.Members[at].Label() + ", on which it isn't encrypted"})
+			}
+		}
+	}
+	return found
 }
