@@ -44,7 +44,7 @@ func (c *Connection) Shared(folder string) *Shared {
 func (o *Observer) agree(c *Connection, look Look) error {
 	what, text, err := readFrame(c.stream, c.limits.Message, func() {})
 	if err = ended(err); errors.Is(err, Closed) {
-		return fmt.Errorf("%w by the device behind its Hello: it may not know the observer (%s), or have paused it: see its page", Closed, o.ID.String()[:7])
+		return fmt.Errorf("%w by the device behind its Hello: it may not know the observer (%s), have paused it, or be asked by another run: see its page", Closed, o.ID.String()[:7])
 	}
 	if err != nil {
 		return err
