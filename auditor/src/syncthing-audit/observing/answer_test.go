@@ -121,3 +121,15 @@ func TestALiarOfWhichThereIsNoPart(t *testing.T) {
 		here.expect(why, exit.Partial, "docs: in step as far as seen over the wire", "on device a")
 	}
 }
+
+// Of very many devices that aren't asked a few are named.
+func TestManyDevicesThatAreNotAsked(t *testing.T) {
+	here := newWorld(t, 1, map[string]string{"a": "text"})
+	here.devices[0].Change(func(state *stranger.State) {
+		for number := 0; number < 100; number++ {
+			state.Others = append(state.Others, protocol.Device{ID: protocol.DeviceID{9, byte(number)}, Name: "known"})
+		}
+	})
+	here.asked.Strict = true
+	here.expect("strict", exit.Refused, ", 90 more share the folder, and aren't asked")
+}

@@ -249,6 +249,9 @@ func (o *observing) again(at int) error {
 	return o.devices[at].Compare(context.Background(), connection, o.walked[at])
 }
 
+// mostLacking is how many devices are named that aren't asked.
+const mostLacking = 10
+
 // checkAll refuses devices that share the folder and aren't asked, before any byte is read. Where parts are written alone, 'check' does so.
 func (o *observing) checkAll(connections []*wire.Connection) error {
 	if len(o.failed) == len(o.addresses) {
@@ -280,7 +283,9 @@ func (o *observing) checkAll(connections []*wire.Connection) error {
 	for name := range lacking {
 		names = append(names, name)
 	}
-	sort.Strings(names)
+	if sort.Strings(names); len(names) > mostLacking { // a device may say any number
+		names = append(names[:mostLacking], fmt.Sprintf("%d more", len(names)-mostLacking))
+	}
 	return fmt.Errorf("refused: %s share the folder, and aren't asked: name them as ID@tcp://HOST:PORT, or leave them out with --leave-out %s",
 		strings.Join(names, ", "), part.Absent)
 }
