@@ -66,7 +66,7 @@ func TestNamesThatChangedAfterAPart(t *testing.T) {
 			made.Own = record(own)
 		}
 		if seen > 0 {
-			made.Views = []part.Seen{{View: 0, Record: record(seen)}}
+			made.Views = []part.Seen{{View: 0, Same: seen, Record: made.Own}}
 		}
 		return part.Line{Name: made}
 	}

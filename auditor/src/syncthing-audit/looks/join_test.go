@@ -70,6 +70,11 @@ func aFile(change func(*part.Name)) *part.Name {
 
 func unchanged(*part.Name) {}
 
+// viewOfOwn gives a name's view the own record with this sequence.
+func viewOfOwn(sequence int64) func(*part.Name) {
+	return func(n *part.Name) { n.Views[0].Same, n.Views[0].Record = sequence, n.Own }
+}
+
 // joined gives the names of both looks.
 func joined(t *testing.T, first, second *lines) []*part.Name {
 	// What the second look counts is told: as long as Syncthing runs, its temporary files come and go.
@@ -109,6 +114,8 @@ var pairsOfLooks = []struct {
 	{why: "another version", first: unchanged, second: func(n *part.Name) { n.Own.Version = [][2]uint64{{1, 3}} }, moved: "record"},
 	{why: "no record any more", first: unchanged, second: func(n *part.Name) { n.Own = nil }, moved: "record"},
 	{why: "a view with another sequence", first: unchanged, second: func(n *part.Name) { n.Views[0].Record.Sequence++ }, moved: "views"},
+	{why: "a view of the own record", first: unchanged, second: viewOfOwn(4)},
+	{why: "a view of the own record with another sequence", first: viewOfOwn(5), second: viewOfOwn(6), moved: "views"},
 	{why: "no view any more", first: unchanged, second: func(n *part.Name) { n.Views = nil }, moved: "views"},
 	{why: "another size", first: unchanged, second: func(n *part.Name) { n.Disk.Size++ }, moved: "disk"},
 	{why: "another time", first: unchanged, second: func(n *part.Name) { n.Disk.ModifiedNs++ }, moved: "disk"},

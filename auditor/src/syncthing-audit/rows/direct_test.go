@@ -66,6 +66,15 @@ func contentOfBytes(data []byte) *part.Content {
 	return &part.Content{Size: int64(len(data)), BlockSize: protocol.MinBlockSize, Hash: sha256.Sum256(data)}
 }
 
+// recordIn gives a record as a view has it.
+func recordIn(seen part.Seen) *part.Record {
+	record := *seen.Record
+	if seen.Same != 0 {
+		record.Sequence = seen.Same
+	}
+	return &record
+}
+
 // randomDirectRow gives what three members have of a name.
 func randomDirectRow(random *rand.Rand, name string, sequence int64) *join.Row {
 	row := &join.Row{Name: name, At: make([]*part.Name, 3)}
@@ -79,7 +88,11 @@ func randomDirectRow(random *rand.Rand, name string, sequence int64) *join.Row {
 		}
 		for view := 0; view < 4; view++ {
 			if random.Intn(3) == 0 {
-				at.Views = append(at.Views, part.Seen{View: view, Record: randomRecord(random, sequence+1000)})
+				seen := part.Seen{View: view, Record: randomRecord(random, sequence+1000)}
+				if at.Own != nil && random.Intn(2) == 0 {
+					seen.Same, seen.Record = seen.Record.Sequence, at.Own
+				}
+				at.Views = append(at.Views, seen)
 			}
 		}
 		if random.Intn(4) > 0 {
@@ -177,7 +190,7 @@ func directDocument(folder *join.Folder, rows []*join.Row, withBytes bool) objec
 				store = append(store, node)
 			}
 			for _, seen := range at.Views {
-				records[seen.View] = append(records[seen.View], directRecord(row.Name, seen.Record, withBytes))
+				records[seen.View] = append(records[seen.View], directRecord(row.Name, recordIn(seen), withBytes))
 			}
 		}
 		for view := 1; view <= 3; view++ {
@@ -223,7 +236,7 @@ func roomOf(t *testing.T, folder *join.Folder, row *join.Row, withBytes bool) in
 		}
 		for _, seen := range at.Views {
 			if seen.View > 0 {
-				size += length(directRecord(row.Name, seen.Record, withBytes)) + 128
+				size += length(directRecord(row.Name, recordIn(seen), withBytes)) + 128
 			}
 		}
 	}
@@ -323,6 +336,9 @@ func TestOneSequenceOfTwoNames(t *testing.T) {
 		}
 		if view > 0 {
 			row.At[1].Views = []part.Seen{{View: 1, Record: &part.Record{Sequence: view}}}
+		}
+		if own > 0 && view > 0 {
+			row.At[1].Views[0].Same, row.At[1].Views[0].Record = view, row.At[1].Own
 		}
 		return row
 	}
