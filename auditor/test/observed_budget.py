@@ -55,7 +55,7 @@ class ObservedBudget(Observing):
         status, told = self.look()
         self.assertEqual((status, [one["name"] for one in told["since"]["mended"]["first"]]), (6, ["file 3"]))
         ran = self.observe("--budget", "1.5MB", "--history", self.room / "history")
-        self.assertRegex(ran.stdout, rf"(?m)^not read this time: {FOLDER} on .* \({self.devices[0].id[:7]}\): [0-9]+ files? \(.*\); the one that waits longest was read 20")
+        self.assertRegex(ran.stdout, rf"(?m)^not read this time: {FOLDER} on {self.devices[0].id[:7]}: [0-9]+ files? \(.*\); the one that waits longest was read 20")
         ran = self.observe("--budget", "1GB", "--history", self.room / "history", "--lines")
         self.assertNotIn("\nnot read: ", ran.stdout)
 
