@@ -39,7 +39,7 @@ func Collect(plan *join.Plan, options Options, take func(*rows.Piece) error) (*f
 	}
 	for _, device := range plan.Devices {
 		to.answer.Devices = append(to.answer.Devices, finding.Device{ID: device.Head.Device, Number: device.Number, Name: device.Head.Name,
-			Runs: device.Head.Runs, Made: device.Head.Made, From: device.From, Index: device.Head.Index, Newer: device.Head.Newer, ToRepair: device.Head.ToRepair, IsUnsigned: device.IsUnsigned, Unasked: unaskedOf(plan, device), IsSilent: device.Head.Others == nil})
+			Runs: device.Head.Runs, Made: device.Head.Made, From: device.From, Index: device.Head.Index, Newer: device.Head.Newer, ToRepair: device.Head.ToRepair, IsUnsigned: device.IsUnsigned, Unasked: unaskedOf(plan, device), IsSilent: device.Head.Others == nil, OverWire: device.Head.IsOverWire()})
 	}
 	for _, folder := range plan.Folders {
 		if err := to.folder(folder); err != nil {

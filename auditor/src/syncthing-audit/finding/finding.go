@@ -42,6 +42,7 @@ type Device struct {
 
 	Unasked  []Unasked // folders of it that weren't asked for
 	IsSilent bool      // whether its part doesn't say which folders it hasn't
+	OverWire bool      // whether it was asked over the wire
 }
 
 // Unasked is a folder that a device has and that wasn't audited, since nobody asked for it.

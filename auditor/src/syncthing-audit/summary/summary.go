@@ -45,6 +45,7 @@ type Summary struct {
 	Observers []join.Observer `json:"observers,omitempty"` // devices that share a folder, keep no files of it, and weren't asked
 	Since     *history.Since  `json:"since,omitempty"`     // what a history says beside the answer
 	isByName  bool            // whether the folders were asked for by their ids
+	overWire  map[string]bool // devices that were asked over the wire
 	byNames   bool            // whether the names were asked for by how they begin
 	actions   *actions
 }
@@ -177,7 +178,7 @@ var notCompared = []string{"owners", "extended attributes", "old versions"}
 func Of(answer *finding.Answer) *Summary {
 	_, first := answer.First()
 	summary := &Summary{Version: Version, Verdict: verdictOf(first != nil, answer.IsPartial()), Firm: answer.HowFirm(), Devices: []Device{}, Folders: []*Folder{}, LeftOut: append([]LeftOut{}, answer.LeftOut...), Earlier: answer.Earlier,
-		NotAsked: []NotAsked{}, NotTold: []string{}, NotCompared: notCompared, Observers: answer.Observers, isByName: answer.IsByName, byNames: answer.ByNames}
+		NotAsked: []NotAsked{}, NotTold: []string{}, NotCompared: notCompared, Observers: answer.Observers, isByName: answer.IsByName, byNames: answer.ByNames, overWire: map[string]bool{}}
 	asked := askedOf(answer)
 	for _, device := range answer.Devices {
 		names := asked[device.ID]
@@ -188,6 +189,7 @@ func Of(answer *finding.Answer) *Summary {
 		if device.IsSilent {
 			summary.NotTold = append(summary.NotTold, device.ID)
 		}
+		summary.overWire[device.ID] = device.OverWire
 	}
 	named := summary.Called()
 	summary.actions = &actions{safe: map[string]bool{}, wrong: map[wrongAt]*First{}, waits: map[string]*waiting{}}

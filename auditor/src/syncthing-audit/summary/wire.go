@@ -86,10 +86,8 @@ func (f *Fault) ofDamage() string {
 
 // notToldOverWire gives the devices that don't tell their other folders since they were asked over the wire, and the others of that kind.
 func (s *Summary) notToldOverWire() (overWire, older []string) {
-	is := map[string]bool{}
-	s.eachMember(func(_ *Folder, member *Member) { is[member.Device] = is[member.Device] || member.OverWire != nil })
-	overWire = lists.Where(s.NotTold, func(device string) bool { return is[device] })
-	return overWire, lists.Where(s.NotTold, func(device string) bool { return !is[device] })
+	overWire = lists.Where(s.NotTold, func(device string) bool { return s.overWire[device] })
+	return overWire, lists.Where(s.NotTold, func(device string) bool { return !s.overWire[device] })
 }
 
 // nameOfObserver names an observer for a person.

@@ -24,7 +24,7 @@ func answerOverWire(isOfRecords bool) *finding.Answer {
 			member.Unseen.Unread = 3
 		}
 		folder.Members = append(folder.Members, member)
-		answer.Devices = append(answer.Devices, finding.Device{ID: id, Name: head.Name, IsSilent: true})
+		answer.Devices = append(answer.Devices, finding.Device{ID: id, Name: head.Name, IsSilent: true, OverWire: true})
 	}
 	return answer
 }
@@ -34,6 +34,16 @@ type headed struct{ head *part.Head }
 
 func (h headed) Head() *part.Head         { return h.head }
 func (h headed) Next() (part.Line, error) { panic("it has no lines") }
+
+// A device that was asked over the wire has told nothing of other folders for that reason, whether or not it is in one that was audited.
+func TestADeviceOfNoFolderWasAskedOverTheWire(t *testing.T) {
+	answer := answerOverWire(false)
+	answer.Folders[0].Members = answer.Folders[0].Members[:1]
+	overWire, older := Of(answer).notToldOverWire()
+	if len(overWire) != 2 || len(older) != 0 {
+		t.Errorf("%v were asked over the wire, and %v have older parts", overWire, older)
+	}
+}
 
 // The best answer over the wire is 'as far as seen', never firm; it says what isn't seen, with counts.
 func TestInStepOverTheWire(t *testing.T) {
