@@ -74,24 +74,25 @@ func drawChained(t *testing.T, random *rand.Rand, devices []*drawn, name string,
 	}
 }
 
-// losesToEmptied says whether all that a name loses are bytes of files over which an empty file is recorded, which comes to all devices. That is a
-// change as any other to what is proved; the answer warns of it, since a scan may have taken a harmed file for a change.
-func losesToEmptied(name *outlook.Name, devices int) bool {
-	for _, thing := range name.Loses {
-		if thing.Type != forecast.File || thing.Content.Size == 0 {
-			return false
-		}
-	}
+// losesToHarm says whether all that a name loses are bytes of files over which an empty file is recorded, or other bytes under the very time, and that comes
+// to all devices. That is a change as any other to what is proved; the answer warns of it, since a scan may have taken a harmed file for a change.
+func losesToHarm(name *outlook.Name, devices int) bool {
 	if len(name.Ends) != 1 || len(name.Ends[0]) != 1 {
 		return false
 	}
 	end := name.Ends[0][0]
-	return end.Type == forecast.File && end.Content.Size == 0 && len(end.Devices) == devices
+	for _, thing := range name.Loses {
+		looksHarmed := end.Content.Size == 0 || end.Modified != nil && thing.Modified != nil && end.Modified.Equal(*thing.Modified)
+		if thing.Type != forecast.File || thing.Content.Size == 0 || !looksHarmed {
+			return false
+		}
+	}
+	return end.Type == forecast.File && len(end.Devices) == devices
 }
 
 // What is proved and what the model of Syncthing foretells go together: of a folder whose records lead to one end the model foretells
-// no conflict copy and no other end, and no loss but of bytes over which an empty file is recorded. So it is in many rounds; and each
-// reason that hinders a folder is seen in some.
+// no conflict copy and no other end, and no loss but of bytes over which something is recorded that looks harmed. So it is in many rounds;
+// and each reason that hinders a folder is seen in some.
 func TestWhatConvergesComesRight(t *testing.T) {
 	seen, rounds := map[string]int{}, int64(100)
 	isSlow := auditor().Path == "../../../test/"+standIn
@@ -121,10 +122,10 @@ func TestWhatConvergesComesRight(t *testing.T) {
 			name := &told.Listed[place]
 			switch name.Fate {
 			case outlook.Lost:
-				if !losesToEmptied(name, len(folder.Members)) {
+				if !losesToHarm(name, len(folder.Members)) {
 					t.Errorf("seed %d: the folder converges, and the model foretells a loss: %+v", seed, name)
 				}
-				seen["emptied"]++
+				seen["harmed"]++
 			case outlook.Depends, outlook.Stays, outlook.Changed:
 				t.Errorf("seed %d: the folder converges, and the model foretells %q: %+v", seed, name.Fate, name)
 			}
@@ -133,7 +134,7 @@ func TestWhatConvergesComesRight(t *testing.T) {
 			seen["foretold"]++
 		}
 	}
-	if seen["foretold"] == 0 || !isSlow && (seen["emptied"] == 0 || seen["WouldCopy"] == 0 || seen["NothingPrevails"] == 0 || seen["StoreUnclean"] == 0) {
+	if seen["foretold"] == 0 || !isSlow && (seen["harmed"] == 0 || seen["WouldCopy"] == 0 || seen["NothingPrevails"] == 0 || seen["StoreUnclean"] == 0) {
 		t.Error(seen)
 	}
 }
