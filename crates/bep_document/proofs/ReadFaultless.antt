@@ -19,7 +19,7 @@ use Rattle.bep_tree.specs.Names.{has_only}
 use Rattle.bep_document.specs.read.Checks.{is_cut, read_cut, doc_version, check_members, is_check, read_check_parts}
 use Rattle.bep_document.specs.read.Devices.{is_one_of, with_devices}
 use Rattle.bep_document.specs.Reading.{Read, first_fault, reading_of_tree, reading_of, without_rows, reading_of_cut, reading_of_cut_in, reading_of_cut_document}
-use Rattle.bep_document.specs.Faultless.{IsFaultlessIndex, IsFaultlessShare, IsFaultlessFolder, IsFaultlessFlight, IsFaultlessLink, IsFaultless}
+use Rattle.bep_document.specs.Faultless.{AreInRange, IsFaultlessIndex, IsFaultlessShare, IsFaultlessFolder, IsFaultlessFlight, IsFaultlessLink, IsFaultless}
 use Rattle.bep_document.proofs.read.DevicesKnown.{devices_known, known_are_of, no_more}
 use Rattle.bep_document.proofs.FaultlessFacts.{HasNoFault, has_no_fault}
 use Rattle.bep_document.proofs.faults.Flights.{AllFlights}
@@ -28,7 +28,7 @@ use Rattle.bep_document.proofs.faults.LinksFacts.{IsLinkOf}
 use Rattle.bep_document.proofs.faults.NoFault.{all_map, all_both, all_four}
 use Rattle.bep_document.proofs.faults.SequencesFacts.{AreNumbered, IsNumberedAt, RisesInRange}
 use Rattle.bep_document.proofs.faults.TwiceFacts.{IsOnceAt, IsOnceIn}
-use Rattle.bep_document.proofs.read.RangeFacts.{IsIndexInRange, IsShareInRange, IsFlightInRange, IsLinkInRange, IsCutInRange, cut_in_range, check_in_range}
+use Rattle.bep_document.proofs.read.RangeFacts.{IsIndexInRange, IsShareInRange, IsFlightInRange, IsLinkInRange, IsCutInRange, cut_in_range, check_in_range, rows_in_range}
 use Rattle.bep_document.proofs.faults.UnsharedFacts.{AreOfOthers, IsOfBoth}
 use Rattle.bep_document.proofs.Steps.{passed_and, given_and, no_fault_and, of_bytes_and, of_shape_and}
 
@@ -130,6 +130,17 @@ tree_faultless tree parts e =
 pub reading_faultless : (bytes : List ℕ) (parts : CheckParts) → reading_of bytes ≡ Read parts → IsFaultless parts
 unfolding reading_of
 reading_faultless bytes parts e = let tree = of_bytes_and reading_of_tree bytes e in tree_faultless tree.0 parts tree.1
+
+tree_in_range : (tree : Data) (parts : CheckParts) → reading_of_tree tree ≡ Read parts → AreInRange parts.certificate
+unfolding reading_of_tree
+tree_in_range tree parts e =
+    let known = given_and VersionBad (doc_version tree) _ e in
+    let found = of_shape_and (is_check known.0) (read_check_parts known.0) first_fault tree known.2 in
+    rows_in_range known.0 tree parts found.0
+
+pub reading_in_range : (bytes : List ℕ) (parts : CheckParts) → reading_of bytes ≡ Read parts → AreInRange parts.certificate
+unfolding reading_of
+reading_in_range bytes parts e = let tree = of_bytes_and reading_of_tree bytes e in tree_in_range tree.0 parts tree.1
 
 pub cut_faultless : (version : DocVersion) (tree : Data) (parts : CheckParts) → reading_of_cut version tree ≡ Read parts → IsFaultless parts
 unfolding reading_of_cut

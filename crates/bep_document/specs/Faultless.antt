@@ -15,6 +15,7 @@ use Rattle.bep_document.specs.declared.parts.ViewParts.{ViewParts}
 use Rattle.bep_document.specs.declared.parts.FolderParts.{FolderParts}
 use Rattle.bep_document.specs.declared.parts.FlightParts.{FlightParts}
 use Rattle.bep_document.specs.declared.parts.LinkParts.{LinkParts}
+use Rattle.bep_document.specs.declared.parts.RowParts.{RowParts}
 use Rattle.bep_json.specs.declared.version.DocVersion.{DocVersion}
 use Rattle.bep_document.specs.declared.parts.CheckParts.{CheckParts}
 
@@ -122,6 +123,13 @@ pub record IsFaultless (parts : CheckParts) : Type 0 where
 -- what is read has no fault, of the bytes of a document, of the tree of a cut, or of the cut of a document
 abbrev pub ReadingsAreFaultless : Type 0
 ReadingsAreFaultless = (bytes : List ℕ) (parts : CheckParts) → reading_of bytes ≡ Read parts → IsFaultless parts
+
+-- the rows of what is read have sequences within the limit
+abbrev pub AreInRange : List RowParts → Type 0
+AreInRange rows = AllByRecursion (λ row. row.entry.sequence ≤ MAX_SEQUENCE) rows
+
+abbrev pub RowsAreInRange : Type 0
+RowsAreInRange = (bytes : List ℕ) (parts : CheckParts) → reading_of bytes ≡ Read parts → AreInRange parts.certificate
 
 abbrev pub CutsAreFaultless : Type 0
 CutsAreFaultless = (version : DocVersion) (tree : Data) (parts : CheckParts) → reading_of_cut version tree ≡ Read parts → IsFaultless parts

@@ -1,5 +1,5 @@
 //! What holds of each document that is read, as laws.
-ghost use Rattle.bep_document.specs.Faultless.{ReadingsAreFaultless, CutsAreFaultless, CutDocumentsAreFaultless, FaultlessHasNoFault, FaultlessHasFewDevices};
+ghost use Rattle.bep_document.specs.Faultless.{ReadingsAreFaultless, RowsAreInRange, CutsAreFaultless, CutDocumentsAreFaultless, FaultlessHasNoFault, FaultlessHasFewDevices};
 ghost use Rattle.bep_document.specs.Short.{CutsOfDocumentsAreShort};
 ghost use Rattle.bep_document.specs.Laws.{RecordsAreTold, NodesAreTold};
 
@@ -9,6 +9,7 @@ ghost use Rattle.bep_document.specs.Laws.{RecordsAreTold, NodesAreTold};
 /// runs.
 pub fn readings_are_faultless()
     ensures documents { ReadingsAreFaultless }
+    ensures rows { RowsAreInRange }
     ensures cuts { CutsAreFaultless }
     ensures cut_documents { CutDocumentsAreFaultless }
     ensures short { CutsOfDocumentsAreShort }

@@ -17,6 +17,7 @@ use Rattle.bep_document.specs.declared.parts.ViewParts.{ViewParts}
 use Rattle.bep_document.specs.declared.parts.FolderParts.{FolderParts}
 use Rattle.bep_document.specs.declared.parts.FlightParts.{FlightParts}
 use Rattle.bep_document.specs.declared.parts.LinkParts.{LinkParts}
+use Rattle.bep_document.specs.Faultless.{AreInRange}
 use Rattle.bep_document.specs.read.Checks.{read_folders, read_cut, read_check_parts}
 use Rattle.bep_document.specs.read.Devices.{has_few_devices}
 use Rattle.bep_document.specs.read.Folders.{read_folder, read_row}
@@ -154,3 +155,18 @@ check_in_range version d =
     keep (member_read (cut_in_range version) (codes "cut") d) (λ cut in_range.
     skip (read_member (codes "certificate") (read_list (read_row version)) d) (λ certificate.
     made (λ parts. IsCutInRange parts.folders parts.links) _ in_range))
+
+row_in_range : (version : DocVersion) → Reads (λ row. IsInRange row.entry) (read_row version)
+unfolding read_row
+row_in_range version d =
+    skip (read_member (codes "folder") read_folder_name d) (λ folder.
+    skip (read_member (codes "device") (read_number 1 greatest_id) d) (λ device.
+    keep (member_read (record_in_range version) (codes "record") d) (λ entry within.
+    made (λ row. IsInRange row.entry) _ within)))
+
+pub rows_in_range : (version : DocVersion) → Reads (λ parts. AreInRange parts.certificate) (read_check_parts version)
+unfolding read_check_parts
+rows_in_range version d =
+    skip (read_member (codes "cut") (read_cut version) d) (λ cut.
+    keep (member_read (list_read (row_in_range version)) (codes "certificate") d) (λ certificate within.
+    made (λ parts. AreInRange parts.certificate) _ within))
