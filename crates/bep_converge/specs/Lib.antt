@@ -12,6 +12,7 @@ pub mod AfterLaws
 pub mod Laws
 pub mod Bring
 pub mod BringLaws
+pub mod Watched
 pub mod CutReached
 pub mod Arrival
 pub mod Ready
