@@ -15,5 +15,6 @@ pub mod BringLaws
 pub mod Watched
 pub mod CutReached
 pub mod Arrival
+pub mod Fewer
 pub mod Ready
 pub mod CutDown
