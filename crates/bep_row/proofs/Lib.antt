@@ -1,3 +1,4 @@
-mod MakesCut
+pub mod MakesCut
+mod Each
 mod Found
 mod Made

@@ -5,12 +5,12 @@ use Rattle.std.specs.Ordering.{nat_cmp}
 use Rattle.std.specs.Cmp.{Equal-is}
 use Rattle.std.specs.Cmp.Lexicographic.{slice_cmp}
 use Rattle.std.specs.List.Sorted.{IsStrictlyIncreasing, IsStrictlySortedBy}
-use Rattle.std.specs.FinMap.{empty, get, len, len-empty}
+use Rattle.std.specs.FinMap.{empty, get, get-empty, len, len-empty}
 use Rattle.std.proofs.lemmas.Cmp.{nat_list_cmp_total}
 use Rattle.std.proofs.lemmas.List.{length-map}
 use Rattle.std.proofs.lemmas.List.Elements.{All-contains, All-contains_itself, All-map, All-nil, All-same, All-weaker}
 use Rattle.std.proofs.lemmas.Map.Lookups.{exact_bytes}
-use Rattle.bep_facts.specs.Maps.{found_after_insert, len-insert_le, nothing_in_empty}
+use Rattle.bep_facts.specs.Maps.{found_after_insert, get-insert_here, len-insert_le, nothing_in_empty}
 use Rattle.bep_facts.specs.Members.{Contains-first, Contains-more, Contains-image, Contains-from_image}
 use Rattle.bep_record.specs.declared.entry.Entry.{Entry}
 use Rattle.bep_record.specs.declared.limits.TheConstants.{MAX_PULLS}
@@ -32,7 +32,7 @@ use Rattle.bep_row.specs.Row.{alone, cell_in, cell_of, cut_with, folder_with, re
 -- ---- a map with one name
 
 module _ {V : Type 0} where
-  alone_says : (name : FileName) (found : Option V) (at : FileName) (value : V) → get (alone name found) at ≡ Some value → (at ≡ name) × (found ≡ Some value)
+  pub alone_says : (name : FileName) (found : Option V) (at : FileName) (value : V) → get (alone name found) at ≡ Some value → (at ≡ name) × (found ≡ Some value)
   alone_says name None at value is = nothing_in_empty (slice_cmp nat_cmp) at value is
   alone_says name (Some held) at value is =
       ⊎_elim
@@ -40,13 +40,17 @@ module _ {V : Type 0} where
       (λ there. nothing_in_empty (slice_cmp nat_cmp) at value there.1)
       (found_after_insert nat_list_cmp_total exact_bytes empty name held at value is)
 
+  pub alone_at : (name : FileName) (found : Option V) → get (alone name found) name ≡ found
+  alone_at name None = get-empty (slice_cmp nat_cmp) name
+  alone_at name (Some value) = get-insert_here nat_list_cmp_total exact_bytes empty name value
+
   few_alone : (name : FileName) (found : Option V) (most : ℕ) → 1 ≤ most → len (alone name found) ≤ most
   few_alone name None most room = let none = len-empty (slice_cmp nat_cmp) V in omega (arith, none)
   few_alone name (Some held) most room =
       let none = len-empty (slice_cmp nat_cmp) V in
       len-insert_le nat_list_cmp_total empty name held most (omega (arith, none)) (λ _. omega (arith, none))
 
-at_place : {X : Type 0} (xs : List X) (place : ℕ) (x : X) → slice_get xs place ≡ Some x → Contains xs x
+pub at_place : {X : Type 0} (xs : List X) (place : ℕ) (x : X) → slice_get xs place ≡ Some x → Contains xs x
 at_place [] place x is = absurd (cc)
 at_place (first ∷ more) zero x is = let same : first ≡ x = cc in subst (Contains (first ∷ more)) same (Contains-first first more)
 at_place (first ∷ more) (suc place) x is = Contains-more first more x (at_place more place x is)

@@ -11,8 +11,10 @@
 mod cells;
 mod fits;
 mod make;
+mod plain;
 mod row;
 
 pub use fits::{header_fits, is_said_fit, row_fits, rows_make_cuts};
 pub use make::cut_of;
+pub use plain::is_plain;
 pub use row::{DeviceCell, NameRow, ViewCell};

@@ -19,6 +19,7 @@ use Rattle.bep_parts.specs.Document.{HasKept, IsCutOf, IsFolderOf, IsLinkOf, IsS
 use Rattle.bep_parts.specs.Laws.{DocumentsSayOnly}
 use Rattle.bep_parts.proofs.OnlyFacts.{known_kept}
 use Rattle.bep_parts.specs.Parts.{Keeps, flight_of, if_kept}
+use Rattle.bep_row.proofs.MakesCut.{alone_at}
 use Rattle.bep_row.specs.Fits.{AreQuiet}
 use Rattle.bep_row.specs.Row.{alone, cell_in, cell_of, cut_with, folder_with, known_by, node_of, own_of, pull_of, record_at, share_with, view_with}
 use Rattle.bep_row.specs.declared.row.DeviceCell.{DeviceCell}
@@ -72,10 +73,6 @@ module _ {V : Type 0} (folder : Folder) (find : NameRow → Option V) (of_folder
       (Contains-cons_cases first rows row member)
 
   -- ---- at one row
-
-  alone_at : (name : FileName) (found : Option V) → get (alone name found) name ≡ found
-  alone_at name None = get-empty (slice_cmp nat_cmp) name
-  alone_at name (Some value) = get-insert_here nat_list_cmp_total exact_bytes empty name value
 
   alone_apart : (name : FileName) (found : Option V) (other : FileName) → ((value : V) → found ≡ Some value → other ≢ name) → get (alone name found) other ≡ None
   alone_apart name None other apart = get-empty (slice_cmp nat_cmp) other

@@ -6,3 +6,4 @@ pub mod Whole
 pub mod Reading
 mod AllRows
 pub mod ListRead
+mod Plain

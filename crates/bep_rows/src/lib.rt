@@ -17,7 +17,7 @@ mod stream;
 
 pub use aim::Aim;
 pub use all::standing_of_rows;
-pub use laws::rows_make_a_cut;
-pub use row::{RowError, standing_of_row};
+pub use laws::{plain_rows_are_firm, rows_make_a_cut};
+pub use row::{RowError, standing_beside, standing_of_row};
 pub use standing::{Standing, standing_of};
 pub use stream::{NotAbove, Stream};

@@ -2,6 +2,7 @@
 ghost use Rattle.std.specs.Prelude.{◌≡◌, ◌⊎◌, Err, IfErr, IfOk, OnOk};
 ghost use Rattle.bep_parts.specs.Parts.{only};
 ghost use Rattle.bep_row.specs.Fits.{Fits};
+ghost use Rattle.bep_row.specs.Row.{cut_with};
 ghost use Rattle.bep_rows.specs.Names.{is_name};
 ghost use Rattle.bep_rows.specs.Row.{IsRowOf};
 ghost use Rattle.bep_rows.specs.Standing.{IsStanding};
@@ -9,9 +10,9 @@ ghost use Rattle.bep_rows.specs.declared.row.RowError.TheVariants.{Memory, OutOf
 ghost use Rattle.bep_tables.specs.Cut.{tables_of};
 ghost use Rattle.bep_tables.specs.declared.cut.CutParts.{CutParts};
 
-use crate::{Aim, NotAbove, Standing, standing_of};
+use crate::{Aim, NotAbove, Standing, plain_rows_are_firm, standing_of};
 use bep_parts::documents_say_only;
-use bep_row::{NameRow, cut_of, row_fits};
+use bep_row::{NameRow, cut_of, is_plain, row_fits};
 use bep_tables::Cut;
 use std::alloc::{AllocError, Global};
 
@@ -59,6 +60,26 @@ pub fn standing_of_row(
     documents_say_only();
     if !row_fits(header, row) {
         return Err(RowError::Unfit);
+    }
+    let standing = standing_beside(alloc, aim, header, row)?;
+    Ok(standing)
+}
+
+/// What is answered of the cut that has the name of the row alone, which fits the header; or want of memory. Of a plain row
+/// that is known without the cut.
+pub fn standing_beside(
+    alloc: Global,
+    aim: Aim,
+    header: &Cut,
+    row: &NameRow,
+) -> Result<Standing, AllocError>
+    requires { Fits header.now row.now }
+    ensures { IfOk result (IsStanding aim (tables_of (cut_with header.now row.now))) }
+{
+    plain_rows_are_firm();
+    header.is_a_cut();
+    if is_plain(header, row) {
+        return Ok(Standing::Met);
     }
     let cut = cut_of(alloc, header, row)?;
     let standing = standing_of(alloc, aim, &cut)?;
