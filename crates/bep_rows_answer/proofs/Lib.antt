@@ -2,6 +2,7 @@ mod Above
 pub mod Alone
 pub mod Asked
 pub mod Ended
+mod FirstByte
 mod LineFacts
 pub mod MoreRows
 pub mod Settled

@@ -4,6 +4,7 @@ ghost use Rattle.std.specs.Io.KnownBytes.{IsAtEnd};
 ghost use Rattle.bep_rows_answer.specs.Input.{IsFound, IsGrown, newline_at};
 
 use bep_report::ReportError;
+use memchr::memchr;
 use std::alloc::{AllocError, Global};
 use std::io::Read;
 
@@ -13,7 +14,7 @@ use std::io::Read;
 pub const MAX_LINE: usize = 1048576;
 
 // The bytes that are asked of the reader at once.
-const PIECE: usize = 16384;
+const PIECE: usize = 8192;
 
 /// What comes next in a stream.
 #[derive(Clone, Copy, Debug, PartialEq, Eq)]
@@ -30,7 +31,7 @@ pub enum Next {
 fn newline_at(bytes: &[u8]) -> Option<usize>
     ensures { result ≡ newline_at bytes.now }
 {
-    bytes.iter().position(|byte| *byte == b'\n')
+    memchr(b'\n', bytes)
 }
 
 // Appends what one read gives, and says how many bytes that is.
