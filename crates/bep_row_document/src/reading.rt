@@ -21,9 +21,10 @@ use std::alloc::{AllocError, Global};
 
 /// The row that these bytes say beside the header, behind a row of the last name, as in a text of this version; or the fault for which it is refused: the one
 /// with the smallest number that applies, at its first place. `Memory` may come in place of any answer. Whether the sequences fit
-/// the header isn't looked at.
+/// the header isn't looked at. The memory that reading needs is lent, and serves for any other row, too.
 pub fn read_row(
     alloc: Global,
+    scratch: &mut Scratch,
     version: DocVersion,
     header: &Cut,
     last: &Option<(FolderName, Name)>,
@@ -31,19 +32,23 @@ pub fn read_row(
 ) -> Result<NameRow, DocError>
     ensures { Answers result (reading_of_row version header.now last.now bytes.now) }
 {
-    let text = row_text(alloc, version, bytes)?;
+    let text = row_text(alloc, scratch, version, bytes)?;
     row_judged(alloc, header, last, text)
 }
 
 // What the bytes say as a row.
-fn row_text(alloc: Global, version: DocVersion, bytes: &[u8]) -> Result<RowText, DocError>
+fn row_text(
+    alloc: Global,
+    scratch: &mut Scratch,
+    version: DocVersion,
+    bytes: &[u8],
+) -> Result<RowText, DocError>
     ensures { Answers result (reading_of_text version bytes.now) }
 {
-    let mut scratch = Scratch::new(alloc);
-    let Some(text) = json_in(bytes, &mut scratch)? else {
+    let Some(text) = json_in(bytes, scratch)? else {
         return Err(refused(Fault::NotJson));
     };
-    let told = told_in(alloc, version, text, &mut scratch)?;
+    let told = told_in(alloc, version, text, scratch)?;
     Ok(thing_told(told)?)
 }
 

@@ -1,8 +1,9 @@
 -- What is known under the winners once one more row was given, and after all.
-use Rattle.std.proofs.Common.{◌≡◌, ◌∙◌, List, [], ◌∷◌, ◌++◌, map, Option, None, Some, sym, ap, subst}
+use Rattle.std.proofs.Common.{◌≡◌, ◌∙◌, List, [], ◌∷◌, ◌++◌, map, Option, None, Some, refl, sym, ap, subst}
 use Rattle.bep_model.specs.Tables.{Tables}
 use Rattle.bep_parts.specs.Laws.{DocumentsSayOnly}
 use Rattle.bep_parts.specs.Parts.{only}
+use Rattle.bep_row.specs.Row.{cut_with}
 use Rattle.bep_row.specs.declared.row.NameRow.{NameRow}
 use Rattle.bep_rows.specs.AllRows.{key_of_row}
 use Rattle.bep_rows.specs.Names.{IsAbove, Key, is_name}
@@ -23,12 +24,12 @@ use Rattle.bep_rows_answer.proofs.Alone.{alone_says}
 use Rattle.bep_rows_answer.proofs.CountFacts.{counts_more}
 use Rattle.bep_rows_answer.proofs.MoreRows.{last_more}
 
-module _ (aim : Aim) (header : CutParts) (rows : List NameRow) (row : NameRow) (cut : CutParts) (next : IsNextRow header rows row cut) (here : Standing) where
+module _ (aim : Aim) (header : CutParts) (rows : List NameRow) (row : NameRow) (next : IsNextRow rows row) (here : Standing) where
   -- what is answered of the cut that has the row's name alone
-  pub stands_here : (asked : Aim) → DocumentsSayOnly → asked ≡ aim → IsStanding asked (tables_of cut) here → StandsFor aim header row here
+  pub stands_here : (asked : Aim) → DocumentsSayOnly → asked ≡ aim → IsStanding asked (tables_of (cut_with header row)) here → StandsFor aim header row here
   stands_here asked says same is whole of =
       subst (λ (one : Aim). IsStanding one (only (is_name (key_of_row row)) (tables_of whole)) here) same
-      (alone_says says header rows row cut next (λ (t : Tables). IsStanding asked t here) is whole of)
+      (alone_says says header row (cut_with header row) refl (λ (t : Tables). IsStanding asked t here) is whole of)
 
   module _ (key : Key) (it_is : key ≡ key_of_row row) (stands : StandsFor aim header row here) (old new : UnderWinners) (known : KnowsStandings aim header rows old) where
     -- what a stream promises that took this
@@ -38,7 +39,7 @@ module _ (aim : Aim) (header : CutParts) (rows : List NameRow) (row : NameRow) (
     pub above_old : IsAbove key old.stream.last
     above_old =
         subst (λ (k : Key). IsAbove k old.stream.last) (sym it_is)
-        (subst (λ (l : Option Key). IsAbove (key_of_row row) l) (sym known.last) next.above)
+        (subst (λ (l : Option Key). IsAbove (key_of_row row) l) (sym known.last) next)
 
     pub one_more_known : new.aim ≡ old.aim → new.stream.last ≡ Some key → TakesHere → new.counts ≡ map (counted row) old.counts → KnowsStandings aim header (rows ++ row ∷ []) new
     one_more_known same last takes counts = record {

@@ -1,6 +1,6 @@
 //! Who answers the rows of a stream, one by one.
 ghost use Rattle.std.specs.Prelude.{◌++◌, ◌∷◌, [], ℕ, List, IfOk, OnOk};
-ghost use Rattle.bep_row.specs.Fits.{AreQuiet};
+ghost use Rattle.bep_row.specs.Fits.{AreQuiet, Fits};
 ghost use Rattle.bep_row.specs.declared.row.NameRow.{NameRow as NameRowOf};
 ghost use Rattle.bep_tables.specs.declared.cut.CutParts.{CutParts};
 ghost use Rattle.bep_rows_answer.specs.Auditor.{IsNextRow};
@@ -26,10 +26,11 @@ pub trait Auditor {
     fn begin(&mut self, alloc: Global, header: &Cut) -> Result<(), AllocError>
         ensures { OnOk result (knows self.old header.now [] self.new) };
 
-    /// Is given the next row, and the cut that has its name alone. The text of its answer, or want of memory.
-    fn take(&mut self, alloc: Global, row: &NameRow, cut: &Cut) -> Result<Vec<u8>, AllocError>
-        ensures { IfOk result (λ text. (asked : Self) (header : CutParts) (rows : List NameRowOf) → IsNextRow header rows row.now cut.now → knows asked header rows self.old →
-            tells asked header row.now text.items × knows asked header (rows ++ row.now ∷ []) self.new) };
+    /// Is given the next row, which fits the header. The text of its answer, or want of memory.
+    fn take(&mut self, alloc: Global, header: &Cut, row: &NameRow) -> Result<Vec<u8>, AllocError>
+        requires { Fits header.now row.now }
+        ensures { IfOk result (λ text. (asked : Self) (rows : List NameRowOf) → IsNextRow rows row.now → knows asked header.now rows self.old →
+            tells asked header.now row.now text.items × knows asked header.now (rows ++ row.now ∷ []) self.new) };
 
     /// The outcome of all rows, and the text behind their answers; or want of memory.
     fn end(&self, alloc: Global) -> Result<(RowsOutcome, Vec<u8>), AllocError>

@@ -11,9 +11,10 @@ use crate::header::read_header;
 use bep_document::{DocError, DocFault, Fault};
 use bep_json::DocVersion;
 use bep_record::{DeviceId, FolderName, Name};
-use bep_row::{NameRow, cut_of, is_said_fit, row_fits};
+use bep_row::{NameRow, is_said_fit, row_fits};
 use bep_row_document::read_row;
 use bep_tables::{Cut, Share};
+use bep_tree::Scratch;
 use std::alloc::{AllocError, Global};
 
 /// What is known of a stream of rows once some were read. It is as large for many rows as for one.
@@ -24,6 +25,8 @@ pub struct Rows {
     pub header: Cut,
     /// The name of the last row, if there was one.
     pub last: Option<(FolderName, Name)>,
+    /// The memory that reading a row needs.
+    pub scratch: Scratch,
 }
 
 // By hand: a caller's proof then sees one call where it lets go of one, and not each field (docs/developing.md).
@@ -33,6 +36,7 @@ impl Drop for Rows {
             version: _,
             header: _,
             last: _,
+            scratch: _,
         } = self;
     }
 }
@@ -54,6 +58,7 @@ impl Rows {
             version,
             header,
             last: None,
+            scratch: Scratch::new(alloc),
         })
     }
 
@@ -69,12 +74,18 @@ impl Rows {
             → A.tells asked self.old.header row text.items × A.knows asked self.old.header (rows ++ row ∷ []) auditor.new)) }
         ensures err { IfErr result (IsRowRefusal line.now self.old) }
     {
-        let row = read_row(alloc, self.version, &self.header, &self.last, line)?;
+        let row = read_row(
+            alloc,
+            &mut self.scratch,
+            self.version,
+            &self.header,
+            &self.last,
+            line,
+        )?;
         if !row_fits(&self.header, &row) {
             return Err(DocError::Refused(unfit(alloc, &self.header, &row)?));
         }
-        let cut = cut_of(alloc, &self.header, &row)?;
-        let text = auditor.take(alloc, &row, &cut)?;
+        let text = auditor.take(alloc, &self.header, &row)?;
         let (folder, name) = (row.folder.copy(alloc)?, row.name.copy(alloc)?);
         self.last = Some((folder, name));
         Ok(text)

@@ -12,7 +12,7 @@ use crate::outcome::RowsOutcome;
 use bep_parts::{documents_say_only, verdict_by_parts};
 use bep_record::Items;
 use bep_row::NameRow;
-use bep_rows::{Aim, Stream, rows_make_a_cut, standing_of};
+use bep_rows::{Aim, Stream, rows_make_a_cut, standing_beside};
 use bep_tables::Cut;
 use std::alloc::{AllocError, Global};
 
@@ -74,9 +74,9 @@ impl Auditor for UnderWinners {
         Ok(())
     }
 
-    fn take(&mut self, alloc: Global, row: &NameRow, cut: &Cut) -> Result<Vec<u8>, AllocError> {
+    fn take(&mut self, alloc: Global, header: &Cut, row: &NameRow) -> Result<Vec<u8>, AllocError> {
         documents_say_only();
-        let here = standing_of(alloc, self.aim, cut)?;
+        let here = standing_beside(alloc, self.aim, header, row)?;
         let mut text = Vec::new(alloc);
         push_standing(&mut text, &here)?;
         let counts = counted(alloc, self.counts.as_slice(), row)?;

@@ -40,9 +40,9 @@ pairs_more (first ∷ progress) here all = pairs_more progress here (map (with_m
 
 -- ---- one more
 
-module _ (header : CutParts) (rows : List NameRow) (row : NameRow) (cut : CutParts) (next : IsNextRow header rows row cut) (old new : Converging) (known : KnowsHindrances header rows old) where
+module _ (header : CutParts) (rows : List NameRow) (row : NameRow) (next : IsNextRow rows row) (old new : Converging) (known : KnowsHindrances header rows old) where
   below : (one : NameRow) → Contains rows one → key_cmp (key_of_row one) (key_of_row row) ≡ Less
-  below one member = up_to_below (last_of None rows) (key_of_row row) (key_of_row one) next.above (known.up_to one member)
+  below one member = up_to_below (last_of None rows) (key_of_row row) (key_of_row one) next (known.up_to one member)
 
   up_to_more : (one : NameRow) → Contains (rows ++ row ∷ []) one → IsUpTo (last_of None (rows ++ row ∷ [])) (key_of_row one)
   up_to_more one member =

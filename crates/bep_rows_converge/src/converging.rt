@@ -13,7 +13,7 @@ use bep_converge_check::progress_of;
 use bep_converge_parts::converge_verdict_by_parts;
 use bep_parts::documents_say_only;
 use bep_record::Items;
-use bep_row::NameRow;
+use bep_row::{NameRow, cut_of};
 use bep_rows::rows_make_a_cut;
 use bep_rows_answer::{Auditor, RowsOutcome};
 use bep_tables::{Cut, Table};
@@ -74,13 +74,14 @@ impl Auditor for Converging {
         Ok(())
     }
 
-    fn take(&mut self, alloc: Global, row: &NameRow, cut: &Cut) -> Result<Vec<u8>, AllocError> {
+    fn take(&mut self, alloc: Global, header: &Cut, row: &NameRow) -> Result<Vec<u8>, AllocError> {
         documents_say_only();
-        let table = Table::of(alloc, cut)?;
-        let here = standing_of(alloc, cut, &table)?;
+        let cut = cut_of(alloc, header, row)?;
+        let table = Table::of(alloc, &cut)?;
+        let here = standing_of(alloc, &cut, &table)?;
         let mut text = Vec::new(alloc);
         push_hindrance(&mut text, &here)?;
-        let progress = progress_of(cut, &table, &row.folder);
+        let progress = progress_of(&cut, &table, &row.folder);
         let pairs = with_more(alloc, self.pairs.as_slice(), &progress)?;
         let before = mem::replace(&mut self.standing, ConvergeStanding::Converging);
         self.standing = before.joined(here);

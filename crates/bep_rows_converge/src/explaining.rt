@@ -9,7 +9,7 @@ use bep_converge_answer::Convergence;
 use bep_converge_explain::explain_convergence;
 use bep_lines::Form;
 use bep_parts::documents_say_only;
-use bep_row::NameRow;
+use bep_row::{NameRow, cut_of};
 use bep_rows_answer::{Auditor, RowsOutcome};
 use bep_tables::Cut;
 use std::alloc::{AllocError, Global};
@@ -41,10 +41,11 @@ impl Auditor for ConvergeExplaining {
         self.under.begin(alloc, header)
     }
 
-    fn take(&mut self, alloc: Global, row: &NameRow, cut: &Cut) -> Result<Vec<u8>, AllocError> {
+    fn take(&mut self, alloc: Global, header: &Cut, row: &NameRow) -> Result<Vec<u8>, AllocError> {
         documents_say_only();
-        let text = explained(alloc, cut)?;
-        let _first = self.under.take(alloc, row, cut)?;
+        let cut = cut_of(alloc, header, row)?;
+        let text = explained(alloc, &cut)?;
+        let _first = self.under.take(alloc, header, row)?;
         Ok(text)
     }
 

@@ -8,7 +8,7 @@ use bep_answer::{Firmness, Outcome};
 use bep_explain::{explain_firm_under_winners, explain_under_winners};
 use bep_lines::Form;
 use bep_parts::documents_say_only;
-use bep_row::NameRow;
+use bep_row::{NameRow, cut_of};
 use bep_rows_answer::{Aim, Auditor, RowsOutcome, UnderWinners};
 use bep_tables::Cut;
 use std::alloc::{AllocError, Global};
@@ -43,10 +43,11 @@ impl Auditor for Explaining {
         self.under.begin(alloc, header)
     }
 
-    fn take(&mut self, alloc: Global, row: &NameRow, cut: &Cut) -> Result<Vec<u8>, AllocError> {
+    fn take(&mut self, alloc: Global, header: &Cut, row: &NameRow) -> Result<Vec<u8>, AllocError> {
         documents_say_only();
-        let text = explained(alloc, self.under.aim, cut)?;
-        let _first = self.under.take(alloc, row, cut)?;
+        let cut = cut_of(alloc, header, row)?;
+        let text = explained(alloc, self.under.aim, &cut)?;
+        let _first = self.under.take(alloc, header, row)?;
         Ok(text)
     }
 

@@ -11,6 +11,7 @@ use bep_row_document::read_row;
 use bep_rows_answer::{Aim, Auditor, RowsOutcome, UnderWinners, answer_rows};
 use bep_rows_explain::Explaining;
 use bep_tables::Cut;
+use bep_tree::Scratch;
 use std::alloc::{AllocError, Global};
 
 const HEADER: &str =
@@ -48,7 +49,7 @@ impl Auditor for Listing {
         Ok(())
     }
 
-    fn take(&mut self, alloc: Global, row: &NameRow, _cut: &Cut) -> Result<Vec<u8>, AllocError> {
+    fn take(&mut self, alloc: Global, _header: &Cut, row: &NameRow) -> Result<Vec<u8>, AllocError> {
         self.names = self.names.saturating_add(1);
         Vec::from_slice(alloc, row.name.as_str().as_bytes())
     }
@@ -113,6 +114,20 @@ fn an_auditor_is_given_the_header_each_row_and_the_end(rt: HostRuntime) {
     );
 }
 
+// The row that this line says beside the header.
+fn row_in(alloc: Global, header: &Cut, line: &str) -> Option<NameRow> {
+    let mut scratch = Scratch::new(alloc);
+    read_row(
+        alloc,
+        &mut scratch,
+        DocVersion::One,
+        header,
+        &None,
+        line.as_bytes(),
+    )
+    .ok()
+}
+
 // The cut that has the name of this row alone.
 fn cut_alone(alloc: Global, header: &Cut, row: &NameRow) -> Option<Cut> {
     if !row_fits(header, row) {
@@ -124,11 +139,13 @@ fn cut_alone(alloc: Global, header: &Cut, row: &NameRow) -> Option<Cut> {
 // What is answered to one row, and behind it, where this is asked.
 fn told_of(alloc: Global, aim: Aim, line: &str) -> Option<(Vec<u8>, RowsOutcome, Vec<u8>)> {
     let (_, header) = read_cut(alloc, HEADER.as_bytes()).ok()?;
-    let row = read_row(alloc, DocVersion::One, &header, &None, line.as_bytes()).ok()?;
-    let cut = cut_alone(alloc, &header, &row)?;
+    let row = row_in(alloc, &header, line)?;
+    if !row_fits(&header, &row) {
+        return None;
+    }
     let mut auditor = UnderWinners::of(alloc, aim);
     Auditor::begin(&mut auditor, alloc, &header).ok()?;
-    let text = Auditor::take(&mut auditor, alloc, &row, &cut).ok()?;
+    let text = Auditor::take(&mut auditor, alloc, &header, &row).ok()?;
     let (outcome, end) = Auditor::end(&auditor, alloc).ok()?;
     Some((text, outcome, end))
 }
@@ -149,7 +166,7 @@ fn a_name_is_told_and_then_all(rt: HostRuntime) {
 // What is explained of the cut that has the name of this row alone, where settled is asked for, and where firm is.
 fn explained(alloc: Global, line: &str) -> Option<(Vec<u8>, Vec<u8>)> {
     let (_, header) = read_cut(alloc, HEADER.as_bytes()).ok()?;
-    let row = read_row(alloc, DocVersion::One, &header, &None, line.as_bytes()).ok()?;
+    let row = row_in(alloc, &header, line)?;
     let cut = cut_alone(alloc, &header, &row)?;
     let (_, settled) = explain_under_winners(alloc, Form::Text, &cut).ok()?;
     let (_, firm) = explain_firm_under_winners(alloc, Form::Text, &cut).ok()?;

@@ -5,6 +5,7 @@ use bep_document::DocError;
 use bep_json::DocVersion;
 use bep_record::{FolderName, Name};
 use bep_row_document::read_row;
+use bep_tree::Scratch;
 use std::alloc::Global;
 
 const HEADER: &str = r#"{"version":1,"cut":{"folders":[{"folder":"docs","devices":[
@@ -14,7 +15,14 @@ const HEADER: &str = r#"{"version":1,"cut":{"folders":[{"folder":"docs","devices
 // The fault of the row behind one of this name, if there is any.
 fn fault_behind(alloc: Global, last: &Option<(FolderName, Name)>, row: &str) -> Option<u32> {
     let (_, header) = read_cut(alloc, HEADER.as_bytes()).ok()?;
-    match read_row(alloc, DocVersion::One, &header, last, row.as_bytes()) {
+    match read_row(
+        alloc,
+        &mut Scratch::new(alloc),
+        DocVersion::One,
+        &header,
+        last,
+        row.as_bytes(),
+    ) {
         Ok(_) => Some(0),
         Err(DocError::Refused(fault)) => Some(fault.fault.number()),
         Err(DocError::Memory) => None,

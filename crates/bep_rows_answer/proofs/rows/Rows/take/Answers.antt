@@ -22,7 +22,7 @@ returns-clause-ok g c =
         last = ap (λ (k : Key). Some k) key;
       },
       λ asked rows last knows.
-          c.in_ok-text.ensures asked old.header rows
-          (record { above = subst (λ (l : Option Key). IsAbove (key_of_row row) l) last above; fits = fits; alone = c.in_ok-cut.ensures })
+          c.in_ok-text.ensures asked rows
+          (subst (λ (l : Option Key). IsAbove (key_of_row row) l) last above)
           knows,
     )

@@ -4,7 +4,7 @@ use Rattle.bep_rows_converge.specs.Explained.{ExplainsConverging}
 use Rattle.bep_rows_converge.proofs.explaining.ConvergeExplainingAuditor.take.Goals as goal
 
 pub returns : goal.returns
-returns c = λ asked header rows next known. (
-  alone_says c.documents_say_only.ensures header rows c.args.row.now c.args.cut.now next (λ (t : Tables). ExplainsConverging t c.in_ok-text.text.items) c.in_ok-text.ensures,
-  (c.in_ok-_first.ensures c.args.self.now.under header rows next known).1,
+returns c = λ asked rows next known. (
+  alone_says c.documents_say_only.ensures c.args.header.now c.args.row.now c.in_ok-cut.cut c.in_ok-cut.ensures (λ (t : Tables). ExplainsConverging t c.in_ok-text.text.items) c.in_ok-text.ensures,
+  (c.in_ok-_first.ensures c.args.self.now.under rows next known).1,
 )
