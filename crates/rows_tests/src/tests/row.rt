@@ -2,7 +2,7 @@
 use bep_cut_document::read_cut;
 use bep_record::{FolderName, Items, Name};
 use bep_row::{DeviceCell, NameRow, cut_of, row_fits};
-use bep_rows::{Aim, RowError, Standing, standing_of_row, standing_of_rows};
+use bep_rows::{Aim, RowError, Standing, standing_beside, standing_of_row, standing_of_rows};
 use bep_tables::Cut;
 use std::alloc::Global;
 
@@ -12,6 +12,12 @@ const HEADER: &str = r#"{"version":1,"cut":{"folders":[{"folder":"docs","devices
     "own":[{"name":"b","type":1,"modified_s":9,"modified_by":1,"version":[[1,1]],"sequence":2}],
     "store":[{"name":"b","type":1,"modified_s":9}]},
     {"device":2,"kind":"send-receive","index_id":2,"max":3}]}]}}"#;
+
+// Device 1 has `b`, and no other one shares the folder.
+const ALONE: &str = r#"{"version":1,"cut":{"folders":[{"folder":"docs","devices":[
+    {"device":1,"kind":"send-receive","index_id":1,"max":3,
+    "own":[{"name":"b","type":1,"modified_s":9,"modified_by":1,"version":[[1,1]],"sequence":2}],
+    "store":[{"name":"b","type":1,"modified_s":9}]}]}]}}"#;
 
 // The row with the record and the node that device 1 has of `b`, under this name.
 fn row_of(alloc: Global, header: &Cut, name: &[u8]) -> Option<NameRow> {
@@ -65,6 +71,20 @@ fn is_made(alloc: Global) -> Option<bool> {
     Some(cut_of(alloc, &header, &row).is_ok())
 }
 
+// Whether the row of `b` is firm beside this header.
+fn is_met(alloc: Global, text: &str) -> Option<bool> {
+    let (_, header) = read_cut(alloc, text.as_bytes()).ok()?;
+    let row = row_of(alloc, &header, b"b")?;
+    if !row_fits(&header, &row) {
+        return None;
+    }
+    match standing_beside(alloc, Aim::Firm, &header, &row) {
+        Ok(Standing::Met) => Some(true),
+        Ok(_) => Some(false),
+        Err(_) => None,
+    }
+}
+
 // Which device lacks the record, where the row of `b` comes once, or 0 where it comes twice.
 fn answered_together(alloc: Global, twice: bool) -> Option<u64> {
     let (_, header) = read_cut(alloc, HEADER.as_bytes()).ok()?;
@@ -91,6 +111,12 @@ fn lists_of_rows_are_answered(rt: HostRuntime) {
 fn rows_are_answered(rt: HostRuntime) {
     assert_eq!(rt; is_made(rt.alloc()), Some(true));
     assert_eq!(rt; answered(rt.alloc(), b"b"), Some(2));
+}
+
+#[test]
+fn rows_that_are_plain_are_met(rt: HostRuntime) {
+    assert_eq!(rt; is_met(rt.alloc(), ALONE), Some(true));
+    assert_eq!(rt; is_met(rt.alloc(), HEADER), Some(false));
 }
 
 #[test]
