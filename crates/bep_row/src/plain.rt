@@ -5,8 +5,8 @@ ghost use Rattle.bep_model.specs.Settled.{content_of_node};
 ghost use Rattle.bep_row.specs.Plain.{AreAlike, AreKept, IsAlike, IsHeld, IsKept, IsKeptBy, IsPlain};
 ghost use Rattle.bep_row.specs.Row.{cell_of};
 
-use crate::cells::{cell_of, node_of, own_of, record_at};
 use crate::NameRow;
+use crate::cells::{cell_of, node_of, own_of, record_at};
 use bep_audit::store_holds;
 use bep_record::{Node, NodeParts, Order, Record, is_clean};
 use bep_tables::{Cut, Share};
