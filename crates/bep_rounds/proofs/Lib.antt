@@ -1,0 +1,5 @@
+mod QuietRuns
+mod Made
+mod Seen
+mod Rounds
+mod Whole
