@@ -21,6 +21,7 @@ use Rattle.bep_converge.specs.Laws.{PrevailingIsUnique, PrevailingGoesOn}
 use Rattle.bep_converge.specs.Bring.{done, repeated, hear, fetch, bring_steps, IsReady}
 use Rattle.bep_converge.specs.BringLaws.{BringBrings}
 use Rattle.bep_converge.specs.Arrival.{IsKept, BringKeeps, Behind, HasAllBehind, steps_for, AllCome}
+use Rattle.bep_converge.specs.Fewer.{FewerAreBehind}
 use Rattle.bep_converge.proofs.BringSteps.{all_are_done, are_quiet, have_no_reset, steps_run_on}
 use Rattle.bep_converge.proofs.ConvergeFaultless.{at_other_top}
 use Rattle.bep_converge.proofs.PlaceMoves.{same_name}
@@ -262,6 +263,13 @@ module _ (unique : PrevailingIsUnique) (brings : BringBrings) (keeps : BringKeep
           names = ready.room.names;
         };
       }
+
+pub fewer_are_behind_lem : PrevailingIsUnique → BringKeeps → StepsKeepSound → FewerAreBehind
+fewer_are_behind_lem unique keeps keep_sound turns cluster later owner first more batches blocks ready behind run at =
+    let all = bring_at first.device owner first.folder first.name batches blocks in
+    let steps = bring_steps first.device owner first.folder first.name batches blocks in
+    let config = (run_rises keep_sound steps cluster later all.all ready.sound run).config in
+    behind_later unique turns cluster later first more behind ready (keeps turns cluster later first.device owner first.folder first.name batches blocks ready run) (λ folder. ap (λ (c : _). c.sharing folder) config) at
 
 pub all_come_lem : PrevailingIsUnique → BringBrings → BringKeeps → StepsKeepSound → PrevailingGoesOn → AllCome
 all_come_lem unique brings keeps keep_sound goes_on cluster behind ready has =

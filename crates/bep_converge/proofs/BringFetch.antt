@@ -30,13 +30,14 @@ use Rattle.bep_machine.specs.Steps.{IsStep, IsRun}
 use Rattle.bep_machine.specs.Sound.{IsSoundReplica}
 use Rattle.bep_machine.specs.LinkEffects.{IsTaking, RequestIsAnswered}
 use Rattle.bep_converge.specs.Bring.{done, repeated, fetch}
+use Rattle.bep_converge.specs.Watched.{LacksBlocks, FetchesTo}
 use Rattle.bep_converge.proofs.BringSteps.{steps_run_on}
 use Rattle.bep_converge.proofs.BringLinks.{IsUp, sight_with, turned, after_act}
 use Rattle.bep_converge.proofs.BringStage.{StepLaws, Stage, does, near_linked, far_linked, sound_peer}
 use Rattle.bep_converge.proofs.BringSession.{in_session, delivers}
 use Rattle.bep_converge.proofs.BringMeet.{Talks}
 use Rattle.bep_converge.proofs.BringAnswer.{IsLike, file_like, holds_file, answering, answered}
-use Rattle.bep_converge.proofs.MissingBlocks.{missing, some_next, next_is_one, fewer_missing}
+use Rattle.bep_converge.proofs.MissingBlocks.{missing, not_received, some_next, next_is_one, fewer_missing}
 
 -- The device pulls the target from the owner, and is in session with it. But for its pulls its replica is this base.
 pub record Fetches (device owner : Device) (folder : Folder) (name : FileName) (top : Entry) (far_index : Listing) (epoch number : ℕ) (plan : Plan) (base : Replica) (target : Entry) (pull : Pull) (replica : Replica) (c : Cluster) : Type 0 where
@@ -251,14 +252,29 @@ module _ (laws : StepLaws) (answers : RequestIsAnswered) (device owner : Device)
       pub replica : Replica
       pub fetches : Fetches device owner folder name top far_index epoch number plan base target now replica next
       pub whole : missing now.received ≡ 0
+      pub told : (later : Cluster) → FetchesTo device owner folder name later 0 next → FetchesTo device owner folder name later blocks c
+
+    -- what is fetched is what is missing
+    lacks : (number : ℕ) (pull : Pull) (replica : Replica) (c : Cluster) → Fetches device owner folder name top far_index epoch number plan base target pull replica c → 1 ≤ missing pull.received → LacksBlocks c device folder name
+    lacks number pull replica c fetches some = (
+      replica,
+      pull,
+      fetches.talks.near_there,
+      fetches.pulled,
+      (
+        subst IsFile (sym fetches.target_is) file,
+        λ alike. different (subst (λ (e : Entry). HasContentOf (own_at base name) e) fetches.target_is (subst (λ (r : Replica). HasContentOf (own_at r name) pull.target) fetches.rest alike)),
+        not_received pull.received some,
+      ),
+    )
 
     pub fetch_all : (left number : ℕ) (pull : Pull) (replica : Replica) (c : Cluster) → Fetches device owner folder name top far_index epoch number plan base target pull replica c →
         missing pull.received ≤ left → number + left ≤ MAX_REQUEST_ID + 1 → (next : Cluster) × HasFetchedAll left c next
     fetch_all zero number pull replica c fetches within low =
-        (c, record { blocks = 0; few = omega arith; run = refl; number = number; now = pull; replica = replica; fetches = fetches; whole = omega arith })
+        (c, record { blocks = 0; few = omega arith; run = refl; number = number; now = pull; replica = replica; fetches = fetches; whole = omega arith; told = λ later end. end })
     fetch_all (suc left) number pull replica c fetches within low =
         ⊎_elim
-        (λ none. (c, record { blocks = 0; few = omega arith; run = refl; number = number; now = pull; replica = replica; fetches = fetches; whole = omega arith }))
+        (λ none. (c, record { blocks = 0; few = omega arith; run = refl; number = number; now = pull; replica = replica; fetches = fetches; whole = omega arith; told = λ later end. end }))
         (λ some.
         let one = one_block number pull replica c fetches (omega arith) (omega arith) in
         let fewer = one.1.fewer in
@@ -273,6 +289,7 @@ module _ (laws : StepLaws) (answers : RequestIsAnswered) (device owner : Device)
             replica = rest.1.replica;
             fetches = rest.1.fetches;
             whole = rest.1.whole;
+            told = λ later end. (lacks number pull replica c fetches (omega arith), one.0, one.1.run, rest.1.told later end);
           },
         ))
         (cases_lt (missing pull.received) 1)

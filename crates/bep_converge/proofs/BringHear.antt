@@ -1,6 +1,7 @@
 -- The owner announces its next records, and the device takes them; and so on, until the device has the record that it lacks.
 use Rattle.std.proofs.Common.{◌≡◌, ◌≢◌, ◌⊎◌, ◌∙◌, ◌+◌, ◌*◌, ◌<◌, ◌≤◌, ℕ, zero, suc, Bool, true, false, List, [], ◌∷◌, map, length, Option, Some, None, IsSome, is_some, unwrap_or, refl, sym, ap, subst, inl, inr, ⊎_elim, arith}
 use Rattle.std.proofs.lemmas.Bool.{cases_lt}
+use Rattle.std.proofs.lemmas.Option.{same_Some}
 use Rattle.std.proofs.lemmas.Cmp.{nat_list_cmp_total}
 use Rattle.std.proofs.lemmas.Map.Lookups.{exact_bytes}
 use Rattle.std.specs.Cmp.{nat_cmp_total}
@@ -22,7 +23,7 @@ use Rattle.bep_index.specs.Laws.{FoundIsOfBatchOrBefore}
 use Rattle.bep_model.specs.Tables.{Device, Folder, FileName}
 use Rattle.bep_machine.specs.declared.message.Message.{Message}
 use Rattle.bep_machine.specs.declared.moved.Moved.TheVariants.{Changed}
-use Rattle.bep_machine.specs.declared.step.Step.TheVariants.{Announce, Deliver}
+use Rattle.bep_machine.specs.declared.step.Step.TheVariants.{Announce, Deliver, StartPull}
 use Rattle.bep_machine.specs.Answer.{Done}
 use Rattle.bep_machine.specs.Replica.{Replica, view_of, viewed_at, with_view}
 use Rattle.bep_machine.specs.Link.{Sight, sending}
@@ -34,6 +35,7 @@ use Rattle.bep_machine.specs.Sound.{IsSoundReplica}
 use Rattle.bep_machine.specs.Gapless.{HasNoGap}
 use Rattle.bep_machine.specs.LinkEffects.{IsTaking, WholeIsAnnounced, FurtherIsAnnounced}
 use Rattle.bep_converge.specs.Bring.{done, repeated, hear}
+use Rattle.bep_converge.specs.Watched.{HasHeardUpTo, FetchesTo, HearsTo}
 use Rattle.bep_converge.proofs.FewerKeys.{len_within}
 use Rattle.bep_converge.proofs.BringSteps.{steps_run_on}
 use Rattle.bep_converge.proofs.BringLinks.{IsUp, sight_with, turned, after_act}
@@ -248,20 +250,48 @@ module _ (laws : StepLaws) (whole : WholeIsAnnounced) (further : FurtherIsAnnoun
 
   -- ---- until the record has come
 
-  -- what the owner has announced up to the record's number is in the device's view
-  arrived : (near_index far_index : Listing) (epoch : ℕ) (plan : Plan) (replica : Replica) (c : Cluster) → Hears device owner folder name top near_index far_index epoch plan replica c →
-      get far_index.records name ≡ Some top → top.sequence ≤ sent_up_to plan → viewed_at replica owner name ≡ Some top
-  arrived near_index far_index epoch plan replica c hears owned within = by_plan plan hears.due within
+  positive : (near_index far_index : Listing) (epoch : ℕ) (plan : Plan) (replica : Replica) (c : Cluster) → Hears device owner folder name top near_index far_index epoch plan replica c →
+      get far_index.records name ≡ Some top → 1 ≤ top.sequence
+  positive near_index far_index epoch plan replica c hears owned =
+      let some = ((sound_peer c hears.stage.sound owner folder hears.stage.far_shares).replicas folder hears.talks.far_replica hears.talks.far_there).index.numbered name top (ap (λ (l : Listing). get l.records name) hears.talks.far_index_is ∙ owned) in
+      let above = some.1 in
+      omega arith
+
+  -- what the owner has announced up to the record's number the device has heard
+  has_come : (near_index far_index : Listing) (epoch : ℕ) (plan : Plan) (replica : Replica) (c : Cluster) → Hears device owner folder name top near_index far_index epoch plan replica c →
+      get far_index.records name ≡ Some top → top.sequence ≤ sent_up_to plan → top.sequence ≤ (view_of replica owner).sequence
+  has_come near_index far_index epoch plan replica c hears owned within = by_plan plan hears.due within
     where
-      by_plan : (plan : Plan) → IsDue plan (view_of replica owner) → top.sequence ≤ sent_up_to plan → viewed_at replica owner name ≡ Some top
-      by_plan Full due within =
-          let some = ((sound_peer c hears.stage.sound owner folder hears.stage.far_shares).replicas folder hears.talks.far_replica hears.talks.far_there).index.numbered name top (ap (λ (l : Listing). get l.records name) hears.talks.far_index_is ∙ owned) in
-          let positive = some.1 in
-          absurd (omega arith)
+      by_plan : (plan : Plan) → IsDue plan (view_of replica owner) → top.sequence ≤ sent_up_to plan → top.sequence ≤ (view_of replica owner).sequence
+      by_plan Full due within = let some = positive near_index far_index epoch plan replica c hears owned in absurd (omega arith)
       by_plan (Above sequence) due within =
           let same : sequence ≡ (view_of replica owner).sequence = ⊎_elim (λ never. absurd (cc)) (λ is. cc) due in
-          let gapless : HasNoGap hears.talks.far_replica.index (view_of replica owner) = view_is_gapless near_index far_index epoch plan replica c hears in
-          gapless.held name top (ap (λ (l : Listing). get l.records name) hears.talks.far_index_is ∙ owned) (omega arith)
+          omega arith
+
+  -- and what it hasn't heard is still to be announced
+  to_come : (near_index far_index : Listing) (epoch : ℕ) (plan : Plan) (replica : Replica) (c : Cluster) → Hears device owner folder name top near_index far_index epoch plan replica c →
+      get far_index.records name ≡ Some top → (view_of replica owner).sequence < top.sequence → sent_up_to plan < top.sequence
+  to_come near_index far_index epoch plan replica c hears owned behind = by_plan plan hears.due
+    where
+      by_plan : (plan : Plan) → IsDue plan (view_of replica owner) → sent_up_to plan < top.sequence
+      by_plan Full due = let some = positive near_index far_index epoch plan replica c hears owned in omega arith
+      by_plan (Above sequence) due =
+          let same : sequence ≡ (view_of replica owner).sequence = ⊎_elim (λ never. absurd (cc)) (λ is. cc) due in
+          omega arith
+
+  -- the record is in the device's view then
+  arrived : (near_index far_index : Listing) (epoch : ℕ) (plan : Plan) (replica : Replica) (c : Cluster) → Hears device owner folder name top near_index far_index epoch plan replica c →
+      get far_index.records name ≡ Some top → top.sequence ≤ (view_of replica owner).sequence → viewed_at replica owner name ≡ Some top
+  arrived near_index far_index epoch plan replica c hears owned within =
+      let gapless : HasNoGap hears.talks.far_replica.index (view_of replica owner) = view_is_gapless near_index far_index epoch plan replica c hears in
+      gapless.held name top (ap (λ (l : Listing). get l.records name) hears.talks.far_index_is ∙ owned) within
+
+  not_heard : (near_index far_index : Listing) (epoch : ℕ) (plan : Plan) (replica : Replica) (c : Cluster) → Hears device owner folder name top near_index far_index epoch plan replica c →
+      (view_of replica owner).sequence < top.sequence → ¬ HasHeardUpTo c device owner folder top.sequence
+  not_heard near_index far_index epoch plan replica c hears behind heard =
+      let same : heard.0 ≡ replica = same_Some heard.0 replica (sym heard.1 ∙ hears.talks.near_there) in
+      let within : top.sequence ≤ (view_of replica owner).sequence = subst (λ (r : Replica). top.sequence ≤ (view_of r owner).sequence) same heard.2 in
+      omega arith
 
   pub record HasHeardAll (near_index far_index : Listing) (epoch rounds : ℕ) (c next : Cluster) : Type 0 where
     pub batches : ℕ
@@ -271,9 +301,11 @@ module _ (laws : StepLaws) (whole : WholeIsAnnounced) (further : FurtherIsAnnoun
     pub replica : Replica
     pub hears : Hears device owner folder name top near_index far_index epoch plan replica next
     pub has : viewed_at replica owner name ≡ Some top
+    pub told : (later : Cluster) (blocks : ℕ) (started : Cluster) → IsStep (StartPull device folder name) None next started (Done Changed) → FetchesTo device owner folder name later blocks started →
+        HearsTo device owner folder name top.sequence later blocks batches c
 
   none_left : (near_index far_index : Listing) (epoch rounds : ℕ) (plan : Plan) (replica : Replica) (c : Cluster) → Hears device owner folder name top near_index far_index epoch plan replica c →
-      get far_index.records name ≡ Some top → top.sequence ≤ sent_up_to plan → HasHeardAll near_index far_index epoch rounds c c
+      get far_index.records name ≡ Some top → top.sequence ≤ (view_of replica owner).sequence → HasHeardAll near_index far_index epoch rounds c c
   none_left near_index far_index epoch rounds plan replica c hears owned within = record {
     batches = 0;
     few = omega arith;
@@ -282,16 +314,17 @@ module _ (laws : StepLaws) (whole : WholeIsAnnounced) (further : FurtherIsAnnoun
     replica = replica;
     hears = hears;
     has = arrived near_index far_index epoch plan replica c hears owned within;
+    told = λ later blocks started made fetches. ((replica, hears.talks.near_there, within), started, made, fetches);
   }
 
   pub hear_all : (rounds : ℕ) (near_index far_index : Listing) (epoch : ℕ) (plan : Plan) (replica : Replica) (c : Cluster) → Hears device owner folder name top near_index far_index epoch plan replica c →
       get far_index.records name ≡ Some top → top.sequence ≤ sent_up_to plan + rounds * MAX_RECORDS → (next : Cluster) × HasHeardAll near_index far_index epoch rounds c next
   hear_all zero near_index far_index epoch plan replica c hears owned within =
-      (c, none_left near_index far_index epoch 0 plan replica c hears owned (omega arith))
+      (c, none_left near_index far_index epoch 0 plan replica c hears owned (has_come near_index far_index epoch plan replica c hears owned (omega arith)))
   hear_all (suc rounds) near_index far_index epoch plan replica c hears owned within =
       ⊎_elim
       (λ behind.
-      let one = round near_index far_index epoch plan replica c hears owned behind in
+      let one = round near_index far_index epoch plan replica c hears owned (to_come near_index far_index epoch plan replica c hears owned behind) in
       let closer : top.sequence ≤ last_sequence (sent_up_to plan) one.0 + rounds * MAX_RECORDS = ⊎_elim (λ far_on. omega arith) (λ there. omega arith) one.3 in
       let rest = hear_all rounds near_index far_index epoch (Above (last_sequence (sent_up_to plan) one.0)) one.2.replica one.1 one.2.hears owned closer in (
         rest.0,
@@ -303,7 +336,8 @@ module _ (laws : StepLaws) (whole : WholeIsAnnounced) (further : FurtherIsAnnoun
           replica = rest.1.replica;
           hears = rest.1.hears;
           has = rest.1.has;
+          told = λ later blocks started made fetches. (not_heard near_index far_index epoch plan replica c hears behind, one.1, one.2.run, rest.1.told later blocks started made fetches);
         },
       ))
       (λ there. (c, none_left near_index far_index epoch (suc rounds) plan replica c hears owned there))
-      (cases_lt (sent_up_to plan) top.sequence)
+      (cases_lt (view_of replica owner).sequence top.sequence)

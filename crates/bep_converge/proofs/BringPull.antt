@@ -5,6 +5,7 @@ use Rattle.std.proofs.lemmas.Cmp.{nat_list_cmp_total}
 use Rattle.std.proofs.lemmas.List.{length-map}
 use Rattle.std.proofs.lemmas.List.FromFn.{length-map-range_with_len}
 use Rattle.std.proofs.lemmas.Map.Lookups.{exact_bytes}
+use Rattle.std.proofs.lemmas.Option.{same_Some}
 use Rattle.std.specs.Coded.{coded_ℕ, coded_list}
 use Rattle.std.specs.Cmp.Lexicographic.{slice_cmp}
 use Rattle.std.specs.Ordering.{nat_cmp}
@@ -34,8 +35,8 @@ use Rattle.bep_machine.specs.declared.moved.Moved.TheVariants.{Changed}
 use Rattle.bep_machine.specs.declared.step.Step.TheVariants.{StartPull, Finish}
 use Rattle.bep_machine.specs.Answer.{Done}
 use Rattle.bep_machine.specs.Effects.{HasRoom, StartPullBegins, CanFinish, HasFinished, FinishAdopts}
-use Rattle.bep_machine.specs.Pull.{StartPullRow, new_pull, IsFile, IsMissingBlocks, IsStillWanted, IsConflictDue}
-use Rattle.bep_machine.specs.Replica.{Pull, Replica, own_at, node_at, viewed_at, version_of, HasContentOf, Wants, with_pull}
+use Rattle.bep_machine.specs.Pull.{StartPullRow, new_pull, IsFile, IsStillWanted, IsConflictDue}
+use Rattle.bep_machine.specs.Replica.{Pull, Replica, own_at, node_at, pull_at, viewed_at, version_of, HasContentOf, Wants, with_pull}
 use Rattle.bep_machine.specs.Peer.{Peer, with_replica}
 use Rattle.bep_machine.specs.Cluster.{Cluster, with_peer}
 use Rattle.bep_machine.specs.Steps.{IsStep, IsRun}
@@ -43,6 +44,7 @@ use Rattle.bep_machine.specs.Said.{tables_of_cluster}
 use Rattle.bep_machine.specs.Sound.{IsSoundReplica}
 use Rattle.bep_machine.specs.LinkEffects.{RequestIsAnswered}
 use Rattle.bep_converge.specs.Bring.{done, repeated, fetch, most_blocks}
+use Rattle.bep_converge.specs.Watched.{IsUnfinished, LacksBlocks, FetchesTo}
 use Rattle.bep_converge.specs.Prevails.{IsNoLocalChange, IsAtTop, LetsIn}
 use Rattle.bep_converge.proofs.BringSteps.{steps_run_on}
 use Rattle.bep_converge.proofs.BringLinks.{peer_here, peer_apart}
@@ -107,6 +109,17 @@ pub record HasPulled (device : Device) (folder : Folder) (name : FileName) (top 
   pub few : blocks ≤ most_blocks top
   pub run : IsRun c (map done (StartPull device folder name ∷ (repeated blocks (fetch device owner folder name) ++ (Finish device folder name ∷ [])))) next
   pub at_top : IsAtTop ((tables_of_cluster next).own device folder name) top
+  pub started : Cluster
+  pub starts : IsStep (StartPull device folder name) None c started (Done Changed)
+  pub told : FetchesTo device owner folder name next blocks started
+
+-- a device whose pull is finished lacks no blocks
+lacks_none : (c : Cluster) (device : Device) (folder : Folder) (name : FileName) (replica : Replica) (pull : Pull) → get (c.peer device).replicas folder ≡ Some replica → pull_at replica name ≡ Some pull →
+    ¬ IsUnfinished replica name pull → ¬ LacksBlocks c device folder name
+lacks_none c device folder name replica pull there pulled finished lacks =
+    let same : lacks.0 ≡ replica = same_Some lacks.0 replica (sym lacks.2 ∙ there) in
+    let same_pull : lacks.1 ≡ pull = same_Some lacks.1 pull (sym (subst (λ (r : Replica). pull_at r name ≡ Some lacks.1) same lacks.3) ∙ pulled) in
+    finished (subst₂ (λ (r : Replica) (p : Pull). IsUnfinished r name p) same same_pull lacks.4)
 
 module _ (laws : StepLaws) (some_choice : SomeChoice) (starts : StartPullBegins) (answers : RequestIsAnswered) (adopts : FinishAdopts) (counted : MergeIsCounted)
     (device owner : Device) (folder : Folder) (name : FileName) (top : Entry) (apart : device ≢ owner) where
@@ -137,8 +150,7 @@ module _ (laws : StepLaws) (some_choice : SomeChoice) (starts : StartPullBegins)
     )
 
     finishes : (number : ℕ) (pull : Pull) (replica : Replica) (c : Cluster) → Fetches device owner folder name top far_index epoch number plan base target pull replica c →
-        ¬ (IsFile pull.target × (¬ HasContentOf (own_at replica name) pull.target) × IsMissingBlocks pull) →
-        (next : Cluster) × IsStep (Finish device folder name) None c next (Done Changed) × IsAtTop ((tables_of_cluster next).own device folder name) top
+        ¬ IsUnfinished replica name pull → (next : Cluster) × IsStep (Finish device folder name) None c next (Done Changed) × IsAtTop ((tables_of_cluster next).own device folder name) top
     finishes number pull replica c fetches received =
         let stage = fetches.stage in
         let talks = fetches.talks in
@@ -227,9 +239,20 @@ module _ (laws : StepLaws) (some_choice : SomeChoice) (starts : StartPullBegins)
         (next : Cluster) × HasPulled device folder name top owner c next
     without_blocks c hears none =
         let start = begins c hears in
-        let end = finishes 1 (new_pull target) start.1.replica start.0 start.1.fetches
-        (λ lacks. none (lacks.0, λ alike. lacks.1 (subst (λ (r : Replica). HasContentOf (own_at r name) target) (sym start.1.fetches.rest) alike))) in
-        (end.0, record { blocks = 0; few = omega arith; run = (start.0, start.1.made, (end.0, end.1, refl)); at_top = end.2 })
+        let finished : ¬ IsUnfinished start.1.replica name (new_pull target) =
+        λ lacks. none (lacks.0, λ alike. lacks.1 (subst (λ (r : Replica). HasContentOf (own_at r name) target) (sym start.1.fetches.rest) alike)) in
+        let end = finishes 1 (new_pull target) start.1.replica start.0 start.1.fetches finished in (
+          end.0,
+          record {
+            blocks = 0;
+            few = omega arith;
+            run = (start.0, start.1.made, (end.0, end.1, refl));
+            at_top = end.2;
+            started = start.0;
+            starts = start.1.made;
+            told = (lacks_none start.0 device folder name start.1.replica (new_pull target) start.1.fetches.talks.near_there start.1.fetches.pulled finished, end.1);
+          },
+        )
 
     with_blocks : (c : Cluster) → Hears device owner folder name top near_index far_index epoch plan base c → IsFile target → ¬ HasContentOf (own_at base name) target →
         (next : Cluster) × HasPulled device folder name top owner c next
@@ -242,7 +265,8 @@ module _ (laws : StepLaws) (some_choice : SomeChoice) (starts : StartPullBegins)
         let all : missing (new_pull target).received ≡ length target.blocks = none_received target.blocks in
         let fetched = fetch_all laws answers device owner folder name top apart far_index owned epoch plan base has target file wanted.content different (length target.blocks) 1 (new_pull target) start.1.replica start.0 fetches
         (omega arith) (omega arith) in
-        let end = finishes fetched.1.number fetched.1.now fetched.1.replica fetched.0 fetched.1.fetches (λ lacks. all_received fetched.1.now.received fetched.1.whole lacks.2) in
+        let finished : ¬ IsUnfinished fetched.1.replica name fetched.1.now = λ lacks. all_received fetched.1.now.received fetched.1.whole lacks.2 in
+        let end = finishes fetched.1.number fetched.1.now fetched.1.replica fetched.0 fetched.1.fetches finished in
         let as_many : length top.blocks ≡ length target.blocks = ap (λ (blocks : List Block). length blocks) (file_like target top file wanted.content).blocks in (
           end.0,
           record {
@@ -254,6 +278,10 @@ module _ (laws : StepLaws) (some_choice : SomeChoice) (starts : StartPullBegins)
               steps_run_on start.0 fetched.0 end.0 (repeated fetched.1.blocks (fetch device owner folder name)) (Finish device folder name ∷ []) fetched.1.run (end.0, end.1, refl),
             );
             at_top = end.2;
+            started = start.0;
+            starts = start.1.made;
+            told = fetched.1.told end.0
+                (lacks_none fetched.0 device folder name fetched.1.replica fetched.1.now fetched.1.fetches.talks.near_there fetched.1.fetches.pulled finished, end.1);
           },
         )
 

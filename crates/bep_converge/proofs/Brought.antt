@@ -21,6 +21,7 @@ use Rattle.bep_machine.specs.Said.{tables_of_cluster}
 use Rattle.bep_converge.specs.Prevails.{IsAtTop, Prevails}
 use Rattle.bep_converge.specs.Bring.{done, repeated, connect, meet, hear, most_batches, HasRoomFor, IsReady}
 use Rattle.bep_converge.specs.BringLaws.{BringBrings}
+use Rattle.bep_converge.specs.Watched.{BringIsWatched}
 use Rattle.bep_converge.proofs.VersionFacts.{equal_itself}
 use Rattle.bep_converge.proofs.StepKept.{known_of}
 use Rattle.bep_converge.proofs.PlaceMoves.{same_name}
@@ -77,24 +78,25 @@ enough n above = omega arith
 
 module _ (laws : StepLaws) (opens : BeginOpens) (takes : ConfigIsTaken) (whole : WholeIsAnnounced) (further : FurtherIsAnnounced) (found : FoundIsOfBatchOrBefore) (some_choice : SomeChoice) (starts : StartPullBegins)
     (answers : RequestIsAnswered) (adopts : FinishAdopts) (counted : MergeIsCounted) where
-  pub bring_brings_lem : BringBrings
-  bring_brings_lem turns c device folder name top ready prevails shares below =
-      let owner : Device = prevails.top_of.owner in
-      let apart : device ≢ owner = λ same. below (subst (λ (o : Option Entry). IsAtTop o top) (sym (ap (λ (d : Device). (tables_of_cluster c).own d folder name) same ∙ prevails.top_of.owned.0)) (equal_itself top.version)) in
+  pub bring_is_watched_lem : BringIsWatched
+  bring_is_watched_lem turns c device owner folder name top ready behind =
+      let prevails : Prevails (tables_of_cluster c) folder name top = behind.prevails in
+      let shares : SharesFolder c.config device folder = behind.device_shares in
+      let apart : device ≢ owner = λ same. behind.below (subst (λ (o : Option Entry). IsAtTop o top) (sym (ap (λ (d : Device). (tables_of_cluster c).own d folder name) same ∙ behind.owned.0)) (equal_itself top.version)) in
       let stage : Stage device owner folder name top c = record {
         sound = ready.sound;
         hashes = ready.hashes;
         reached = ready.reached;
         all = ready.prevails;
         joined = ready.joined;
-        prevails = prevails;
+        prevails = record prevails { top_of = record { owner = owner; shares = behind.owner_shares; owned = behind.owned; above_all = prevails.top_of.above_all } };
         near_shares = shares;
-        far_shares = prevails.top_of.shares;
+        far_shares = behind.owner_shares;
       } in
       let near = has_replica c ready.sound device folder shares in
-      let far = has_replica c ready.sound owner folder prevails.top_of.shares in
-      let owned : get far.0.index.records name ≡ Some top = sym (said_of own_at c owner folder far.0 name prevails.top_of.shares far.1) ∙ prevails.top_of.owned.0 in
-      let not_top : ¬ IsAtTop (get near.0.index.records name) top = subst (λ (o : Option Entry). ¬ IsAtTop o top) (said_of own_at c device folder near.0 name shares near.1) below in
+      let far = has_replica c ready.sound owner folder behind.owner_shares in
+      let owned : get far.0.index.records name ≡ Some top = sym (said_of own_at c owner folder far.0 name behind.owner_shares far.1) ∙ behind.owned.0 in
+      let not_top : ¬ IsAtTop (get near.0.index.records name) top = subst (λ (o : Option Entry). ¬ IsAtTop o top) (said_of own_at c device folder near.0 name shares near.1) behind.below in
       let room : HasRoom near.0.index name = room_left turns c device folder name top ready prevails shares near.0 near.1 in
       let up = fresh laws device owner folder name top apart c stage (epoch_left turns c device owner ready.room) in
       let met = meets laws opens takes device owner folder name top apart c up.0 up.1 up.2 near.0 far.0 near.1 far.1 in
@@ -105,7 +107,6 @@ module _ (laws : StepLaws) (opens : BeginOpens) (takes : ConfigIsTaken) (whole :
       let first : IsRun c (map done (meet device owner)) met.1 =
       steps_run_on c met.0 met.1 (Restart device ∷ Restart owner ∷ connect device owner ∷ Begin device owner ∷ Begin owner device ∷ []) (Deliver device owner ∷ Deliver owner device ∷ []) begun met.3.run in
       record {
-        owner = owner;
         batches = heard.1.batches;
         blocks = pulled.1.blocks;
         later = pulled.0;
@@ -114,4 +115,23 @@ module _ (laws : StepLaws) (opens : BeginOpens) (takes : ConfigIsTaken) (whole :
         few_batches = heard.1.few;
         few_blocks = pulled.1.few;
         at_top = pulled.1.at_top;
+        met = met.1;
+        meets = first;
+        hears = heard.1.told pulled.0 pulled.1.blocks pulled.1.started pulled.1.starts pulled.1.told;
       }
+
+-- what is brought from the owner is brought
+pub bring_brings_lem : BringIsWatched → BringBrings
+bring_brings_lem watched turns cluster device folder name top ready prevails shares below =
+    let owner : Device = prevails.top_of.owner in
+    let brought = watched turns cluster device owner folder name top ready (record { prevails = prevails; device_shares = shares; owner_shares = prevails.top_of.shares; owned = prevails.top_of.owned; below = below }) in
+    record {
+      owner = owner;
+      batches = brought.batches;
+      blocks = brought.blocks;
+      later = brought.later;
+      run = brought.run;
+      few_batches = brought.few_batches;
+      few_blocks = brought.few_blocks;
+      at_top = brought.at_top;
+    }

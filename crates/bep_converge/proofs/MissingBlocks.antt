@@ -30,6 +30,11 @@ all_received (None ∷ received) none stands = absurd (omega arith)
 all_received (Some bytes ∷ received) none stands =
     ⊎_elim (λ never. cc) (λ later. all_received received none later) (Contains-cons_cases (Some bytes) received None stands)
 
+pub not_received : (received : List (Option (List ℕ))) → 1 ≤ missing received → Contains received None
+not_received [] some = absurd (omega arith)
+not_received (None ∷ received) some = Contains-first None received
+not_received (Some bytes ∷ received) some = Contains-more (Some bytes) received None (not_received received some)
+
 -- a block that was received for a request that is about it
 pub about_it : (request : Request) (block : Block) → AsksFor block request → is_about request block ≡ true
 about_it request block asks =

@@ -12,7 +12,9 @@ pub mod AfterLaws
 pub mod Laws
 pub mod Bring
 pub mod BringLaws
+pub mod Watched
 pub mod CutReached
 pub mod Arrival
+pub mod Fewer
 pub mod Ready
 pub mod CutDown

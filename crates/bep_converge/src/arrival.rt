@@ -1,5 +1,6 @@
 //! What prevails comes to all, in so many steps at most. Each function does nothing; its contract is the law.
 ghost use Rattle.bep_converge.specs.Arrival.{AllCome, AllStay, BehindIsListed, BringKeeps, ScansMakeReady};
+ghost use Rattle.bep_converge.specs.Fewer.{FewerAreBehind};
 
 use crate::after::{scan_makes_top, scans_make_tops};
 use crate::bring::bring_brings;
@@ -15,6 +16,15 @@ pub fn bring_keeps()
     steps_keep_sound();
     steps_keep_hashes();
     prevailing_goes_on();
+}
+
+/// So of a list of all devices that aren't at the top of a name, one is off after such a run, and no other has come.
+pub fn fewer_are_behind()
+    ensures { FewerAreBehind }
+{
+    prevailing_is_unique();
+    bring_keeps();
+    steps_keep_sound();
 }
 
 /// In a cluster whose names all prevail, some list has each device that isn't at the top of a name, once for each name.

@@ -2,6 +2,7 @@
 //! law.
 ghost use Rattle.bep_converge.specs.BringLaws.{BringBrings};
 ghost use Rattle.bep_converge.specs.CutReached.{CutsAreReached};
+ghost use Rattle.bep_converge.specs.Watched.{BringIsWatched};
 
 use crate::steps::{prevailing_goes_on, steps_keep_hashes};
 use bep_choice::laws::choice_exists;
@@ -12,10 +13,11 @@ use bep_machine::{
 };
 use bep_record::merge_exists;
 
-/// A device isn't at the top of a name that prevails. The run that brings the name is made of steps that are all done: no call of
-/// a store fails, and memory isn't wanting. Then the device is at the top.
-pub fn bring_brings()
-    ensures { BringBrings }
+/// A device isn't at the top of a name that prevails, and another one has the record. The run that brings it from there is made of
+/// steps that are all done: no call of a store fails, and memory isn't wanting. Then the device is at the top. What the devices
+/// see tells when the next step is due: whether the record is still to come, and whether blocks are missing.
+pub fn bring_is_watched()
+    ensures { BringIsWatched }
 {
     steps_keep_sound();
     steps_keep_hashes();
@@ -30,6 +32,13 @@ pub fn bring_brings()
     request_is_answered();
     finish_adopts();
     merge_exists();
+}
+
+/// So there is a device from which the name is brought, by such a run.
+pub fn bring_brings()
+    ensures { BringBrings }
+{
+    bring_is_watched();
 }
 
 /// A cluster is ready for such a run only if it is reached from one without a gap. That of a cut is, where all links are down, no

@@ -18,8 +18,10 @@ mod steps;
 pub use after::{
     edit_makes_top, override_makes_top, revert_lets_in, scan_makes_top, scans_make_tops,
 };
-pub use arrival::{all_come, all_stay, behind_is_listed, bring_keeps, scans_make_ready};
-pub use bring::{bring_brings, cuts_are_reached};
+pub use arrival::{
+    all_come, all_stay, behind_is_listed, bring_keeps, fewer_are_behind, scans_make_ready,
+};
+pub use bring::{bring_brings, bring_is_watched, cuts_are_reached};
 pub use converge_reason::ConvergeReason;
 pub use cut::{all_come_from_cuts, cuts_come_down};
 pub use laws::{

@@ -1,0 +1,4 @@
+mod QuietRuns
+mod Made
+mod Seen
+mod Rounds

@@ -1,0 +1,90 @@
+-- What is left of a round, while batches are heard and while blocks are fetched.
+use Rattle.std.proofs.Common.{◌≡◌, ◌+◌, ◌≤◌, ℕ, zero, suc, map, refl, sym, subst, arith}
+use Rattle.bep_model.specs.Tables.{Device, Folder, FileName}
+use Rattle.bep_machine.specs.Cluster.{Cluster}
+use Rattle.bep_machine.specs.Steps.{IsRun}
+use Rattle.bep_converge.specs.Bring.{done, hear, fetch}
+use Rattle.bep_converge.specs.Watched.{HasHeardUpTo, LacksBlocks, FetchesTo, HearsTo}
+use Rattle.bep_rounds.specs.Rounds.{IsQuietRun}
+
+module _ (device owner : Device) (folder : Folder) (name : FileName) (later : Cluster) where
+  -- ---- batches
+
+  module _ (sequence blocks : ℕ) where
+    -- so many batches at most are still to come
+    abbrev pub HearsWithin : ℕ → Cluster → Type 0
+    HearsWithin most c = (batches : ℕ) × (batches ≤ most) × HearsTo device owner folder name sequence later blocks batches c
+
+    none_to_come : (batches : ℕ) (c : Cluster) → HasHeardUpTo c device owner folder sequence → HearsTo device owner folder name sequence later blocks batches c → HearsTo device owner folder name sequence later blocks 0 c
+    none_to_come zero c heard hears = hears
+    none_to_come (suc batches) c heard hears = absurd (hears.0 heard)
+
+    -- where the device has heard of the record, none is still to come
+    pub all_heard : (most less : ℕ) (c : Cluster) → HasHeardUpTo c device owner folder sequence → HearsWithin most c → HearsWithin less c
+    all_heard most less c heard within = (0, omega arith, none_to_come within.0 c heard within.2)
+
+    pub record HearsNext (most : ℕ) (c : Cluster) : Type 0 where
+      pub next : Cluster
+      pub run : IsRun c (map done (hear device owner folder)) next
+      pub within : HearsWithin most next
+
+    -- and else the next one is
+    pub one_to_come : (most : ℕ) (c : Cluster) → ¬ HasHeardUpTo c device owner folder sequence → HearsWithin (suc most) c → HearsNext most c
+    one_to_come most c unheard within = by_batches within.0 within.1 within.2
+      where
+        by_batches : (batches : ℕ) → batches ≤ suc most → HearsTo device owner folder name sequence later blocks batches c → HearsNext most c
+        by_batches zero few hears = absurd (unheard hears.0)
+        by_batches (suc batches) few hears = record { next = hears.1; run = hears.2; within = (batches, omega arith, hears.3) }
+
+    pub none_within : (c : Cluster) → HearsWithin 0 c → HearsTo device owner folder name sequence later blocks 0 c
+    none_within c within = by_batches within.0 within.1 within.2
+      where
+        by_batches : (batches : ℕ) → batches ≤ 0 → HearsTo device owner folder name sequence later blocks batches c → HearsTo device owner folder name sequence later blocks 0 c
+        by_batches zero few hears = hears
+        by_batches (suc batches) few hears = absurd (omega arith)
+
+  -- ---- blocks
+
+  -- so many blocks at most are still missing
+  abbrev pub FetchesWithin : ℕ → Cluster → Type 0
+  FetchesWithin most c = (blocks : ℕ) × (blocks ≤ most) × FetchesTo device owner folder name later blocks c
+
+  none_missing : (blocks : ℕ) (c : Cluster) → ¬ LacksBlocks c device folder name → FetchesTo device owner folder name later blocks c → FetchesTo device owner folder name later 0 c
+  none_missing zero c whole fetches = fetches
+  none_missing (suc blocks) c whole fetches = absurd (whole fetches.0)
+
+  -- where the pull lacks none, none is still to be fetched
+  pub all_fetched : (most less : ℕ) (c : Cluster) → ¬ LacksBlocks c device folder name → FetchesWithin most c → FetchesWithin less c
+  all_fetched most less c whole within = (0, omega arith, none_missing within.0 c whole within.2)
+
+  pub record FetchesNext (most : ℕ) (c : Cluster) : Type 0 where
+    pub next : Cluster
+    pub run : IsRun c (map done (fetch device owner folder name)) next
+    pub within : FetchesWithin most next
+
+  -- and else the next one is
+  pub one_missing : (most : ℕ) (c : Cluster) → LacksBlocks c device folder name → FetchesWithin (suc most) c → FetchesNext most c
+  one_missing most c lacks within = by_blocks within.0 within.1 within.2
+    where
+      by_blocks : (blocks : ℕ) → blocks ≤ suc most → FetchesTo device owner folder name later blocks c → FetchesNext most c
+      by_blocks zero few fetches = absurd (fetches.0 lacks)
+      by_blocks (suc blocks) few fetches = record { next = fetches.1; run = fetches.2; within = (blocks, omega arith, fetches.3) }
+
+  pub no_more : (c : Cluster) → FetchesWithin 0 c → FetchesTo device owner folder name later 0 c
+  no_more c within = by_blocks within.0 within.1 within.2
+    where
+      by_blocks : (blocks : ℕ) → blocks ≤ 0 → FetchesTo device owner folder name later blocks c → FetchesTo device owner folder name later 0 c
+      by_blocks zero few fetches = fetches
+      by_blocks (suc blocks) few fetches = absurd (omega arith)
+
+-- ---- in the loops
+
+-- what holds while batches are heard: so many rounds of the loop are left of so many
+pub record StillHears (device owner : Device) (folder : Folder) (name : FileName) (sequence rounds left : ℕ) (old now : Cluster) : Type 0 where
+  pub quiet : IsQuietRun old now
+  pub within : (later : Cluster) (blocks batches : ℕ) → batches ≤ rounds → HearsTo device owner folder name sequence later blocks batches old → HearsWithin device owner folder name later sequence blocks left now
+
+-- and while blocks are fetched
+pub record StillFetches (device owner : Device) (folder : Folder) (name : FileName) (most left : ℕ) (old now : Cluster) : Type 0 where
+  pub quiet : IsQuietRun old now
+  pub within : (later : Cluster) (blocks : ℕ) → blocks ≤ most → FetchesTo device owner folder name later blocks old → FetchesWithin device owner folder name later left now

@@ -1,0 +1,50 @@
+-- What is seen of a replica is so of the cluster.
+use Rattle.std.proofs.Common.{◌≡◌, ◌∙◌, ◌≤◌, ℕ, Bool, true, false, Option, Some, None, refl, sym, ap, subst, subst₂, if◌then◌else◌}
+use Rattle.std.proofs.lemmas.Option.{same_Some}
+use Rattle.std.specs.FinMap.{get}
+use Rattle.bep_record.specs.declared.entry.Entry.{Entry}
+use Rattle.bep_model.specs.Tables.{Device, Folder, FileName}
+use Rattle.bep_machine.specs.Cluster.{Cluster}
+use Rattle.bep_machine.specs.Replica.{Pull, Replica, own_at, pull_at, view_of}
+use Rattle.bep_machine.specs.Said.{is_among, looked_up, tables_of_cluster}
+use Rattle.bep_converge.specs.Watched.{HasHeardUpTo, IsUnfinished, LacksBlocks}
+
+-- a record in the tables is in a replica
+pub owned_replica : (c : Cluster) (owner : Device) (folder : Folder) (name : FileName) (top : Entry) → (tables_of_cluster c).own owner folder name ≡ Some top →
+    (replica : Replica) × (get (c.peer owner).replicas folder ≡ Some replica) × (own_at replica name ≡ Some top)
+owned_replica c owner folder name top owned = cases (is_among owner (c.config.sharing folder)) (get (c.peer owner).replicas folder) refl owned
+  where
+    cases : (b : Bool) (o : Option Replica) → get (c.peer owner).replicas folder ≡ o → looked_up own_at name (if b then o else None) ≡ Some top →
+        (replica : Replica) × (get (c.peer owner).replicas folder ≡ Some replica) × (own_at replica name ≡ Some top)
+    cases true (Some replica) is e = (replica, is, e)
+    cases true None is e = absurd (cc)
+    cases false o is e = absurd (cc)
+
+-- ---- the device has heard of the owner's index
+
+pub not_heard : (c : Cluster) (device owner : Device) (folder : Folder) (sequence : ℕ) → get (c.peer device).replicas folder ≡ None → ¬ HasHeardUpTo c device owner folder sequence
+not_heard c device owner folder sequence none heard = let there = sym heard.1 ∙ none in cc
+
+pub heard_here : (c : Cluster) (device owner : Device) (folder : Folder) (sequence : ℕ) (replica : Replica) → get (c.peer device).replicas folder ≡ Some replica → HasHeardUpTo c device owner folder sequence →
+    sequence ≤ (view_of replica owner).sequence
+heard_here c device owner folder sequence replica there heard =
+    subst (λ (r : Replica). sequence ≤ (view_of r owner).sequence) (same_Some heard.0 replica (sym heard.1 ∙ there)) heard.2
+
+-- ---- blocks are missing
+
+pub no_replica : (c : Cluster) (device : Device) (folder : Folder) (name : FileName) → get (c.peer device).replicas folder ≡ None → ¬ LacksBlocks c device folder name
+no_replica c device folder name none lacks = let there = sym lacks.2 ∙ none in cc
+
+pub no_pull : (c : Cluster) (device : Device) (folder : Folder) (name : FileName) (replica : Replica) → get (c.peer device).replicas folder ≡ Some replica → pull_at replica name ≡ None → ¬ LacksBlocks c device folder name
+no_pull c device folder name replica there none lacks =
+    let same : lacks.0 ≡ replica = same_Some lacks.0 replica (sym lacks.2 ∙ there) in
+    let pulled : pull_at replica name ≡ Some lacks.1 = subst (λ (r : Replica). pull_at r name ≡ Some lacks.1) same lacks.3 in
+    let never = sym none ∙ pulled in
+    cc
+
+pub lacks_here : (c : Cluster) (device : Device) (folder : Folder) (name : FileName) (replica : Replica) (pull : Pull) → get (c.peer device).replicas folder ≡ Some replica → pull_at replica name ≡ Some pull →
+    LacksBlocks c device folder name → IsUnfinished replica name pull
+lacks_here c device folder name replica pull there pulled lacks =
+    let same : lacks.0 ≡ replica = same_Some lacks.0 replica (sym lacks.2 ∙ there) in
+    let same_pull : lacks.1 ≡ pull = same_Some lacks.1 pull (sym (subst (λ (r : Replica). pull_at r name ≡ Some lacks.1) same lacks.3) ∙ pulled) in
+    subst₂ (λ (r : Replica) (p : Pull). IsUnfinished r name p) same same_pull lacks.4

@@ -1,0 +1,20 @@
+//! Rounds that one thread makes on a cluster: each brings what prevails of a name to a device that isn't there yet.
+//!
+//! ```rust
+//! let wanted = Wanted { device: nas, owner: laptop, folder, name };
+//! bring(&mut cluster, alloc, &wanted)?; // the nas has the laptop's record and file
+//! ```
+#![tactic(auto)]
+
+mod bring;
+mod error;
+mod fetching;
+mod hearing;
+mod making;
+mod meeting;
+mod seeing;
+mod wanted;
+
+pub use bring::bring;
+pub use error::RoundError;
+pub use wanted::Wanted;
