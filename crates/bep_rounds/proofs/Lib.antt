@@ -2,3 +2,4 @@ mod QuietRuns
 mod Made
 mod Seen
 mod Rounds
+mod Whole

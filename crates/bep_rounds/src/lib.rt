@@ -6,15 +6,15 @@
 //! ```
 #![tactic(auto)]
 
-mod bring;
 mod error;
 mod fetching;
 mod hearing;
 mod making;
 mod meeting;
+mod round;
 mod seeing;
 mod wanted;
 
-pub use bring::bring;
 pub use error::RoundError;
+pub use round::bring;
 pub use wanted::Wanted;
