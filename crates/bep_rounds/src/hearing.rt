@@ -28,7 +28,11 @@ fn hear<S: Store>(
     let folder = wanted.folder.copy(alloc)?;
     let announce = Step::Announce(wanted.owner, wanted.device, folder);
     make(cluster, Some(wanted.owner), announce)?;
-    make(cluster, Some(wanted.device), Step::Deliver(wanted.device, wanted.owner))
+    make(
+        cluster,
+        Some(wanted.device),
+        Step::Deliver(wanted.device, wanted.owner),
+    )
 }
 
 // So they come, until the record of this number is there.

@@ -36,11 +36,7 @@ pub(crate) fn owned<S: Store>(cluster: &Cluster<S>, wanted: &Wanted) -> Option<(
 }
 
 // Whether the device has heard of the owner's index up to this number.
-pub(crate) fn has_heard<S: Store>(
-    cluster: &Cluster<S>,
-    wanted: &Wanted,
-    sequence: u64,
-) -> bool
+pub(crate) fn has_heard<S: Store>(cluster: &Cluster<S>, wanted: &Wanted, sequence: u64) -> bool
     ensures { IsTrue result ↔ HasHeardUpTo (cluster_of cluster.now) wanted.now.device wanted.now.owner wanted.now.folder sequence }
 {
     match replica_at(cluster, wanted.device, &wanted.folder) {

@@ -49,5 +49,8 @@ fn refused(alloc: Global, call: u64) -> Option<[Result<(), RoundError>; 3]> {
 fn rounds_tell_why_they_end(rt: HostRuntime) {
     let none = Err(RoundError::Refused(Refusal::NotShared));
     let there = Err(RoundError::Refused(Refusal::NotNeeded));
-    assert_eq!(rt; refused(rt.alloc(), 1), Some([none, Err(RoundError::StoreFault), there]));
+    assert_eq!(rt;
+        refused(rt.alloc(), 1),
+        Some([none, Err(RoundError::StoreFault), there])
+    );
 }

@@ -31,7 +31,12 @@ fn link<S: Store>(config: &mut Config<S>, lower: u64, upper: u64) -> Option<()> 
 }
 
 /// The cluster as it begins, over these stores.
-pub(crate) fn cluster<S: Store>(alloc: Global, first: S, second: S, third: S) -> Option<Cluster<S>> {
+pub(crate) fn cluster<S: Store>(
+    alloc: Global,
+    first: S,
+    second: S,
+    third: S,
+) -> Option<Cluster<S>> {
     let mut config = Config::empty(alloc);
     config.add_folder(b"docs").ok()?;
     share(alloc, &mut config, 1, first)?;
