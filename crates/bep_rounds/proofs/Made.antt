@@ -14,8 +14,9 @@ use Rattle.bep_machine.specs.Steps.{Event, IsStep, IsRun}
 use Rattle.bep_core.specs.Applying.{failed_in}
 use Rattle.bep_peer.specs.Member.{Member}
 use Rattle.bep_converge.specs.Bring.{done, connect}
-use Rattle.bep_rounds.specs.Rounds.{HasStoreFault, IfMade}
+use Rattle.bep_rounds.specs.Rounds.{HasStoreFault, IsOutside, IfMade}
 use Rattle.bep_rounds.specs.declared.error.RoundError.{RoundError}
+use Rattle.bep_rounds.specs.declared.error.RoundError.TheVariants.{Memory}
 
 -- the device whose store failed is there
 pub fault_of : (maker : Option Device) (members : List Member) → IsSome (failed_in maker members) → HasStoreFault members
@@ -47,3 +48,7 @@ connect_above device other above = ap (λ (b : Bool). if b then Connect device o
 pub if_made : {One Two : Type 0} (members : List Member) (result : Result (Unit {0}) RoundError) → IfMade members result One → (One → Two) → IfMade members result Two
 if_made members (Ok made) so follows = follows so
 if_made members (Err error) so follows = so
+
+-- want of memory comes from outside
+pub memory_outside : (members : List Member) (error : RoundError) → error ≡ Memory → IsOutside members error
+memory_outside members error is = subst (λ (e : RoundError). IsOutside members e) (sym is) tt

@@ -1,13 +1,32 @@
 -- What is seen of a replica is so of the cluster.
-use Rattle.std.proofs.Common.{◌≡◌, ◌∙◌, ◌≤◌, ℕ, Bool, true, false, Option, Some, None, refl, sym, ap, subst, subst₂, if◌then◌else◌}
+use Rattle.std.proofs.Common.{◌≡◌, ◌∙◌, ◌≤◌, ℕ, Bool, true, false, List, Option, option_map, Some, None, refl, sym, ap, subst, subst₂, if◌then◌else◌}
 use Rattle.std.proofs.lemmas.Option.{same_Some}
-use Rattle.std.specs.FinMap.{get}
+use Rattle.std.specs.Cmp.Lexicographic.{slice_cmp}
+use Rattle.std.specs.FinMap.{get, get-empty}
+use Rattle.std.specs.Ordering.{nat_cmp}
 use Rattle.bep_record.specs.declared.entry.Entry.{Entry}
 use Rattle.bep_model.specs.Tables.{Device, Folder, FileName}
 use Rattle.bep_machine.specs.Cluster.{Cluster}
 use Rattle.bep_machine.specs.Replica.{Pull, Replica, own_at, pull_at, view_of}
 use Rattle.bep_machine.specs.Said.{is_among, looked_up, tables_of_cluster}
+use Rattle.bep_folder.specs.Held.{Held}
+use Rattle.bep_peer.specs.Laws.{TablesAreFound}
+use Rattle.bep_peer.specs.Member.{Member}
+use Rattle.bep_peer.specs.network.Network.{member_at, peer_of}
 use Rattle.bep_converge.specs.Watched.{HasHeardUpTo, IsUnfinished, LacksBlocks}
+
+-- ---- a device's replica of a folder
+
+pub no_peer : (members : List Member) (device : Device) (folder : Folder) → None ≡ member_at members device → None ≡ get (peer_of (member_at members device)).replicas folder
+no_peer members device folder none =
+    sym (ap (λ (o : Option Member). get (peer_of o).replicas folder) (sym none) ∙ get-empty {X = Replica} (slice_cmp nat_cmp) folder)
+
+pub peer_has : TablesAreFound → (members : List Member) (device : Device) (folder : Folder) (member : Member) (held : Option Held) → Some member ≡ member_at members device → held ≡ get member.folders folder →
+    option_map (λ (h : Held). h.tables) held ≡ get (peer_of (member_at members device)).replicas folder
+peer_has found members device folder member held there is =
+    ap (option_map (λ (h : Held). h.tables)) is ∙ sym (found member folder) ∙ ap (λ (o : Option Member). get (peer_of o).replicas folder) there
+
+-- ---- the owner's record
 
 -- a record in the tables is in a replica
 pub owned_replica : (c : Cluster) (owner : Device) (folder : Folder) (name : FileName) (top : Entry) → (tables_of_cluster c).own owner folder name ≡ Some top →

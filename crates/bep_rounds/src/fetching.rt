@@ -16,6 +16,7 @@ use bep_store::Store;
 use std::alloc::Global;
 
 // The pull begins.
+#[tactic(auto, using(crate::proofs::QuietRuns::no_step, crate::proofs::QuietRuns::both_runs, crate::proofs::Made::memory_outside))]
 pub(crate) fn start<S: Store>(
     cluster: &mut Cluster<S>,
     alloc: Global,
@@ -30,6 +31,7 @@ pub(crate) fn start<S: Store>(
 }
 
 // The pull ends.
+#[tactic(auto, using(crate::proofs::QuietRuns::no_step, crate::proofs::QuietRuns::both_runs, crate::proofs::Made::memory_outside))]
 pub(crate) fn finish<S: Store>(
     cluster: &mut Cluster<S>,
     alloc: Global,
@@ -44,6 +46,7 @@ pub(crate) fn finish<S: Store>(
 }
 
 // The next block of the file comes.
+#[tactic(auto, using(crate::proofs::QuietRuns::no_step, crate::proofs::QuietRuns::both_runs, crate::proofs::Made::memory_outside))]
 fn fetch<S: Store>(
     cluster: &mut Cluster<S>,
     alloc: Global,

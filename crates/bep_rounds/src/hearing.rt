@@ -17,6 +17,7 @@ use bep_store::Store;
 use std::alloc::Global;
 
 // The owner's next records come.
+#[tactic(auto, using(crate::proofs::QuietRuns::no_step, crate::proofs::QuietRuns::both_runs, crate::proofs::Made::memory_outside))]
 fn hear<S: Store>(
     cluster: &mut Cluster<S>,
     alloc: Global,

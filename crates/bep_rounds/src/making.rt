@@ -15,6 +15,7 @@ use bep_store::Store;
 
 // Makes the step, which this device makes, if one does. Where it can be done, only want of memory, or a call of a store that
 // fails, keeps it from that.
+#[tactic(auto, using(crate::proofs::QuietRuns::one_step, crate::proofs::Made::fault_of))]
 pub(crate) fn make<S: Store>(
     cluster: &mut Cluster<S>,
     maker: Option<DeviceId>,

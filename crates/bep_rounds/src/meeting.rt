@@ -30,6 +30,7 @@ fn connect<S: Store>(
 }
 
 // Both are restarted, and their link comes up.
+#[tactic(auto, using(crate::proofs::QuietRuns::no_step, crate::proofs::QuietRuns::both_runs))]
 fn restart<S: Store>(cluster: &mut Cluster<S>, wanted: &Wanted) -> Result<(), RoundError>
     ensures quiet { IsQuietRun (cluster_of cluster.old) (cluster_of cluster.new) }
     ensures made { (more : List Event) (later : ClusterOf) → IsRun (cluster_of cluster.old) (map done (Restart wanted.now.device ∷ Restart wanted.now.owner ∷ connect wanted.now.device wanted.now.owner ∷ []) ++ more) later → IfMade cluster.new.members result (IsRun (cluster_of cluster.new) more later) }
@@ -40,6 +41,7 @@ fn restart<S: Store>(cluster: &mut Cluster<S>, wanted: &Wanted) -> Result<(), Ro
 }
 
 // Each begins, and takes the other's ClusterConfig.
+#[tactic(auto, using(crate::proofs::QuietRuns::no_step, crate::proofs::QuietRuns::both_runs))]
 fn exchange<S: Store>(cluster: &mut Cluster<S>, wanted: &Wanted) -> Result<(), RoundError>
     ensures quiet { IsQuietRun (cluster_of cluster.old) (cluster_of cluster.new) }
     ensures made { (more : List Event) (later : ClusterOf) → IsRun (cluster_of cluster.old) (map done (Begin wanted.now.device wanted.now.owner ∷ Begin wanted.now.owner wanted.now.device ∷ Deliver wanted.now.device wanted.now.owner ∷ Deliver wanted.now.owner wanted.now.device ∷ []) ++ more) later → IfMade cluster.new.members result (IsRun (cluster_of cluster.new) more later) }
@@ -53,6 +55,7 @@ fn exchange<S: Store>(cluster: &mut Cluster<S>, wanted: &Wanted) -> Result<(), R
 }
 
 // The two meet.
+#[tactic(auto, using(crate::proofs::QuietRuns::no_step, crate::proofs::QuietRuns::both_runs))]
 pub(crate) fn meet<S: Store>(cluster: &mut Cluster<S>, wanted: &Wanted) -> Result<(), RoundError>
     ensures quiet { IsQuietRun (cluster_of cluster.old) (cluster_of cluster.new) }
     ensures made { (more : List Event) (later : ClusterOf) → IsRun (cluster_of cluster.old) (map done (meet wanted.now.device wanted.now.owner) ++ more) later → IfMade cluster.new.members result (IsRun (cluster_of cluster.new) more later) }

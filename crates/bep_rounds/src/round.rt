@@ -27,6 +27,7 @@ use std::alloc::Global;
 ///
 /// Whatever is answered, and wherever the cluster was, what was made is a quiet run without a reset. So what was settled, firm
 /// or prevailed is so still.
+#[tactic(auto, using(crate::proofs::QuietRuns::no_step, crate::proofs::QuietRuns::both_runs, crate::proofs::Made::memory_outside))]
 pub fn bring<S: Store>(
     cluster: &mut Cluster<S>,
     alloc: Global,

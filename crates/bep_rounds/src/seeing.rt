@@ -15,6 +15,7 @@ use bep_record::{DeviceId, FolderName, Kind, Name, Record};
 use bep_store::Store;
 
 // The folder as the device has it, if the device shares it.
+#[tactic(auto, using(crate::proofs::Seen::no_peer, crate::proofs::Seen::peer_has))]
 fn replica_at<'a, S: Store>(
     cluster: &'a Cluster<S>,
     device: DeviceId,
@@ -36,6 +37,7 @@ pub(crate) fn owned<S: Store>(cluster: &Cluster<S>, wanted: &Wanted) -> Option<(
 }
 
 // Whether the device has heard of the owner's index up to this number.
+#[tactic(auto, using(crate::proofs::Seen::not_heard, crate::proofs::Seen::heard_here))]
 pub(crate) fn has_heard<S: Store>(cluster: &Cluster<S>, wanted: &Wanted, sequence: u64) -> bool
     ensures { IsTrue result ↔ HasHeardUpTo (cluster_of cluster.now) wanted.now.device wanted.now.owner wanted.now.folder sequence }
 {
@@ -56,6 +58,7 @@ fn heard_of<S: Store>(replica: &Replica<S>, owner: DeviceId) -> u64
 }
 
 // Whether the name's pull lacks blocks.
+#[tactic(auto, using(crate::proofs::Seen::no_replica, crate::proofs::Seen::no_pull, crate::proofs::Seen::lacks_here))]
 pub(crate) fn lacks_blocks<S: Store>(cluster: &Cluster<S>, wanted: &Wanted) -> bool
     ensures { IsTrue result ↔ LacksBlocks (cluster_of cluster.now) wanted.now.device wanted.now.folder wanted.now.name }
 {
