@@ -1,11 +1,12 @@
 -- What is left of a round, while batches are heard and while blocks are fetched.
-use Rattle.std.proofs.Common.{◌≡◌, ◌+◌, ◌≤◌, ℕ, zero, suc, map, refl, sym, subst, arith}
+use Rattle.std.proofs.Common.{◌≡◌, ◌+◌, ◌≤◌, ℕ, zero, suc, List, [], ◌++◌, map, refl, sym, subst, arith}
 use Rattle.bep_model.specs.Tables.{Device, Folder, FileName}
 use Rattle.bep_machine.specs.Cluster.{Cluster}
-use Rattle.bep_machine.specs.Steps.{IsRun}
+use Rattle.bep_machine.specs.Steps.{Event, IsRun}
 use Rattle.bep_converge.specs.Bring.{done, hear, fetch}
 use Rattle.bep_converge.specs.Watched.{HasHeardUpTo, LacksBlocks, FetchesTo, HearsTo}
 use Rattle.bep_rounds.specs.Rounds.{IsQuietRun}
+use Rattle.bep_rounds.proofs.QuietRuns.{no_step, both_runs}
 
 module _ (device owner : Device) (folder : Folder) (name : FileName) (later : Cluster) where
   -- ---- batches
@@ -88,3 +89,57 @@ pub record StillHears (device owner : Device) (folder : Folder) (name : FileName
 pub record StillFetches (device owner : Device) (folder : Folder) (name : FileName) (most left : ℕ) (old now : Cluster) : Type 0 where
   pub quiet : IsQuietRun old now
   pub within : (later : Cluster) (blocks : ℕ) → blocks ≤ most → FetchesTo device owner folder name later blocks old → FetchesWithin device owner folder name later left now
+
+-- what the next steps lead to, if they can be made
+abbrev pub LeadsOn : List Event → Cluster → Cluster → Type 0
+LeadsOn events now new = (more : List Event) (later : Cluster) → IsRun now (events ++ more) later → IsRun new more later
+
+module _ (device owner : Device) (folder : Folder) (name : FileName) (sequence rounds : ℕ) (old : Cluster) where
+  pub first_hears : StillHears device owner folder name sequence rounds rounds old old
+  first_hears = record { quiet = no_step old; within = λ later blocks batches few hears. (batches, few, hears) }
+
+  pub heard_already : (most less : ℕ) (now : Cluster) → HasHeardUpTo now device owner folder sequence → StillHears device owner folder name sequence rounds most old now → StillHears device owner folder name sequence rounds less old now
+  heard_already most less now heard still = record {
+    quiet = still.quiet;
+    within = λ later blocks batches few hears. all_heard device owner folder name later sequence blocks most less now heard (still.within later blocks batches few hears);
+  }
+
+  -- the next batch can be heard
+  pub hears_next : (most less : ℕ) (now : Cluster) → most ≡ suc less → ¬ HasHeardUpTo now device owner folder sequence → StillHears device owner folder name sequence rounds most old now →
+      (later : Cluster) (blocks batches : ℕ) → batches ≤ rounds → HearsTo device owner folder name sequence later blocks batches old → HearsNext device owner folder name later sequence blocks less now
+  hears_next most less now same unheard still later blocks batches few hears =
+      one_to_come device owner folder name later sequence blocks less now unheard (subst (λ (n : ℕ). HearsWithin device owner folder name later sequence blocks n now) same (still.within later blocks batches few hears))
+
+  pub heard_one_more : (most less : ℕ) (now new : Cluster) → most ≡ suc less → ¬ HasHeardUpTo now device owner folder sequence → IsQuietRun now new → LeadsOn (map done (hear device owner folder)) now new →
+      StillHears device owner folder name sequence rounds most old now → StillHears device owner folder name sequence rounds less old new
+  heard_one_more most less now new same unheard quiet leads still = record {
+    quiet = both_runs old now new still.quiet quiet;
+    within = λ later blocks batches few hears.
+        let next = hears_next most less now same unheard still later blocks batches few hears in
+        subst (λ (c : Cluster). HearsWithin device owner folder name later sequence blocks less c) (leads [] next.next next.run) next.within;
+  }
+
+module _ (device owner : Device) (folder : Folder) (name : FileName) (rounds : ℕ) (old : Cluster) where
+  pub first_fetches : StillFetches device owner folder name rounds rounds old old
+  first_fetches = record { quiet = no_step old; within = λ later blocks few fetches. (blocks, few, fetches) }
+
+  pub fetched_already : (most less : ℕ) (now : Cluster) → ¬ LacksBlocks now device folder name → StillFetches device owner folder name rounds most old now → StillFetches device owner folder name rounds less old now
+  fetched_already most less now whole still = record {
+    quiet = still.quiet;
+    within = λ later blocks few fetches. all_fetched device owner folder name later most less now whole (still.within later blocks few fetches);
+  }
+
+  -- the next block can be fetched
+  pub fetches_next : (most less : ℕ) (now : Cluster) → most ≡ suc less → LacksBlocks now device folder name → StillFetches device owner folder name rounds most old now →
+      (later : Cluster) (blocks : ℕ) → blocks ≤ rounds → FetchesTo device owner folder name later blocks old → FetchesNext device owner folder name later less now
+  fetches_next most less now same lacks still later blocks few fetches =
+      one_missing device owner folder name later less now lacks (subst (λ (n : ℕ). FetchesWithin device owner folder name later n now) same (still.within later blocks few fetches))
+
+  pub fetched_one_more : (most less : ℕ) (now new : Cluster) → most ≡ suc less → LacksBlocks now device folder name → IsQuietRun now new → LeadsOn (map done (fetch device owner folder name)) now new →
+      StillFetches device owner folder name rounds most old now → StillFetches device owner folder name rounds less old new
+  fetched_one_more most less now new same lacks quiet leads still = record {
+    quiet = both_runs old now new still.quiet quiet;
+    within = λ later blocks few fetches.
+        let next = fetches_next most less now same lacks still later blocks few fetches in
+        subst (λ (c : Cluster). FetchesWithin device owner folder name later less c) (leads [] next.next next.run) next.within;
+  }
