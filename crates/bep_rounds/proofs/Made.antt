@@ -1,5 +1,5 @@
 -- A step that can be done is done, unless a call of a store fails or memory is wanting.
-use Rattle.std.proofs.Common.{◌≡◌, ◌∙◌, ℕ, nat_lt, Bool, true, false, List, [], ◌∷◌, Option, Some, None, IsSome, Result, Ok, Err, refl, sym, ap, subst, if◌then◌else◌}
+use Rattle.std.proofs.Common.{◌≡◌, ◌∙◌, ℕ, nat_lt, Bool, true, false, List, [], ◌∷◌, Option, Some, None, IsSome, is_some, Result, Ok, Err, refl, sym, ap, subst, if◌then◌else◌}
 use Rattle.bep_model.specs.Tables.{Device}
 use Rattle.bep_machine.specs.declared.moved.Moved.{Moved}
 use Rattle.bep_machine.specs.declared.moved.Moved.TheVariants.{Changed}
@@ -11,7 +11,7 @@ use Rattle.bep_machine.specs.Cluster.{Cluster}
 use Rattle.bep_machine.specs.Determined.{StepsAreDetermined}
 use Rattle.bep_machine.specs.Sound.{IsSound}
 use Rattle.bep_machine.specs.Steps.{Event, IsStep, IsRun}
-use Rattle.bep_core.specs.Applying.{failed_in}
+use Rattle.bep_core.specs.Applying.{failed_by, failed_in, maker_of}
 use Rattle.bep_peer.specs.Member.{Member}
 use Rattle.bep_converge.specs.Bring.{done, connect}
 use Rattle.bep_rounds.specs.Rounds.{HasStoreFault, IsOutside, IfMade}
@@ -22,6 +22,15 @@ use Rattle.bep_rounds.specs.declared.error.RoundError.TheVariants.{Memory}
 pub fault_of : (maker : Option Device) (members : List Member) → IsSome (failed_in maker members) → HasStoreFault members
 fault_of None members some = absurd (cc)
 fault_of (Some device) members some = (device, some)
+
+none_in : (failed : Option ℕ) → is_some failed ≡ false → failed ≡ None
+none_in None not = refl
+none_in (Some call) not = absurd (cc)
+
+-- no call failed
+pub none_failed : (maker : Option Device) (step : Step) (members : List Member) (failed : Option ℕ) (some : Bool) → maker ≡ maker_of step → failed ≡ failed_in maker members → some ≡ is_some failed → some ≡ false → failed_by step members ≡ None
+none_failed maker step members failed some made is tells not =
+    ap (λ (m : Option Device). failed_in m members) (sym made) ∙ sym is ∙ none_in failed (sym tells ∙ not)
 
 module _ (determined : StepsAreDetermined) (step : Step) (failed : Option ℕ) (none : failed ≡ None) (old new : Cluster) (sound : IsSound old) (more : List Event) (later : Cluster) (run : IsRun old (done step ∷ more) later) where
   -- it was done, and so the rest of the run can be made
@@ -45,9 +54,13 @@ pub connect_above : (device other : Device) → nat_lt device other ≡ false �
 connect_above device other above = ap (λ (b : Bool). if b then Connect device other else Connect other device) above
 
 -- what follows from what was made
-pub if_made : {One Two : Type 0} (members : List Member) (result : Result (Unit {0}) RoundError) → IfMade members result One → (One → Two) → IfMade members result Two
-if_made members (Ok made) so follows = follows so
-if_made members (Err error) so follows = so
+pub if_made : (One Two : Type 0) (members : List Member) (result : Result (Unit {0}) RoundError) → IfMade members result One → (One → Two) → IfMade members result Two
+if_made One Two members (Ok made) so follows = follows so
+if_made One Two members (Err error) so follows = so
+
+-- an error from outside is all that was made
+pub at_err : (so : Type 0) (members : List Member) (result : Result (Unit {0}) RoundError) (error : RoundError) → result ≡ Err error → IsOutside members error → IfMade members result so
+at_err so members result error is outside = subst (λ (r : Result (Unit {0}) RoundError). IfMade members r so) (sym is) outside
 
 -- want of memory comes from outside
 pub memory_outside : (members : List Member) (error : RoundError) → error ≡ Memory → IsOutside members error

@@ -1,5 +1,5 @@
 -- What is left of a round, while batches are heard and while blocks are fetched.
-use Rattle.std.proofs.Common.{◌≡◌, ◌+◌, ◌≤◌, ℕ, zero, suc, List, [], ◌++◌, map, refl, sym, subst, arith}
+use Rattle.std.proofs.Common.{◌≡◌, ◌∙◌, ◌+◌, ◌≤◌, ◌↔◌, ℕ, zero, suc, Bool, true, false, IsTrue, List, [], ◌++◌, map, refl, sym, subst, arith}
 use Rattle.bep_model.specs.Tables.{Device, Folder, FileName}
 use Rattle.bep_machine.specs.Cluster.{Cluster}
 use Rattle.bep_machine.specs.Steps.{Event, IsRun}
@@ -90,6 +90,13 @@ pub record StillFetches (device owner : Device) (folder : Folder) (name : FileNa
   pub quiet : IsQuietRun old now
   pub within : (later : Cluster) (blocks : ℕ) → blocks ≤ most → FetchesTo device owner folder name later blocks old → FetchesWithin device owner folder name later left now
 
+-- what a test tells
+pub is_so : (so : Type 0) (tells : Bool) → (IsTrue tells ↔ so) → tells ≡ true → so
+is_so so tells is yes = is.0 yes
+
+pub is_not_so : (so : Type 0) (tells : Bool) → (IsTrue tells ↔ so) → tells ≡ false → ¬ so
+is_not_so so tells is no holds = let never : false ≡ true = sym no ∙ is.1 holds in cc
+
 -- what the next steps lead to, if they can be made
 abbrev pub LeadsOn : List Event → Cluster → Cluster → Type 0
 LeadsOn events now new = (more : List Event) (later : Cluster) → IsRun now (events ++ more) later → IsRun new more later
@@ -97,12 +104,6 @@ LeadsOn events now new = (more : List Event) (later : Cluster) → IsRun now (ev
 module _ (device owner : Device) (folder : Folder) (name : FileName) (sequence rounds : ℕ) (old : Cluster) where
   pub first_hears : StillHears device owner folder name sequence rounds rounds old old
   first_hears = record { quiet = no_step old; within = λ later blocks batches few hears. (batches, few, hears) }
-
-  pub heard_already : (most less : ℕ) (now : Cluster) → HasHeardUpTo now device owner folder sequence → StillHears device owner folder name sequence rounds most old now → StillHears device owner folder name sequence rounds less old now
-  heard_already most less now heard still = record {
-    quiet = still.quiet;
-    within = λ later blocks batches few hears. all_heard device owner folder name later sequence blocks most less now heard (still.within later blocks batches few hears);
-  }
 
   -- the next batch can be heard
   pub hears_next : (most less : ℕ) (now : Cluster) → most ≡ suc less → ¬ HasHeardUpTo now device owner folder sequence → StillHears device owner folder name sequence rounds most old now →
@@ -119,15 +120,20 @@ module _ (device owner : Device) (folder : Folder) (name : FileName) (sequence r
         subst (λ (c : Cluster). HearsWithin device owner folder name later sequence blocks less c) (leads [] next.next next.run) next.within;
   }
 
+  -- once the device has heard of it, or no round of the loop is left
+  pub heard_to : (most : ℕ) (now : Cluster) → HasHeardUpTo now device owner folder sequence → StillHears device owner folder name sequence rounds most old now →
+      (later : Cluster) (blocks batches : ℕ) → batches ≤ rounds → HearsTo device owner folder name sequence later blocks batches old → HearsTo device owner folder name sequence later blocks 0 now
+  heard_to most now heard still later blocks batches few hears =
+      none_within device owner folder name later sequence blocks now (all_heard device owner folder name later sequence blocks most 0 now heard (still.within later blocks batches few hears))
+
+  pub heard_at_end : (left : ℕ) (now : Cluster) → StillHears device owner folder name sequence rounds left old now → left ≡ 0 →
+      (later : Cluster) (blocks batches : ℕ) → batches ≤ rounds → HearsTo device owner folder name sequence later blocks batches old → HearsTo device owner folder name sequence later blocks 0 now
+  heard_at_end left now still none later blocks batches few hears =
+      none_within device owner folder name later sequence blocks now (subst (λ (n : ℕ). HearsWithin device owner folder name later sequence blocks n now) none (still.within later blocks batches few hears))
+
 module _ (device owner : Device) (folder : Folder) (name : FileName) (rounds : ℕ) (old : Cluster) where
   pub first_fetches : StillFetches device owner folder name rounds rounds old old
   first_fetches = record { quiet = no_step old; within = λ later blocks few fetches. (blocks, few, fetches) }
-
-  pub fetched_already : (most less : ℕ) (now : Cluster) → ¬ LacksBlocks now device folder name → StillFetches device owner folder name rounds most old now → StillFetches device owner folder name rounds less old now
-  fetched_already most less now whole still = record {
-    quiet = still.quiet;
-    within = λ later blocks few fetches. all_fetched device owner folder name later most less now whole (still.within later blocks few fetches);
-  }
 
   -- the next block can be fetched
   pub fetches_next : (most less : ℕ) (now : Cluster) → most ≡ suc less → LacksBlocks now device folder name → StillFetches device owner folder name rounds most old now →
@@ -143,3 +149,14 @@ module _ (device owner : Device) (folder : Folder) (name : FileName) (rounds : �
         let next = fetches_next most less now same lacks still later blocks few fetches in
         subst (λ (c : Cluster). FetchesWithin device owner folder name later less c) (leads [] next.next next.run) next.within;
   }
+
+  -- once the pull lacks none, or no round of the loop is left
+  pub fetched_to : (most : ℕ) (now : Cluster) → ¬ LacksBlocks now device folder name → StillFetches device owner folder name rounds most old now →
+      (later : Cluster) (blocks : ℕ) → blocks ≤ rounds → FetchesTo device owner folder name later blocks old → FetchesTo device owner folder name later 0 now
+  fetched_to most now whole still later blocks few fetches =
+      no_more device owner folder name later now (all_fetched device owner folder name later most 0 now whole (still.within later blocks few fetches))
+
+  pub fetched_at_end : (left : ℕ) (now : Cluster) → StillFetches device owner folder name rounds left old now → left ≡ 0 →
+      (later : Cluster) (blocks : ℕ) → blocks ≤ rounds → FetchesTo device owner folder name later blocks old → FetchesTo device owner folder name later 0 now
+  fetched_at_end left now still none later blocks few fetches =
+      no_more device owner folder name later now (subst (λ (n : ℕ). FetchesWithin device owner folder name later n now) none (still.within later blocks few fetches))

@@ -1,5 +1,5 @@
 -- What is seen of a replica is so of the cluster.
-use Rattle.std.proofs.Common.{◌≡◌, ◌∙◌, ◌≤◌, ℕ, Bool, true, false, List, Option, option_map, Some, None, refl, sym, ap, subst, subst₂, if◌then◌else◌}
+use Rattle.std.proofs.Common.{◌≡◌, ◌∙◌, ◌≤◌, ◌↔◌, ℕ, Bool, IsTrue, true, false, List, Option, option_map, Some, None, refl, sym, ap, subst, subst₂, if◌then◌else◌}
 use Rattle.std.proofs.lemmas.Option.{same_Some}
 use Rattle.std.specs.Cmp.Lexicographic.{slice_cmp}
 use Rattle.std.specs.FinMap.{get, get-empty}
@@ -49,6 +49,11 @@ pub heard_here : (c : Cluster) (device owner : Device) (folder : Folder) (sequen
 heard_here c device owner folder sequence replica there heard =
     subst (λ (r : Replica). sequence ≤ (view_of r owner).sequence) (same_Some heard.0 replica (sym heard.1 ∙ there)) heard.2
 
+pub heard_if : (c : Cluster) (device owner : Device) (folder : Folder) (sequence heard : ℕ) (replica : Replica) (b : Bool) → Some replica ≡ get (c.peer device).replicas folder → heard ≡ (view_of replica owner).sequence →
+    (IsTrue b → sequence ≤ heard) → (sequence ≤ heard → IsTrue b) → (IsTrue b ↔ HasHeardUpTo c device owner folder sequence)
+heard_if c device owner folder sequence heard replica b there is up to =
+    (λ yes. (replica, sym there, subst (λ (n : ℕ). sequence ≤ n) is (up yes)), λ has. to (subst (λ (n : ℕ). sequence ≤ n) (sym is) (heard_here c device owner folder sequence replica (sym there) has)))
+
 -- ---- blocks are missing
 
 pub no_replica : (c : Cluster) (device : Device) (folder : Folder) (name : FileName) → get (c.peer device).replicas folder ≡ None → ¬ LacksBlocks c device folder name
@@ -67,3 +72,8 @@ lacks_here c device folder name replica pull there pulled lacks =
     let same : lacks.0 ≡ replica = same_Some lacks.0 replica (sym lacks.2 ∙ there) in
     let same_pull : lacks.1 ≡ pull = same_Some lacks.1 pull (sym (subst (λ (r : Replica). pull_at r name ≡ Some lacks.1) same lacks.3) ∙ pulled) in
     subst₂ (λ (r : Replica) (p : Pull). IsUnfinished r name p) same same_pull lacks.4
+
+pub lacks_if : (c : Cluster) (device : Device) (folder : Folder) (name : FileName) (replica : Replica) (pull : Pull) (b : Bool) → Some replica ≡ get (c.peer device).replicas folder → Some pull ≡ pull_at replica name →
+    (IsTrue b ↔ IsUnfinished replica name pull) → (IsTrue b ↔ LacksBlocks c device folder name)
+lacks_if c device folder name replica pull b there pulled is =
+    (λ yes. (replica, pull, sym there, sym pulled, is.0 yes), λ lacks. is.1 (lacks_here c device folder name replica pull (sym there) (sym pulled) lacks))

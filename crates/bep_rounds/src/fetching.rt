@@ -75,9 +75,10 @@ pub(crate) fn fetch_all<S: Store>(
     ensures made { (later : ClusterOf) (blocks : ℕ) → blocks ≤ most → FetchesTo wanted.now.device wanted.now.owner wanted.now.folder wanted.now.name later blocks (cluster_of cluster.old) → IfMade cluster.new.members result (FetchesTo wanted.now.device wanted.now.owner wanted.now.folder wanted.now.name later 0 (cluster_of cluster.new)) }
 {
     for _block in 0..most {
-        if lacks_blocks(cluster, wanted) {
-            fetch(cluster, alloc, wanted)?;
+        if !lacks_blocks(cluster, wanted) {
+            return Ok(());
         }
+        fetch(cluster, alloc, wanted)?;
     }
     Ok(())
 }

@@ -48,9 +48,10 @@ pub(crate) fn hear_all<S: Store>(
 {
     let rounds = sequence / MAX_RECORDS as u64 + 1;
     for _round in 0..rounds {
-        if !has_heard(cluster, wanted, sequence) {
-            hear(cluster, alloc, wanted)?;
+        if has_heard(cluster, wanted, sequence) {
+            return Ok(());
         }
+        hear(cluster, alloc, wanted)?;
     }
     Ok(())
 }
