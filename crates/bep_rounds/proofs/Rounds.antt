@@ -92,18 +92,18 @@ pub record StillFetches (device owner : Device) (folder : Folder) (name : FileNa
 
 -- what a test tells
 pub is_so : (so : Type 0) (tells : Bool) → (IsTrue tells ↔ so) → tells ≡ true → so
-is_so so tells is yes = is.0 yes
+is_so so tells is told = is.0 told
 
 pub is_not_so : (so : Type 0) (tells : Bool) → (IsTrue tells ↔ so) → tells ≡ false → ¬ so
-is_not_so so tells is no holds = let never : false ≡ true = sym no ∙ is.1 holds in cc
+is_not_so so tells is told holds = let never : false ≡ true = sym told ∙ is.1 holds in cc
 
 -- what the next steps lead to, if they can be made
 abbrev pub LeadsOn : List Event → Cluster → Cluster → Type 0
 LeadsOn events now new = (more : List Event) (later : Cluster) → IsRun now (events ++ more) later → IsRun new more later
 
 module _ (device owner : Device) (folder : Folder) (name : FileName) (sequence rounds : ℕ) (old : Cluster) where
-  pub first_hears : StillHears device owner folder name sequence rounds rounds old old
-  first_hears = record { quiet = no_step old; within = λ later blocks batches few hears. (batches, few, hears) }
+  pub first_hears : (left : ℕ) → rounds ≤ left → StillHears device owner folder name sequence rounds left old old
+  first_hears left all = record { quiet = no_step old; within = λ later blocks batches few hears. (batches, omega arith, hears) }
 
   -- the next batch can be heard
   pub hears_next : (most less : ℕ) (now : Cluster) → most ≡ suc less → ¬ HasHeardUpTo now device owner folder sequence → StillHears device owner folder name sequence rounds most old now →
@@ -132,8 +132,8 @@ module _ (device owner : Device) (folder : Folder) (name : FileName) (sequence r
       none_within device owner folder name later sequence blocks now (subst (λ (n : ℕ). HearsWithin device owner folder name later sequence blocks n now) none (still.within later blocks batches few hears))
 
 module _ (device owner : Device) (folder : Folder) (name : FileName) (rounds : ℕ) (old : Cluster) where
-  pub first_fetches : StillFetches device owner folder name rounds rounds old old
-  first_fetches = record { quiet = no_step old; within = λ later blocks few fetches. (blocks, few, fetches) }
+  pub first_fetches : (left : ℕ) → rounds ≤ left → StillFetches device owner folder name rounds left old old
+  first_fetches left all = record { quiet = no_step old; within = λ later blocks few fetches. (blocks, omega arith, fetches) }
 
   -- the next block can be fetched
   pub fetches_next : (most less : ℕ) (now : Cluster) → most ≡ suc less → LacksBlocks now device folder name → StillFetches device owner folder name rounds most old now →

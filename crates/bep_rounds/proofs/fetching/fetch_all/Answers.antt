@@ -1,4 +1,4 @@
-use Rattle.std.proofs.Common.{◌≡◌, false, true, Err, [], rules, arith}
+use Rattle.std.proofs.Common.{◌≡◌, ◌+◌, ◌-◌, false, true, Err, [], rules, arith}
 use Rattle.bep_peer.specs.network.Network.{cluster_of}
 use Rattle.bep_converge.specs.Watched.{FetchesTo, LacksBlocks}
 use Rattle.bep_rounds.proofs.Made.{at_err}
@@ -7,7 +7,7 @@ use Rattle.bep_rounds.proofs.Rounds.{fetched_at_end, fetched_one_more, fetched_t
 use Rattle.bep_rounds.proofs.fetching.fetch_all.Goals as goal
 
 pub loop-block-init : goal.loop-block-init
-loop-block-init g c = first_fetches _ _ _ _ _ _
+loop-block-init g c = first_fetches _ _ _ _ _ _ _ (omega arith)
 
 pub loop-block-preserved : goal.loop-block-preserved
 loop-block-preserved g c =
@@ -34,7 +34,7 @@ returns-in_err-fetch-clause-made g c =
     let told : c.lacks_blocks.result ≡ true = search rules in
     let is : c.from_residual.result ≡ Err c.in_err-fetch.field-0.0 = search rules in
     λ later blocks few fetches.
-    let next = fetches_next _ _ _ _ _ _ _ _ (cluster_of c.loop-block.cluster) (omega arith)
+    let next = fetches_next _ _ _ _ _ _ (c.args.most - c.loop-block._block) (c.args.most - (c.loop-block._block + 1)) (cluster_of c.loop-block.cluster) (omega arith)
     (is_so (LacksBlocks (cluster_of c.loop-block.cluster) c.args.wanted.now.device c.args.wanted.now.folder c.args.wanted.now.name) c.lacks_blocks.result c.lacks_blocks.ensures told)
     c.loop-block.invariant later blocks few fetches in
     at_err (FetchesTo c.args.wanted.now.device c.args.wanted.now.owner c.args.wanted.now.folder c.args.wanted.now.name later 0 (cluster_of c.fetch.new.cluster)) c.fetch.new.cluster.members c.from_residual.result c.in_err-fetch.field-0.0 is

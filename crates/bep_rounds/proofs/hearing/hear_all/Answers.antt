@@ -1,4 +1,5 @@
-use Rattle.std.proofs.Common.{◌≡◌, Err, [], rules, arith}
+use Rattle.std.proofs.Common.{◌≡◌, ◌+◌, ◌-◌, ◌/◌, Err, [], rules, arith}
+use Rattle.bep_index.specs.declared.limits.TheConstants.{MAX_RECORDS}
 use Rattle.bep_peer.specs.network.Network.{cluster_of}
 use Rattle.bep_converge.specs.Watched.{HasHeardUpTo, HearsTo}
 use Rattle.bep_rounds.proofs.Made.{at_err}
@@ -7,7 +8,7 @@ use Rattle.bep_rounds.proofs.Rounds.{first_hears, heard_at_end, heard_one_more, 
 use Rattle.bep_rounds.proofs.hearing.hear_all.Goals as goal
 
 pub loop-round-init : goal.loop-round-init
-loop-round-init g c = first_hears _ _ _ _ _ _ _
+loop-round-init g c = first_hears _ _ _ _ _ _ _ _ (omega arith)
 
 pub loop-round-preserved : goal.loop-round-preserved
 loop-round-preserved g c =
@@ -31,7 +32,7 @@ pub returns-in_err-hear-clause-made : goal.returns-in_err-hear-clause-made
 returns-in_err-hear-clause-made g c =
     let is : c.from_residual.result ≡ Err c.in_err-hear.field-0.0 = search rules in
     λ later blocks batches few hears.
-    let next = hears_next _ _ _ _ _ _ _ _ _ (cluster_of c.loop-round.cluster) (omega arith)
+    let next = hears_next _ _ _ _ _ _ _ (c.args.sequence / MAX_RECORDS + 1 - c.loop-round._round) (c.args.sequence / MAX_RECORDS + 1 - (c.loop-round._round + 1)) (cluster_of c.loop-round.cluster) (omega arith)
     (is_not_so (HasHeardUpTo (cluster_of c.loop-round.cluster) c.args.wanted.now.device c.args.wanted.now.owner c.args.wanted.now.folder c.args.sequence) c.has_heard.result c.has_heard.ensures c.if-has_heard.false)
     c.loop-round.invariant later blocks batches few hears in
     at_err (HearsTo c.args.wanted.now.device c.args.wanted.now.owner c.args.wanted.now.folder c.args.wanted.now.name c.args.sequence later blocks 0 (cluster_of c.hear.new.cluster)) c.hear.new.cluster.members c.from_residual.result c.in_err-hear.field-0.0 is

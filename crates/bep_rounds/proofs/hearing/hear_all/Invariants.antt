@@ -6,4 +6,4 @@ use Rattle.bep_rounds.proofs.hearing.hear_all.Given as goal
 -- the record is there, or comes within the rounds that are left
 abbrev pub invariant-loop-round : goal.invariant-loop-round
 invariant-loop-round g l =
-    StillHears l.wanted.now.device l.wanted.now.owner l.wanted.now.folder l.wanted.now.name l.sequence l.rounds (l.rounds - l._round) (cluster_of l.fn.cluster) (cluster_of l.cluster)
+    StillHears l.wanted.device l.wanted.owner l.wanted.folder l.wanted.name l.sequence l.rounds (l.rounds - l._round) (cluster_of l.fn.cluster) (cluster_of l.cluster)
