@@ -1,5 +1,5 @@
 -- A step that can be done is done, unless a call of a store fails or memory is wanting.
-use Rattle.std.proofs.Common.{◌≡◌, ◌∙◌, ℕ, nat_lt, Bool, true, false, List, [], ◌∷◌, Option, Some, None, IsSome, is_some, Result, Ok, Err, refl, sym, ap, subst, if◌then◌else◌}
+use Rattle.std.proofs.Common.{◌≡◌, ◌∙◌, ℕ, nat_lt, Bool, true, false, List, ◌∷◌, Option, Some, None, IsSome, is_some, Result, Ok, Err, refl, sym, ap, subst, if◌then◌else◌}
 use Rattle.bep_model.specs.Tables.{Device}
 use Rattle.bep_machine.specs.declared.moved.Moved.{Moved}
 use Rattle.bep_machine.specs.declared.moved.Moved.TheVariants.{Changed}

@@ -23,7 +23,7 @@ pub returns-in_err-make-3-clause-quiet : goal.returns-in_err-make-3-clause-quiet
 returns-in_err-make-3-clause-quiet g c = both_runs _ _ _ c.make.ensures.quiet (both_runs _ _ _ c.make-2.ensures.quiet c.make-3.ensures.quiet)
 
 pub returns-in_err-make-3-clause-made : goal.returns-in_err-make-3-clause-made
-returns-in_err-make-3-clause-made g c = 
+returns-in_err-make-3-clause-made g c =
     let is : c.from_residual-in_err-make-3.result ≡ Err c.in_err-make-3.field-0.0 = search rules in
     let device = c.args.wanted.now.device in
     let owner = c.args.wanted.now.owner in
@@ -36,7 +36,7 @@ pub returns-in_err-make-2-clause-quiet : goal.returns-in_err-make-2-clause-quiet
 returns-in_err-make-2-clause-quiet g c = both_runs _ _ _ c.make.ensures.quiet c.make-2.ensures.quiet
 
 pub returns-in_err-make-2-clause-made : goal.returns-in_err-make-2-clause-made
-returns-in_err-make-2-clause-made g c = 
+returns-in_err-make-2-clause-made g c =
     let is : c.from_residual-in_err-make-2.result ≡ Err c.in_err-make-2.field-0.0 = search rules in
     let device = c.args.wanted.now.device in
     let owner = c.args.wanted.now.owner in
@@ -45,7 +45,7 @@ returns-in_err-make-2-clause-made g c =
     (c.in_ok-make.ensures.made (done (Begin owner device) ∷ done (Deliver device owner) ∷ done (Deliver owner device) ∷ more) later run))
 
 pub returns-in_err-make-clause-made : goal.returns-in_err-make-clause-made
-returns-in_err-make-clause-made g c = 
+returns-in_err-make-clause-made g c =
     let is : c.from_residual.result ≡ Err c.in_err-make.field-0.0 = search rules in
     let device = c.args.wanted.now.device in
     let owner = c.args.wanted.now.owner in

@@ -18,7 +18,7 @@ returns-clause-made g c = λ more later run.
     (c.in_ok-restart.ensures.made (done (Begin device owner) ∷ done (Begin owner device) ∷ done (Deliver device owner) ∷ done (Deliver owner device) ∷ more) later run)
 
 pub returns-in_err-restart-clause-made : goal.returns-in_err-restart-clause-made
-returns-in_err-restart-clause-made g c = 
+returns-in_err-restart-clause-made g c =
     let is : c.from_residual.result ≡ Err c.in_err-restart.field-0.0 = search rules in
     let device = c.args.wanted.now.device in
     let owner = c.args.wanted.now.owner in
