@@ -20,10 +20,10 @@ use std::alloc::Global;
 /// Makes the round that brings the name from its owner to the device. Both are restarted and begin a session, the owner
 /// announces its records until the device has this one, and the device pulls it, block by block.
 ///
-/// Where the cluster is ready for a round, the name prevails, the owner has its top and the device doesn't, only want of memory
-/// is an error, or a call of a store that failed in the last step. Without an error the device is at the top then, and all else
-/// is as it was; what was made is the run that `bring_is_watched` says. So one device fewer is behind on a name, and the cluster is
-/// ready for one round fewer.
+/// It can be made where the cluster is ready for a round, the name prevails, and the owner has its top but not the device.
+/// Then only two things are an error: want of memory, or a call of a store that failed in the last step. Without an error the
+/// device is at the top, and all else is as it was; what was made is the run that `bring_is_watched` says. So one device fewer is
+/// behind on a name, and the cluster is ready for one round fewer.
 ///
 /// Whatever is answered, and wherever the cluster was, what was made is a quiet run without a reset. So what was settled, firm
 /// or prevailed is so still.
