@@ -142,7 +142,7 @@ class OtherFolders(Exporting):
             self.assert_named([*part, self.room / "one.part", *look], ": .*/.stignore can't be read")
         (files / ".stignore").unlink()
         (files / ".stfolder").rename(files / "away")
-        self.assert_named([*part, self.room / "one.part"], ": .* is its disk mounted")
+        self.assert_named([*part, self.room / "one.part"], ": .* other things are there")
         (files / "away").rename(files / ".stfolder")
 
     def test_two_looks_at_one_folder(self):
@@ -226,6 +226,37 @@ class AwayFolders(Exporting):
         self.assertIn(f"there is no {self.files}: mount its disk", strict.stderr)
         self.assertEqual(part.returncode, 2)
         self.assertIn(f"there is no {self.files}: is its disk mounted?", part.stderr)
+
+    def test_only_its_marker_is_gone(self):
+        """Its disk is mounted then. Who follows the advice from the top sees what is missing before Syncthing takes that for deleted."""
+        room, marker = self.files.with_name("away"), self.files / ".stfolder"
+        room.rename(self.files)
+        marker.rmdir()
+        (self.files / "song").rmdir()
+        (self.files / "notes").write_text("notes")
+        words = [self.program, "check", *(word for device in self.devices for word in ("--home", device.home)), "--syncaudit", self.auditor]
+        why = f"{self.files} has no .stfolder, by which Syncthing knows the folder: other things are there. If its disk is mounted, pause the folder, put the marker back, and audit again"
+        try:
+            paused = run(words)
+            self.pause(self.two, False)
+            stopped = run(words)
+            self.pause(self.two, True)
+            marker.mkdir()
+            ran = run([*words, "--json"])
+        finally:
+            self.pause(self.two, True)
+            marker.mkdir(exist_ok=True)
+            (self.files / "notes").unlink()
+            (self.files / "song").mkdir()
+            self.files.rename(room)
+        for told, begin, end in ((paused, "it is paused there, and ", ""), (stopped, "", ". Syncthing has stopped the folder there")):
+            self.assertEqual(told.returncode, 6, told.stderr)
+            line = next(line for line in told.stdout.splitlines() if line.startswith("left out: "))
+            self.assertIn(f" of {self.two.id}: {begin}{why}", line)
+            self.assertTrue(line.endswith(f"mount it, and audit again{end}"), line)
+        self.assertEqual((ran.returncode, [(one["id"], [(at["name"], [fault["cause"] for fault in at["faults"]]) for at in one["files"]])
+                                           for one in json.loads(ran.stdout)["folders"] if one["names_wrong"]]),
+                         (1, [(OTHER, [("notes", ["not-scanned"]), ("song", ["missing-on-disk"])])]))
 
     def test_both_have_it_away(self):
         """No device has anything of the folder then. That is told of each."""

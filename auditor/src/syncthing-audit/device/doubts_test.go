@@ -57,7 +57,7 @@ func TestWordsOfAFolderThatIsAway(t *testing.T) {
 			if told := lackingAt(path, folder, fmt.Errorf("it failed: %w", cause)); told != words[place] {
 				t.Errorf("%q, not %q", told, words[place])
 			}
-			if told := pathFault(folder, fmt.Errorf("it failed: %w", cause)).Error(); strings.Contains(told, "Without it Syncthing stops") != (place == 0) || !strings.HasSuffix(told, "--folder chooses other folders") {
+			if told := pathFault(folder, fmt.Errorf("it failed: %w", cause)).Error(); strings.Contains(told, "Without the marker Syncthing stops") != (place == 0) || !strings.HasSuffix(told, "--folder chooses other folders") {
 				t.Error(told)
 			}
 		}

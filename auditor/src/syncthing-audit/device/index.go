@@ -66,6 +66,16 @@ func AwayWithoutPath(folder config.FolderConfiguration) string {
 	return lackingAt("", folder, folder.CheckPath())
 }
 
+// IsUnmarked says whether a folder's directory has no marker, and yet something stands in it: its disk is probably there. An empty one is that of a disk
+// that isn't mounted.
+func IsUnmarked(folder config.FolderConfiguration) bool {
+	if !errors.Is(folder.CheckPath(), config.ErrMarkerMissing) {
+		return false
+	}
+	names, err := adapt.Filesystem(folder.Filesystem, nil).DirNames(".")
+	return err == nil && len(names) > 0
+}
+
 // lacking says what isn't there of a folder's directory by what Syncthing says of it; nothing where that says something else.
 func lacking(folder config.FolderConfiguration, err error) string {
 	path := adapt.Filesystem(folder.Filesystem, nil).URI()
@@ -96,11 +106,14 @@ func pathFault(folder config.FolderConfiguration, err error) error {
 	if what == "" {
 		return fmt.Errorf("folder %s: %s: %w", folder.ID, adapt.Filesystem(folder.Filesystem, nil).URI(), err)
 	}
-	what += ": is its disk mounted? "
-	if errors.Is(err, config.ErrMarkerMissing) {
-		what += "Without it Syncthing stops the folder, too. "
+	toDo := "is its disk mounted?"
+	if IsUnmarked(folder) {
+		toDo = part.MarkAgain + "."
 	}
-	return fmt.Errorf("folder %s: %s--folder chooses other folders", folder.ID, what)
+	if errors.Is(err, config.ErrMarkerMissing) {
+		toDo += " Without the marker Syncthing stops the folder, too."
+	}
+	return fmt.Errorf("folder %s: %s: %s --folder chooses other folders", folder.ID, what, toDo)
 }
 
 // recovered makes an error of what Syncthing's packages panic with, such as a list of blocks that the index lacks.

@@ -29,6 +29,7 @@ func otherOf(home *device.Home, folder config.FolderConfiguration, withPaths boo
 	}
 	lacking := part.Other{ID: folder.ID, Label: folder.Label, Devices: []string{}, Away: away(folder)}
 	lacking.IsStopped = lacking.Away != "" && !folder.Paused
+	lacking.IsUnmarked = device.IsUnmarked(folder)
 	for _, other := range home.Sharing(folder) {
 		lacking.Devices = append(lacking.Devices, other.Device)
 	}

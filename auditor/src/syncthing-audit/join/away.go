@@ -37,8 +37,9 @@ func WhyAway(other part.Other) string {
 	if other.Apart != "" {
 		return other.Apart
 	}
+	why := shell.Printable(other.Away) + ": " + other.WhatToDo()
 	if other.IsStopped {
-		return shell.Printable(other.Away) + ": mount its disk, and audit again. Syncthing has stopped the folder there"
+		return why + ". Syncthing has stopped the folder there"
 	}
-	return "it is paused there, and " + shell.Printable(other.Away) + ": mount its disk, and audit again"
+	return "it is paused there, and " + why
 }

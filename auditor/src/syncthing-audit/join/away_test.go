@@ -63,3 +63,22 @@ func TestFoldersThatAreRefusedAway(t *testing.T) {
 		}
 	}
 }
+
+// What to do about a folder that is away: one whose marker alone is gone isn't told to be mounted, and is audited before Syncthing takes what is missing
+// there for deleted.
+func TestWhatToDoAboutAFolderThatIsAway(t *testing.T) {
+	const gone, marked = "there is no /media/docs", "/media/docs has no .stfolder, by which Syncthing knows the folder"
+	const again = "other things are there. If its disk is mounted, pause the folder, put the marker back, and audit again before the folder goes on: " +
+		"what is missing there, Syncthing then deletes elsewhere. If it isn't mounted, mount it, and audit again"
+	for told, other := range map[string]part.Other{
+		"it is paused there, and " + gone + ": mount its disk, and audit again":            {Away: gone},
+		gone + ": mount its disk, and audit again. Syncthing has stopped the folder there": {Away: gone, IsStopped: true},
+		"it is paused there, and " + marked + ": " + again:                                 {Away: marked, IsUnmarked: true},
+		marked + ": " + again + ". Syncthing has stopped the folder there":                 {Away: marked, IsStopped: true, IsUnmarked: true},
+		"it changed meanwhile": {Away: marked, IsUnmarked: true, Apart: "it changed meanwhile"},
+	} {
+		if is := WhyAway(other); is != told {
+			t.Errorf("%q, not %q", is, told)
+		}
+	}
+}

@@ -99,8 +99,22 @@ type Other struct {
 	Devices []string `json:"devices"`        // others that it is shared with
 	Away    string   `json:"away,omitempty"` // its directory isn't there: in words
 
-	IsStopped bool   `json:"stopped,omitempty"` // it isn't paused, so Syncthing stopped it since it is away
-	Apart     string `json:"-"`                 // why two looks at it don't go together
+	IsStopped  bool   `json:"stopped,omitempty"`  // it isn't paused, so Syncthing stopped it since it is away
+	IsUnmarked bool   `json:"unmarked,omitempty"` // its directory has no marker, and yet something stands in it
+	Apart      string `json:"-"`                  // why two looks at it don't go together
+}
+
+// MarkAgain says what to do where a folder's directory has no marker, and yet something stands in it. Once Syncthing goes on with the folder, what is missing
+// there counts as deleted, so an audit comes before that.
+const MarkAgain = "other things are there. If its disk is mounted, pause the folder, put the marker back, and audit again before the folder goes on: " +
+	"what is missing there, Syncthing then deletes elsewhere. If it isn't mounted, mount it"
+
+// WhatToDo says what to do about a folder that is away.
+func (o *Other) WhatToDo() string {
+	if o.IsUnmarked {
+		return MarkAgain + ", and audit again"
+	}
+	return "mount its disk, and audit again"
 }
 
 // Folder is a folder at the device.
