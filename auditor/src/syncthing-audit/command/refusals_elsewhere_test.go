@@ -52,7 +52,6 @@ var elsewhere = map[string][]string{
 	},
 	"more bytes than a quick test writes: part's and rows' own tests of limits": {
 		"refused: a line of the part would have %d bytes, and a part has lines of at most %d",
-		"refused: what a part says of its folders and devices takes %d bytes here, and a part has at most %d for that: ",
 		"refused: it has more bytes than any part (over %d)",
 		"refused: one document hasn't room for all: --into DIR writes several, --folder and --names choose",
 	},

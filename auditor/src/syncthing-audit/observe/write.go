@@ -24,6 +24,11 @@ func (d *Device) Write(to io.Writer, asked Asked, observer protocol.DeviceID, lo
 	return writer.Close()
 }
 
+// CheckRoom says why no part has room for what the device says of its folders and devices.
+func (d *Device) CheckRoom(asked Asked, observer protocol.DeviceID, look string, devices []*Device) error {
+	return d.head(asked, observer, look, devices).CheckRoom()
+}
+
 // lines gives the lines of a part to take.
 func (d *Device) lines(asked Asked, head *part.Head, take part.Sink) error {
 	for place, folder := range d.Folders {

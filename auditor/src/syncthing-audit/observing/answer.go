@@ -17,33 +17,49 @@ import (
 	"syncthing-audit/target"
 )
 
-// write writes the parts of all devices that were looked at twice, and gives their files with what their devices were given as.
+// write writes the parts of all devices that were looked at twice, as far as there is room in one, and gives their files with what their devices were given as.
 func (o *observing) write() (map[string]string, error) {
-	seen, given, places := []*observe.Device{}, map[*observe.Device]string{}, map[*observe.Device]int{}
-	for at, device := range o.devices {
-		if device != nil {
-			seen = append(seen, device)
-			given[device], places[device] = o.addresses[at].given, at
-		}
+	if o.checkRoom(); len(o.seen()) == 0 {
+		return nil, errNothingSeen
 	}
 	if err := os.MkdirAll(o.room, 0o700); err != nil {
 		return nil, fault.Of(err)
 	}
-	files := map[string]string{}
-	for _, device := range seen {
+	files, seen := map[string]string{}, o.seen()
+	for at, device := range o.devices {
+		if device == nil {
+			continue
+		}
 		path := filepath.Join(o.room, fileOf(device.ID, seen))
 		to, err := target.Of(path)
 		if err != nil {
 			return nil, err
 		}
 		if err := to.Write(func(to io.Writer) error {
-			return device.Write(to, o.wants(places[device]), o.observer.ID, o.lookID, seen)
+			return device.Write(to, o.wants(at), o.observer.ID, o.lookID, seen)
 		}); err != nil {
 			return nil, err
 		}
-		files[path] = given[device]
+		files[path] = o.addresses[at].given
 	}
 	return files, nil
+}
+
+// seen gives the devices that were looked at twice.
+func (o *observing) seen() []*observe.Device {
+	seen := []*observe.Device{}
+	for _, device := range o.devices {
+		if device != nil {
+			seen = append(seen, device)
+		}
+	}
+	return seen
+}
+
+// checkRoom sees that a part has room for what each device says of its folders and devices. Of one that says more there is no part, and of the others there is.
+func (o *observing) checkRoom() {
+	seen := o.seen()
+	o.each("no part", func(at int) error { return o.devices[at].CheckRoom(o.wants(at), o.observer.ID, o.lookID, seen) })
 }
 
 // fileOf gives the name of a device's part: the first letters of its id, by which a person knows it, or all of them where another one's begin alike, as

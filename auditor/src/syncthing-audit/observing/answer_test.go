@@ -116,6 +116,16 @@ func TestALiarOfWhichThereIsNoPart(t *testing.T) {
 				state.Others = append(state.Others, another(number))
 			}
 		},
+		"names without an end": func(state *stranger.State) {
+			for number := 0; number < 900; number++ {
+				device := another(number)
+				device.Name = strings.Repeat("\x01", 1000)
+				state.Others = append(state.Others, device)
+			}
+			for _, folder := range []string{"more", "pics", "zoo"} {
+				state.Records[folder] = state.Records["docs"]
+			}
+		},
 	} {
 		lie(change)
 		here.expect(why, exit.Partial, "docs: in step as far as seen over the wire", "on device a")

@@ -166,12 +166,10 @@ func (o *observing) look() error {
 	o.each("second look", o.again)
 	o.endAsking()
 	o.tellBack()
-	for _, device := range o.devices {
-		if device != nil {
-			return nil
-		}
+	if len(o.seen()) == 0 {
+		return errNothingSeen
 	}
-	return errNothingSeen
+	return nil
 }
 
 // connectAll connects to all devices.

@@ -29,7 +29,7 @@ type Writer struct {
 func NewWriter(to io.Writer, head *Head) (*Writer, error) {
 	text, err := headText(head)
 	if err != nil {
-		return nil, err
+		return nil, fmt.Errorf("refused: %w", err)
 	}
 	writer := &Writer{buffered: bufio.NewWriterSize(to, 1<<16), sum: sha256.New()}
 	writer.zipped, _ = gzip.NewWriterLevel(writer.buffered, gzip.BestSpeed)
@@ -43,14 +43,20 @@ func NewWriter(to io.Writer, head *Head) (*Writer, error) {
 // headText gives a head in JSON, or says why there is no such part.
 func headText(head *Head) ([]byte, error) {
 	if err := checkMany(head); err != nil {
-		return nil, fmt.Errorf("refused: %w", err)
+		return nil, err
 	}
 	text, err := json.Marshal(head)
 	if err == nil && len(text) > mostHeadBytes {
-		err = fmt.Errorf("refused: what a part says of its folders and devices takes %d bytes here, and a part has at most %d for that: "+
+		err = fmt.Errorf("what a part says of its folders and devices takes %d bytes here, and a part has at most %d for that: "+
 			"--folder chooses folders", len(text), mostHeadBytes)
 	}
 	return text, err
+}
+
+// CheckRoom says why no part has room for a head.
+func (h *Head) CheckRoom() error {
+	_, err := headText(h)
+	return err
 }
 
 // Take writes a line. Of a name whose records are too long for one, as those of very many views may be, the part says that they are left out.
