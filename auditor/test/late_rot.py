@@ -72,6 +72,9 @@ class RotThatIsFetched(LateRot):
         self.assertEqual([taken[name]["fate"] for name in (KEPT, LOST)], ["right", "lost"], "the first device has the last good copy")
         entry, _ = self.entry(LOST)
         self.assertIn(f"{self.label(self.one)}: behind: hasn't taken what is newest: other bytes under the time of its own, as of rot that a scan took", entry)
+        size = len("rotten " + LOST)
+        self.assertIn(f"\nunder one time: {FOLDER} {LOST} on {self.number(self.one)}: {size} bytes recorded, {size} due\n",
+                      self.check().stdout)
         self.start()
         wait_until("the rotten bytes are on all devices", lambda: all(
             text_of(device.files / LOST) == "rotten " + LOST for device in self.devices))

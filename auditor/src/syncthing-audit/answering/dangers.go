@@ -26,6 +26,10 @@ func dangersOf(answer *finding.Answer, told *summary.Summary) *report.Dangers {
 				if fault.Damage != damage.None {
 					dangers.Disks = append(dangers.Disks, diskOf(folder.ID, string(file.Name), numbers[fault.Device], string(fault.Damage), fault.Recorded, fault.Found))
 				}
+				if fault.IsOfOneTime {
+					dangers.UnderOneTime = append(dangers.UnderOneTime, report.UnderOneTime{Folder: folder.ID, Name: string(file.Name), Device: numbers[fault.Device],
+						Recorded: sizeOf(fault.Recorded), Due: sizeOf(fault.Due)})
+				}
 			}
 		}
 		if folder.Live == nil {
@@ -44,12 +48,13 @@ func dangersOf(answer *finding.Answer, told *summary.Summary) *report.Dangers {
 
 // diskOf gives the line of a name at a device, whose record or disk may have nothing of it.
 func diskOf(folder, name string, device uint64, why string, recorded, found *summary.State) report.Disk {
-	line := report.Disk{Folder: folder, Name: name, Device: device, Why: why}
-	if recorded != nil {
-		line.Recorded = recorded.Size
+	return report.Disk{Folder: folder, Name: name, Device: device, Why: why, Recorded: sizeOf(recorded), Found: sizeOf(found)}
+}
+
+// sizeOf gives the size of what a record or a disk says of a name; 0 where there is nothing.
+func sizeOf(state *summary.State) int64 {
+	if state == nil {
+		return 0
 	}
-	if found != nil {
-		line.Found = found.Size
-	}
-	return line
+	return state.Size
 }

@@ -10,8 +10,9 @@ import (
 
 // Dangers are what a start, a scan or a revert may lose.
 type Dangers struct {
-	First []First
-	Disks []Disk
+	First        []First
+	Disks        []Disk
+	UnderOneTime []UnderOneTime
 }
 
 // First is what is to be done on devices before all else.
@@ -27,6 +28,13 @@ type Disk struct {
 	Device          uint64
 	Why             string
 	Recorded, Found int64 // sizes
+}
+
+// UnderOneTime is a name of which other bytes are due at a device, under the very time of what it recorded. Rot that a scan took looks so.
+type UnderOneTime struct {
+	Folder, Name  string
+	Device        uint64
+	Recorded, Due int64 // sizes
 }
 
 // print prints these.
@@ -47,5 +55,8 @@ func (d *Dangers) print(to io.Writer) {
 	}
 	for _, disk := range d.Disks {
 		outside.Printf(to, "not as recorded: %s %s on %d: %s, %d bytes recorded, %d found\n", disk.Folder, printed(disk.Name), disk.Device, disk.Why, disk.Recorded, disk.Found)
+	}
+	for _, is := range d.UnderOneTime {
+		outside.Printf(to, "under one time: %s %s on %d: %d bytes recorded, %d due\n", is.Folder, printed(is.Name), is.Device, is.Recorded, is.Due)
 	}
 }
