@@ -88,8 +88,8 @@ func TestWhatAPlanRefuses(t *testing.T) {
 	if err != nil || asked != 1 {
 		t.Fatal(err, asked)
 	}
-	refusals := []finding.Refusal{{Folder: "docs", Device: idOf(4), Why: "x"}}
-	if !reflect.DeepEqual(answer.Refusals, refusals) || len(answer.LeftOut) != 2 || answer.LeftOut[0].Device == "na\x1bs" || answer.LeftOut[0].Kind != part.Absent ||
+	refusals := []finding.Refusal{{Folder: "docs", Device: idOf(4), ID: idOf(4), Why: "x"}}
+	if !reflect.DeepEqual(answer.Refusals, refusals) || len(answer.LeftOut) != 2 || answer.LeftOut[0].Device == "na\x1bs" || answer.LeftOut[0].Kind != part.Absent || answer.LeftOut[0].ID != idOf(3) ||
 		answer.LeftOut[0].Label != "Documents" || answer.LeftOut[1].Device != idOf(5) {
 		t.Errorf("%+v, %+v", answer.Refusals, answer.LeftOut)
 	}

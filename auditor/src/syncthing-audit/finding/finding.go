@@ -154,6 +154,8 @@ type Refusal struct {
 	Name   string `json:"name,omitempty"`
 	Kind   string `json:"kind"` // that --leave-out names; none where it can't be left out
 	Why    string `json:"why"`
+
+	ID string `json:"-"` // of the device; nothing where it isn't known, or where this was read from an export
 }
 
 // Reasons are why a folder isn't settled, in the order in which they are told.

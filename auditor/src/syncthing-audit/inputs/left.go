@@ -1,6 +1,8 @@
 package inputs
 
 import (
+	"strings"
+
 	"golang.org/x/exp/slices"
 	"syncthing-audit/finding"
 	"syncthing-audit/part"
@@ -14,13 +16,11 @@ type Left struct {
 	Why    string
 }
 
-// WhyLeft gives why places are left out, by the ids of their devices as far as these are known.
+// WhyLeft gives why places are left out, by the ids of their devices. Those whose ids aren't known stand at no id.
 func WhyLeft(places []Left) map[string]string {
 	reasons := map[string]string{}
 	for _, left := range places {
-		if left.Device != "" {
-			reasons[left.Device] = shell.Printable(left.Why)
-		}
+		reasons[left.Device] = shell.Printable(left.Why)
 	}
 	return reasons
 }
@@ -29,10 +29,11 @@ func WhyLeft(places []Left) map[string]string {
 func AddLeft(answer *finding.Answer, places []Left) {
 	for _, left := range places {
 		isTold := func(had finding.Refusal) bool {
-			return had.Device == left.Called || left.Device != "" && had.Device == left.Device
+			return had.Device == left.Called || left.Device != "" && had.ID == left.Device
 		}
 		if slices.IndexFunc(answer.LeftOut, isTold) < 0 {
-			answer.LeftOut = append(answer.LeftOut, finding.Refusal{Kind: part.Absent, Device: left.Called, Why: shell.Printable(left.Why)})
+			why := strings.TrimPrefix(left.Why, left.Called+": ") // a command says at which place it ended
+			answer.LeftOut = append(answer.LeftOut, finding.Refusal{Kind: part.Absent, Device: left.Called, ID: left.Device, Why: shell.Printable(why)})
 		}
 	}
 }

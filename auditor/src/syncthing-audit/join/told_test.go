@@ -267,3 +267,19 @@ func TestWhatIsFilledOfADisk(t *testing.T) {
 		t.Errorf("%+v, %+v", waiting, waiting.Waits)
 	}
 }
+
+// If a home is left out of which it isn't known whose it is, a device that shares the folder may be that one: it isn't told that nothing of it is given.
+func TestADeviceOfWhichNoHomeCouldBeRead(t *testing.T) {
+	three := deviceID(3)
+	for told, unreached := range map[string]map[string]string{
+		"no home or part of it is given (" + three + "). If":                {},
+		"no home or part of it is given (" + three + "). If it":             {deviceID(4): "no route"},
+		"no home or part that could be read is its own (" + three + "). If": {"": "permission denied"},
+		"no route": {three: "no route", "": "permission denied"},
+	} {
+		plan, err := NewPlanWithout(unreached, sharing(map[byte]string{1: "23", 2: "13"}, unchanged), nil)
+		if err != nil || len(plan.Refusals) != 1 || !strings.Contains(plan.Refusals[0].Why, told) {
+			t.Errorf("%v: %+v, %v", unreached, plan, err)
+		}
+	}
+}

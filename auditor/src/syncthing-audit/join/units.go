@@ -83,7 +83,11 @@ func (p *Plan) whyAbsent(device string) string {
 	if slices.IndexFunc(p.Devices, func(device *Device) bool { return !device.Head.IsOverWire() }) < 0 { // 'observe' has no --observer, and needs none
 		return "it shares the folder, and isn't among the devices that were asked (" + device + ")"
 	}
-	return "it shares the folder, and no home or part of it is given (" + device + "). If it is an observer, which keeps no files, give --observer and this id"
+	given := "no home or part of it is given"
+	if p.unreached[""] != "" { // it may be that one's
+		given = "no home or part that could be read is its own"
+	}
+	return "it shares the folder, and " + given + " (" + device + "). If it is an observer, which keeps no files, give --observer and this id"
 }
 
 // checkSharing leaves out the devices without a part, those whose parts are without the folder, and those that one device shares it with and that don't
