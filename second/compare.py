@@ -33,15 +33,23 @@ def is_hint(said, written):
     return said.count(b"\n") == 1 and said.endswith(b"\n") if has_no_place else said == b""
 
 
-def run(command, document):
-    """What the program writes, and its exit status; an explanation without what is indented."""
+def without_details(written):
+    """The lines that aren't indented."""
+    return b"".join(line for line in written.splitlines(keepends=True) if not line.startswith(b"  "))
+
+
+def run_with_details(command, document):
+    """What the program writes, and its exit status."""
     ran = subprocess.run([PROGRAM, *command.split()], input=document, capture_output=True, check=False)
-    written = ran.stdout
-    if command.startswith("explain"):
-        written = b"".join(line for line in written.splitlines(keepends=True) if not line.startswith(b"  "))
-    if not is_hint(ran.stderr, written):
-        sys.exit(f"{command}: on standard error stands {ran.stderr}, beside {written}")
-    return written, ran.returncode
+    if not is_hint(ran.stderr, ran.stdout):
+        sys.exit(f"{command}: on standard error stands {ran.stderr}, beside {ran.stdout}")
+    return ran.stdout, ran.returncode
+
+
+def run(command, document):
+    """What the program writes, an explanation without its details, and its exit status."""
+    written, status = run_with_details(command, document)
+    return without_details(written) if command.startswith("explain") else written, status
 
 
 def tell_difference(command, document, wanted, told):

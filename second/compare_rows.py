@@ -12,7 +12,7 @@ COUNT random streams (1000 if not given). The program must be built, as SYNCAUDI
 import sys
 from collections import Counter
 
-from compare import TOP, run, tell_difference
+from compare import TOP, run, run_with_details, tell_difference, without_details
 from row_stream import answer, lines_of
 from row_texts import Streams, document_of
 
@@ -49,11 +49,6 @@ def compare(stream, aim):
     return f"{'not ' if told[1] else ''}{aim}, {compare_document(stream, aim, told)}"
 
 
-def unindented(written):
-    """The lines without details."""
-    return b"".join(line for line in written.splitlines(keepends=True) if not line.startswith(b"  "))
-
-
 def end_of(written):
     """The verdict and the lines behind it."""
     lines = written.splitlines(keepends=True)
@@ -65,12 +60,12 @@ def compare_explained(stream, aim):
     its row alone stands, which no two records of one sequence keep from being read."""
     command, whole = EXPLAINED[aim]
     told, wanted = run(command, stream), answer(stream, aim, explain=True)
-    if (unindented(told[0]), told[1]) != wanted:
+    if (without_details(told[0]), told[1]) != wanted:
         tell_difference(command, stream, wanted, told)
     if told[1] == 2:
         return
     header, *rows = lines_of(stream)
-    explained = (run(whole, document_of(b"\n".join([header, row, b""]))) for row in rows)
+    explained = (run_with_details(whole, document_of(b"\n".join([header, row, b""]))) for row in rows)
     parts = b"".join(text for text, status in explained if status == 1)
     if told[0] != parts + end_of(run(COMMANDS[aim][0], stream)[0]):
         tell_difference(f"{command}, beside {whole}", stream, parts, told[0])
