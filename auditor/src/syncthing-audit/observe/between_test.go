@@ -18,6 +18,7 @@ import (
 	"syncthing-audit/history"
 	"syncthing-audit/message"
 	"syncthing-audit/part"
+	"syncthing-audit/shell"
 	"syncthing-audit/wire"
 )
 
@@ -323,6 +324,46 @@ func TestWhatWasKeptCannotBeRead(t *testing.T) {
 	}
 }
 
+// However many names there are that are too long for a part, they take no memory.
+func TestManyLongNames(t *testing.T) {
+	const names = 40000
+	folder, records := seenIn(t, "docs", nil), [][]byte{}
+	for at := 0; at < names; at++ {
+		records = append(records, fileOf(fmt.Sprintf("%s%06d", shell.BehindNames, at), uint64(at+1), true))
+	}
+	if err := folder.index.Put(records...); err != nil {
+		t.Fatal(err)
+	}
+	records = nil
+	before, count, last := inUse(), 0, part.Bytes("")
+	err := folder.each(asked, func(line *part.Name) error {
+		if count++; count == 1 {
+			if more := inUse() - before; more > names*400 { // LevelDB keeps 8 MiB, and writes 4
+				t.Errorf("%d bytes more are in use at the first name", more)
+			}
+		}
+		if line.Name <= last || len(line.Out) != 1 || line.Out[0].Kind != part.OddName || !strings.HasPrefix(line.Out[0].Why, "its name has ") {
+			t.Fatalf("%+v behind %q", line, last)
+		}
+		last = line.Name
+		return nil
+	})
+	if err != nil || count != names {
+		t.Errorf("%d names, %v", count, err)
+	}
+	if left, err := filepath.Glob(filepath.Join(filepath.Dir(folder.disks.directory), "*")); err != nil || len(left) != 1 {
+		t.Errorf("%q is left, %v", left, err)
+	}
+}
+
+// inUse gives how many bytes of memory are in use.
+func inUse() int64 {
+	var memory runtime.MemStats
+	runtime.GC()
+	runtime.ReadMemStats(&memory)
+	return int64(memory.HeapAlloc)
+}
+
 // However many names came between the looks, they take no memory.
 func TestManyNamesBetweenTheLooks(t *testing.T) {
 	const names, bytesOfAName = 20000, 1000
@@ -343,12 +384,6 @@ func TestManyNamesBetweenTheLooks(t *testing.T) {
 		t.Fatal(err)
 	}
 	defer folder.since.Close()
-	inUse := func() int64 {
-		var memory runtime.MemStats
-		runtime.GC()
-		runtime.ReadMemStats(&memory)
-		return int64(memory.HeapAlloc)
-	}
 	before, count := inUse(), 0
 	err = folder.each(asked, func(*part.Name) error {
 		if count++; count == 1 {

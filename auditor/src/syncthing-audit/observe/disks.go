@@ -57,6 +57,23 @@ func (d *disks) get(name string) (disk, bool, error) {
 	return found, true, err
 }
 
+// each gives all names of which something was found, rising, with why nothing stands there.
+func (d *disks) each(take func(name string, out *part.LeftOut) error) error {
+	all := d.db.NewIterator(nil, nil)
+	defer all.Release()
+	for all.Next() {
+		var found disk
+		err := json.Unmarshal(all.Value(), &found)
+		if err == nil {
+			err = take(string(all.Key()), found.Out)
+		}
+		if err != nil {
+			return err
+		}
+	}
+	return all.Error()
+}
+
 func (d *disks) close() {
 	d.db.Close()
 	os.RemoveAll(d.directory)

@@ -3,7 +3,7 @@ package observe
 import (
 	"fmt"
 	"io"
-	"sort"
+	"path/filepath"
 
 	"github.com/syncthing/syncthing/lib/protocol"
 	"syncthing-audit/budget"
@@ -55,28 +55,44 @@ func (f *Folder) lines(asked Asked, highest int64, isLast bool, take part.Sink) 
 	return take(part.Line{End: &part.End{Folder: id, Names: names, Bytes: f.bytes, Max: highest, Last: isLast}})
 }
 
-// each gives the lines of all names that were asked for, in the order of a part: names that are too long for one stand behind all others.
+// each gives the lines of all names that were asked for, in the order of a part: names that are too long for one stand behind all others, by their hashes.
+// A device may send any number of these, so they are kept beside what was found until then.
 func (f *Folder) each(asked Asked, take func(*part.Name) error) error {
-	long := []*part.Name{}
+	var long *disks
 	err := f.eachEntry(func(entry device.Entry) error {
-		if !asked.Names.Has(f.ID(), entry.Name) {
+		switch {
+		case !asked.Names.Has(f.ID(), entry.Name):
 			return nil
+		case part.IsLongName(entry.Name):
+			return f.keepLong(&long, entry.Name)
 		}
 		line, err := f.line(asked, entry)
-		if err == nil && part.IsLongName(entry.Name) {
-			long = append(long, line)
-			return nil
-		}
 		if err == nil {
 			err = take(line)
 		}
 		return err
 	})
-	sort.Slice(long, func(a, b int) bool { return long[a].Name < long[b].Name })
-	for at := 0; err == nil && at < len(long); at++ {
-		err = take(long[at])
+	if long == nil {
+		return err
 	}
-	return err
+	defer long.close()
+	if err != nil {
+		return err
+	}
+	return long.each(func(name string, out *part.LeftOut) error {
+		return take(&part.Name{Name: part.Bytes(name), Out: []part.LeftOut{*out}})
+	})
+}
+
+// keepLong keeps a name that is too long for a part among others.
+func (f *Folder) keepLong(to **disks, name string) (err error) {
+	if *to == nil {
+		if *to, err = newDisks(filepath.Dir(f.disks.directory)); err != nil {
+			return err
+		}
+	}
+	why := fmt.Sprintf("its name has %d bytes, or begins with bytes that stand before hashes in a part", len(name))
+	return (*to).put(string(part.HiddenLongName(f.ID(), name).Bytes()), disk{Out: &part.LeftOut{Kind: part.OddName, Why: why}})
 }
 
 // eachEntry gives what the index of the first look has, and between these, by their names alone, what came between the looks, rising. A device may send
@@ -113,11 +129,6 @@ func (f *Folder) eachEntry(take func(device.Entry) error) error {
 // line gives what was seen of a name.
 func (f *Folder) line(asked Asked, entry device.Entry) (*part.Name, error) {
 	name := &part.Name{Name: part.Bytes(entry.Name)}
-	if part.IsLongName(entry.Name) {
-		name.Name = part.HiddenLongName(f.ID(), entry.Name).Bytes()
-		name.Out = []part.LeftOut{{Kind: part.OddName, Why: fmt.Sprintf("its name has %d bytes, or begins with bytes that stand before hashes in a part", len(entry.Name))}}
-		return name, nil
-	}
 	_, isMoved, err := f.since.Get(entry.Name)
 	if err != nil {
 		return nil, err
