@@ -74,6 +74,7 @@ func (m Measured) Text() string {
 	slice := &metric{name: "slice", help: "Which slice of the names the last night was of."}
 	read := &metric{name: "part_timestamp_seconds", help: "When a device's files were read last."}
 	oldest := &metric{name: "oldest_read_timestamp_seconds", help: "When the file of a folder at a device was read whose last reading is the oldest."}
+	never := &metric{name: "files_never_read", help: "Files of a folder at a device that were never read as they are recorded now."}
 	status.add(float64(m.Status))
 	ended.add(float64(m.Ended.Unix()))
 	ofSlice := []string{}
@@ -102,9 +103,12 @@ func (m Measured) Text() string {
 				oldest.add(float64(read.Oldest.Unix()), "folder", read.Folder, "device", read.Device, "name", called[read.Device])
 			}
 		}
+		for _, waiting := range answer.Since.Waiting {
+			never.add(float64(waiting.Never), "folder", waiting.Folder, "device", waiting.Device, "name", called[waiting.Device])
+		}
 	}
 	text := &strings.Builder{}
-	for _, each := range []*metric{status, ended, wrong, names, out, spread, slice, read, oldest} {
+	for _, each := range []*metric{status, ended, wrong, names, out, spread, slice, read, oldest, never} {
 		each.write(text)
 	}
 	return text.String()

@@ -23,7 +23,8 @@ func TestMetricsOfANight(t *testing.T) {
 	at := func(second int64) time.Time { return time.Unix(second, 0) }
 	answer := func(folder string) *summary.Summary {
 		return &summary.Summary{LeftOut: make([]summary.LeftOut, 2), Folders: []*summary.Folder{{ID: folder, Wrong: 3, Names: 40}}, Devices: []summary.Device{{ID: "A", Name: "la\"p\\t\nop\xff", Read: at(50)}},
-			Since: &history.Since{Count: 6, Read: []history.Read{{Folder: folder, Device: "A", Files: 1, Oldest: at(7)}, {Folder: folder, Device: "B", Files: 0, Oldest: at(8)}}}}
+			Since: &history.Since{Count: 6, Read: []history.Read{{Folder: folder, Device: "A", Files: 1, Oldest: at(7)}, {Folder: folder, Device: "B", Files: 0, Oldest: at(8)}},
+				Waiting: []history.Waiting{{Folder: folder, Device: "A", Files: 9, Never: 5}, {Folder: folder, Device: "B", Files: 4}}}}
 	}
 	other := answer("pics")
 	other.Since, other.Devices = nil, nil
@@ -39,6 +40,7 @@ func TestMetricsOfANight(t *testing.T) {
 		{"slice", "Which slice of the names the last night was of.", `{of="7"} 2`},
 		{"part_timestamp_seconds", "When a device's files were read last.", `{device="A",name="la\"p\\t\nop?"} 50`},
 		{"oldest_read_timestamp_seconds", "When the file of a folder at a device was read whose last reading is the oldest.", `{folder="docs",device="A",name="la\"p\\t\nop?"} 7`},
+		{"files_never_read", "Files of a folder at a device that were never read as they are recorded now.", `{folder="docs",device="A",name="la\"p\\t\nop?"} 5` + "|" + `{folder="docs",device="B",name=""} 0`},
 	} {
 		fmt.Fprintf(&expected, "# HELP syncthing_audit_%s %s\n# TYPE syncthing_audit_%s gauge\n", one[0], one[1], one[0])
 		for _, value := range strings.Split(one[2], "|") {
