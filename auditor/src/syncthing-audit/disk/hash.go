@@ -9,7 +9,6 @@ import (
 	"path/filepath"
 	"strings"
 	"sync"
-	"sync/atomic"
 	"syscall"
 
 	"syncthing-audit/bep"
@@ -39,70 +38,16 @@ type File struct {
 	Keep       bool       // the bytes, too
 }
 
-// Pool hashes files, each once, on several cores.
-type Pool struct {
-	tasks   chan func()
-	workers sync.WaitGroup
-	hashing chan struct{} // one for each that hashes at this moment
-	hashed  atomic.Int64
-	skips   atomic.Bool
-}
-
-// NewPool starts a pool in which so many hash at once. Twice as many read, so that there is always something to hash.
-func NewPool(hashers int) *Pool {
-	pool := &Pool{tasks: make(chan func(), hashers), hashing: make(chan struct{}, hashers)}
-	for next := 0; next < 2*hashers; next++ {
-		pool.workers.Add(1)
-		go func() {
-			defer pool.workers.Done()
-			for task := range pool.tasks {
-				task()
-			}
-		}()
-	}
-	return pool
-}
-
-// Close ends the workers once all is hashed that was begun.
-func (p *Pool) Close() {
-	close(p.tasks)
-	p.workers.Wait()
-}
-
-// Hashed gives how many bytes were hashed up to now.
-func (p *Pool) Hashed() int64 { return p.hashed.Load() }
-
-// Skip has no bytes read from now on. Contents are those of no file then. It is for callers that look for other things
-// alone.
-func (p *Pool) Skip() { p.skips.Store(true) }
-
 // Job is a file that is being hashed.
 type Job struct {
 	file   File
 	pieces sync.WaitGroup
 	hashes [][][][32]byte // for each block size those of each piece's blocks
+	block  [1][32]byte    // the hash of the one block of a file that is read at once
+	list   part.Hash      // of that
 	data   []byte
 	mutex  sync.Mutex
 	err    error
-}
-
-// Begin has the workers hash a file.
-func (p *Pool) Begin(file File) *Job {
-	job := &Job{file: file, hashes: make([][][][32]byte, len(file.BlockSizes))}
-	if file.Keep {
-		job.data = make([]byte, file.Node.Size)
-	}
-	for offset := int64(0); (offset == 0 || offset < file.Length()) && !job.hasFailed() && !p.skips.Load(); offset += pieceBytes {
-		piece := job.pieceAt(offset)
-		job.pieces.Add(1)
-		p.tasks <- func() {
-			defer job.pieces.Done()
-			if err := p.hash(job, piece); err != nil {
-				job.fail(err)
-			}
-		}
-	}
-	return job
 }
 
 // piece is what one worker hashes of a file.
@@ -127,7 +72,10 @@ func (j *Job) pieceAt(offset int64) piece {
 
 // hashesOf gives the hashes of all blocks of a size.
 func (j *Job) hashesOf(place int) [][32]byte {
-	if len(j.hashes[place]) == 1 {
+	switch {
+	case j.file.isWhole():
+		return j.block[:]
+	case len(j.hashes[place]) == 1:
 		return j.hashes[place][0]
 	}
 	hashes := [][32]byte{}
@@ -135,6 +83,14 @@ func (j *Job) hashesOf(place int) [][32]byte {
 		hashes = append(hashes, hash...)
 	}
 	return hashes
+}
+
+// hashOf gives the SHA-256 of the hashes of all blocks of a size.
+func (j *Job) hashOf(place int) part.Hash {
+	if j.file.isWhole() {
+		return j.list
+	}
+	return HashOf(j.hashesOf(place))
 }
 
 func (j *Job) fail(err error) {
@@ -208,6 +164,18 @@ func (f *File) open() (file opened, err error) {
 // unread says why a file can't be read.
 func unread(err error) error { return fmt.Errorf("it can't be read: %w", err) }
 
+// readAt reads as many bytes of a file. One that ends before them has changed.
+func readAt(file io.ReaderAt, to []byte, offset int64) error {
+	_, err := file.ReadAt(to, offset)
+	switch {
+	case errors.Is(err, io.EOF):
+		return ErrChanged
+	case err != nil:
+		return unread(err)
+	}
+	return nil
+}
+
 // read reads a piece of a file, and gives its bytes to all cutters.
 func (p *Pool) read(file io.ReaderAt, job *Job, offset, length int64, cuts []*cutter) error {
 	buffer := buffers.Get().(*[readBytes]byte)
@@ -217,10 +185,8 @@ func (p *Pool) read(file io.ReaderAt, job *Job, offset, length int64, cuts []*cu
 		if left := length - done; left < readBytes {
 			next = buffer[:left]
 		}
-		if _, err := file.ReadAt(next, offset+done); errors.Is(err, io.EOF) {
-			return ErrChanged
-		} else if err != nil {
-			return unread(err)
+		if err := readAt(file, next, offset+done); err != nil {
+			return err
 		}
 		p.hashing <- struct{}{}
 		for _, cut := range cuts {
@@ -255,9 +221,9 @@ func (j *Job) Wait() ([]part.Content, *part.Differ, []byte, error) {
 		}
 		return j.file.cutContents(), differ, nil, nil
 	}
-	contents := make([]part.Content, len(j.hashes))
+	contents := make([]part.Content, len(j.file.BlockSizes))
 	for place, size := range j.file.BlockSizes {
-		contents[place] = part.Content{Size: j.file.Node.Size, BlockSize: size, Hash: HashOf(j.hashesOf(place))}
+		contents[place] = part.Content{Size: j.file.Node.Size, BlockSize: size, Hash: j.hashOf(place)}
 	}
 	var differ *part.Differ
 	if j.file.Recorded != nil {
@@ -281,6 +247,9 @@ func (j *Job) check() error {
 
 // HashOf gives the SHA-256 of block hashes, one after another.
 func HashOf(hashes [][32]byte) part.Hash {
+	if len(hashes) == 1 { // as most files have one
+		return sha256.Sum256(hashes[0][:])
+	}
 	sum := sha256.New()
 	for place := range hashes {
 		sum.Write(hashes[place][:])

@@ -8,3 +8,8 @@ import "golang.org/x/sys/unix"
 func letGo(file opened, offset, length int64) {
 	_ = unix.Fadvise(file.number, offset, length, unix.FADV_DONTNEED) // without it, the file is read all the same
 }
+
+// readAhead asks the system to begin to read as many bytes of a file, and doesn't wait for them.
+func readAhead(file opened, length int64) {
+	_ = unix.Fadvise(file.number, 0, length, unix.FADV_WILLNEED) // without it, they are read once they are taken
+}

@@ -36,9 +36,16 @@ func bytesFromDisk(t *testing.T) int64 {
 
 // What is hashed comes from the disk, also where the system has it in memory: the disk may have other bytes by now.
 func TestBytesComeFromTheDisk(t *testing.T) {
+	for _, length := range []int{5000, readBytes, pieceBytes + 5000} {
+		readsFromDisk(t, length)
+	}
+}
+
+// readsFromDisk says whether a file of so many bytes is read from the disk.
+func readsFromDisk(t *testing.T, length int) {
 	room := t.TempDir()
 	path := filepath.Join(room, "file")
-	data := bytes.Repeat([]byte{7}, pieceBytes+5000)
+	data := bytes.Repeat([]byte{7}, length)
 	file, err := os.Create(path)
 	if err != nil {
 		t.Fatal(err)
@@ -69,6 +76,6 @@ func TestBytesComeFromTheDisk(t *testing.T) {
 		t.Fatal(err)
 	}
 	if read := bytesFromDisk(t) - before; read < int64(len(data)) {
-		t.Errorf("%d bytes of %d came from the disk", read, len(data))
+		t.Errorf("%d bytes of %d came from the disk", read, length)
 	}
 }

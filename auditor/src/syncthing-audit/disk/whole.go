@@ -1,0 +1,85 @@
+package disk
+
+import "hash"
+
+const (
+	// mostAhead is how many files at most a worker has the system read ahead.
+	mostAhead = 32
+	// mostOpened is how many files are open at most for that, of all workers together.
+	mostOpened = 256
+)
+
+// isWhole says whether a file is read at once. It is one block of each size then.
+func (f *File) isWhole() bool { return f.Node.Size <= readBytes }
+
+// reader hashes files that are read at once, in one and the same room. It opens some and has the system begin to read them before it takes the bytes of
+// the first: so few reads wait for the disk, and a disk that turns may take them in its own order.
+type reader struct {
+	pool   *Pool
+	sum    hash.Hash
+	buffer []byte
+	begun  []begun
+}
+
+// begun is a file that the system reads, or why it doesn't.
+type begun struct {
+	job  *Job
+	file opened
+	err  error
+}
+
+func newReader(pool *Pool) *reader { return &reader{pool: pool, sum: NewSum()} }
+
+// do hashes files, or says in their jobs why they aren't hashed. A pool that skips all bytes opens none.
+func (r *reader) do(jobs []*Job) {
+	for _, job := range jobs {
+		if r.pool.skips.Load() {
+			job.pieces.Done()
+			continue
+		}
+		file, err := job.file.begin()
+		r.begun = append(r.begun, begun{job, file, err})
+	}
+	for place, next := range r.begun {
+		if next.err == nil {
+			next.err = r.hash(next.job, next.file)
+			next.file.Close()
+		}
+		if next.err != nil {
+			next.job.fail(next.err)
+		}
+		next.job.pieces.Done()
+		r.begun[place] = begun{}
+	}
+	r.begun = r.begun[:0]
+}
+
+// begin opens a file, and has the system read it from the disk.
+func (f *File) begin() (opened, error) {
+	file, err := f.open()
+	if err == nil && f.Node.Size > 0 {
+		letGo(file, 0, f.Node.Size)
+		readAhead(file, f.Node.Size)
+	}
+	return file, err
+}
+
+// hash reads a file, and hashes its one block and the list that has this alone.
+func (r *reader) hash(job *Job, file opened) error {
+	if r.buffer == nil {
+		r.buffer = make([]byte, readBytes)
+	}
+	data := r.buffer[:job.file.Node.Size]
+	if err := readAt(file, data, 0); err != nil {
+		return err
+	}
+	r.pool.hashing <- struct{}{}
+	r.sum.Reset()
+	r.sum.Write(data)
+	r.sum.Sum(job.block[0][:0])
+	job.list = HashOf(job.block[:])
+	<-r.pool.hashing
+	copy(job.data, data)
+	r.pool.hashed.Add(int64(len(data)))
+	return nil
+}
