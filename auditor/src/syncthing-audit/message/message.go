@@ -13,9 +13,11 @@ type Field struct {
 
 // Fields are those of a message, one by one: a message of very many fields takes no room for them.
 type Fields struct {
-	Field
-	rest []byte
-	err  *error
+	Number protowire.Number
+	Value  uint64
+	Text   []byte
+	rest   []byte
+	err    *error
 }
 
 // FieldsOf begins before the first field of a message. There are none once there is an error, and the first error is put there.
@@ -23,36 +25,70 @@ func FieldsOf(message []byte, err *error) Fields { return Fields{rest: message, 
 
 // Next goes to the next field, if there is one.
 func (f *Fields) Next() bool {
-	if len(f.rest) == 0 || *f.err != nil {
-		return false
+	f.Number, f.Value, f.Text, f.rest = next(f.rest, f.err)
+	return f.Number != 0
+}
+
+// next gives the first field, which has a number, and what is behind it; neither where none is left, or something is wrong. Each word of these is a
+// result of its own, since Go puts a larger one into memory.
+func next(from []byte, wrong *error) (place protowire.Number, value uint64, text, rest []byte) {
+	if len(from) == 0 || *wrong != nil {
+		return 0, 0, nil, nil
 	}
-	number, kind, begin := protowire.ConsumeTag(f.rest)
-	if begin < 0 {
-		*f.err = protowire.ParseError(begin)
-		return false
+	tag, length := first(from), 1
+	if tag >= more {
+		tag, length = longer(from)
 	}
-	var length int
-	f.rest, f.Number, f.Value, f.Text = f.rest[begin:], number, 0, nil
-	switch kind {
-	case protowire.VarintType:
-		f.Value, length = protowire.ConsumeVarint(f.rest)
-	case protowire.BytesType:
-		f.Text, length = protowire.ConsumeBytes(f.rest)
+	place, kind := protowire.DecodeTag(tag)
+	if length < 0 || place < protowire.MinValidNumber {
+		_, _, length = protowire.ConsumeTag(from)
+		*wrong = protowire.ParseError(length)
+		return 0, 0, nil, nil
+	}
+	rest = from[length:]
+	switch one := first(rest); {
+	case kind == protowire.VarintType && one < more:
+		value, length = one, 1
+	case kind == protowire.VarintType:
+		value, length = protowire.ConsumeVarint(rest)
+	case kind == protowire.BytesType && one < more && int(one) < len(rest):
+		length = 1 + int(one)
+		text = rest[1:length]
+	case kind == protowire.BytesType:
+		text, length = protowire.ConsumeBytes(rest)
 	default:
-		length = protowire.ConsumeFieldValue(number, kind, f.rest)
+		length = protowire.ConsumeFieldValue(place, kind, rest)
 	}
 	if length < 0 {
-		*f.err = protowire.ParseError(length)
-		return false
+		*wrong = protowire.ParseError(length)
+		return 0, 0, nil, nil
 	}
-	f.rest = f.rest[length:]
-	return true
+	return place, value, text, rest[length:]
+}
+
+// more is what a byte of a number has at least where another one follows.
+const more = 0x80
+
+// first gives the first byte of a number, more where there is none: most numbers have one byte, and are had without a call.
+func first(from []byte) uint64 {
+	if len(from) > 0 {
+		return uint64(from[0])
+	}
+	return more
+}
+
+// longer gives the number of several bytes that stands first, and how many these are: mostly two.
+func longer(from []byte) (value uint64, length int) {
+	if len(from) > 1 && from[1] < more {
+		return uint64(from[0]&(more-1)) | uint64(from[1])<<7, 2
+	}
+	return protowire.ConsumeVarint(from)
 }
 
 // Each gives the fields of a message to take. The first error ends it.
 func Each(message []byte, take func(Field) error) (err error) {
 	for fields := FieldsOf(message, &err); fields.Next(); {
-		err = take(fields.Field)
+		err = take(Field{fields.Number, fields.Value, fields.Text})
 	}
 	return err
 }
