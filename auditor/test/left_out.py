@@ -85,5 +85,30 @@ class LeftOut(Exporting):
         self.assertEqual(self.told(parts[:1])[0], 6)
 
 
+class IgnoredOnOne(Exporting):
+    """Two devices in step, of which the first one has come to ignore a file, and tells the second one so."""
+
+    @classmethod
+    def setUpClass(cls):
+        super().setUpClass()
+        (cls.one.files / ".stignore").write_text("/folder/large\n")
+        cls.start()
+        cls.one.scan()
+        wait_until("the other device knows", lambda: cls.two.knows_all_of(cls.one))
+        cls.stop()
+
+    def test_rot_elsewhere(self):
+        """What another device ignores is hashed all the same, and rot of it is told, with the blocks."""
+        homes = [word for device in self.devices for word in ("--home", device.home)]
+        words = [self.program, "check", *homes, "--syncaudit", self.auditor]
+        self.assertEqual(run(words).returncode, 6)
+        with rot(self.two.files / "folder" / "large", 1000):
+            ran = run(words)
+        self.assertEqual(ran.returncode, 1, ran.stdout + ran.stderr)
+        self.assertIn("other bytes on the disk; size and time are as recorded", ran.stdout)
+        self.assertIn("the name wasn't compared with what other devices have", ran.stdout)
+        self.assertIn("block 0 differs", ran.stdout)
+
+
 if __name__ == "__main__":
     main()

@@ -70,6 +70,10 @@ func outBeside(kind string) func(*part.Name) {
 	return func(n *part.Name) { n.Out = []part.LeftOut{{Kind: kind, Why: "why"}} }
 }
 
+func outElsewhere(n *part.Name) {
+	n.Out = []part.LeftOut{{Kind: part.Ignored, Why: part.WhyIgnoredElsewhere}}
+}
+
 func ignoredThere(n *part.Name) {
 	n.Own, n.Views, n.Out = nil, nil, []part.LeftOut{{Kind: part.Ignored, Why: "why"}}
 }
@@ -218,6 +222,8 @@ func TestEachKindOfName(t *testing.T) {
 		{"out, and lost elsewhere", with(out(part.Special)), with(rotten, lost), "damaged 1 rot false file false; left out 1, 9 bytes"},
 		{"out, and of two cuts elsewhere", with(out(part.Special)), with(func(n *part.Name) { cutTwice(n, 'r', 'l') }), "damaged 1 rot true file false; left out 1, 393216 bytes"},
 		{"out, and of two cuts that are right elsewhere", with(out(part.Special)), with(func(n *part.Name) { cutTwice(n, 'r', 'L') }), "left out 1, 393216 bytes"},
+		{"ignored elsewhere, and rotten", with(rotten, outElsewhere), with(out(part.Special)),
+			"damaged 0 rot true file false; refused ignored a of laptop (AAAAAAA): it knows that another device ignores it, or has still to scan it"},
 		{"not asked to be left out", with(out(part.OddName)), with(), "refused names a of laptop (AAAAAAA): why"},
 		{"lost", with(lost), with(), "damaged 0 rot false file true; in a document"},
 		{"damaged", with(out(part.Damaged)), with(), "damaged 0 rot false file false; left out 1, 9 bytes"},

@@ -22,6 +22,7 @@ func (n *names) addOwnFaults(row *join.Row) {
 		}
 	}
 	if len(damaged.At) > 0 {
+		n.keep(row)
 		sort.SliceStable(damaged.At, func(a, b int) bool { return damaged.At[a].Member < damaged.At[b].Member })
 		n.found.Damaged.Add(damaged)
 		n.audited++
@@ -31,7 +32,7 @@ func (n *names) addOwnFaults(row *join.Row) {
 // isRotten says whether a file isn't what its device's own record says, while its size and time are.
 func isRotten(name *part.Name, in *part.Folder) bool {
 	own, disk := name.Own, name.Disk
-	if own == nil || own.Invalid || own.Content == nil || disk == nil || disk.Lost != "" || len(name.Out) > 0 || len(name.Moved) > 0 ||
+	if own == nil || own.Invalid || own.Content == nil || disk == nil || disk.Lost != "" || !name.IsToldHere() || len(name.Moved) > 0 ||
 		!name.IsAsRecorded(in.Window()) {
 		return false
 	}

@@ -231,7 +231,7 @@ func (i *Index) View(of part.View, names choice.Names, take func(Entry) bool) er
 // viewedEntry reads another device's entry. Of what that device ignores, or is to scan anew, it tells neither size nor blocks.
 func viewedEntry(entry protocol.FileInfo) Entry {
 	if entry.IsInvalid() && !entry.Deleted && entry.Type == protocol.FileInfoTypeFile && len(entry.Blocks) == 0 {
-		return leftOut(entry, part.Ignored, "it knows that another device ignores it, or has still to scan it")
+		return leftOut(entry, part.Ignored, part.WhyIgnoredElsewhere)
 	}
 	return entryOf(entry)
 }

@@ -101,10 +101,20 @@ func (m *madeUp) nameOf(name string, info os.FileInfo, keep bool, t *testing.T) 
 		}
 		line.Out = append(line.Out, part.LeftOut{Kind: part.Ignored, Why: "it is ignored there by .stignore", Bytes: size})
 	}
-	if line.Disk != nil && line.Disk.Type == int(protocol.FileInfoTypeFile) && len(line.Out) == 0 {
+	if line.Disk != nil && line.Disk.Type == int(protocol.FileInfoTypeFile) && isWholeHere(line) {
 		addContents(line, own, filepath.Join(m.path, name), keep, t)
 	}
 	return line
+}
+
+// isWholeHere says whether what is left out of a name, if anything is, is what others have.
+func isWholeHere(line *part.Name) bool {
+	for _, out := range line.Out {
+		if out.Kind != part.Ignored || out.Why != "it knows that another device ignores it, or has still to scan it" {
+			return false
+		}
+	}
+	return true
 }
 
 // isIgnored says whether the folder's one pattern ignores a name.

@@ -156,7 +156,8 @@ func contentOf(length int, size int64, hashes [][32]byte) part.Content {
 func anEntry(random *rand.Rand, name string, data []byte) device.Entry {
 	if random.Intn(8) == 0 {
 		kind := []string{part.Ignored, part.OddRecord, part.Rescan}[random.Intn(3)]
-		return device.Entry{Name: name, Out: &part.LeftOut{Kind: kind, Why: "it was made up so", Bytes: random.Int63n(9)}}
+		why := []string{"it was made up so", part.WhyIgnoredElsewhere}[random.Intn(2)]
+		return device.Entry{Name: name, Out: &part.LeftOut{Kind: kind, Why: why, Bytes: random.Int63n(9)}}
 	}
 	record := &part.Record{Type: random.Intn(2), ModifiedBy: 1, Sequence: 1 + random.Int63n(70), Deleted: random.Intn(5) == 0, Invalid: random.Intn(5) == 0}
 	entry := device.Entry{Name: name, Record: record}

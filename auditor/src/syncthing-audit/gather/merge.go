@@ -236,7 +236,7 @@ func (m *merge) send(line *part.Name, recorded [][32]byte, stamp string) bool {
 		line.Out = append(line.Out, tooLarge(node.Size))
 	}
 	pending := &disk.Pending{Line: line, Weight: disk.WeightOfName}
-	isHashed := node != nil && node.Type == int(protocol.FileInfoTypeFile) && len(line.Out) == 0 && !m.device.isSecondLook()
+	isHashed := node != nil && node.Type == int(protocol.FileInfoTypeFile) && line.IsToldHere() && !m.device.isSecondLook()
 	file := disk.File{}
 	if isHashed {
 		file = disk.File{Disk: m.hashed.Disk, Name: string(line.Name), Stamp: stamp, Node: node, BlockSizes: blockSizes(line),

@@ -19,7 +19,7 @@ type Reading struct {
 // readingOf gives what a part has read of a name: nothing where nothing stands there, or not all bytes were read.
 func readingOf(line *part.Name, at time.Time) *Reading {
 	node := line.Disk
-	if node == nil || len(node.Contents) == 0 || node.Lost != "" || node.Unread > 0 || len(line.Out) > 0 || len(line.Moved) > 0 {
+	if node == nil || len(node.Contents) == 0 || node.Lost != "" || node.Unread > 0 || !line.IsToldHere() || len(line.Moved) > 0 {
 		return nil
 	}
 	return &Reading{at.UTC().Truncate(time.Second), node.ModifiedS, node.ModifiedNs, node.Contents[0]}

@@ -146,7 +146,7 @@ func (t *taking) name(line *part.Name) error {
 
 // isGone says whether no file stands under a name any more. What wasn't read, or moved while it was, may be there.
 func isGone(line *part.Name) bool {
-	return len(line.Out) == 0 && len(line.Moved) == 0 && (line.Disk == nil || len(line.Disk.Contents) == 0 && line.Disk.Lost == "")
+	return line.IsToldHere() && len(line.Moved) == 0 && (line.Disk == nil || len(line.Disk.Contents) == 0 && line.Disk.Lost == "")
 }
 
 // compare keeps that a file's bytes changed under its time, and forgets that once it has its bytes again or another time. It says whether they are changed.

@@ -124,6 +124,18 @@ func TestMarks(t *testing.T) {
 			t.Errorf("%+v: %v, %v", row.name, row.name.IsDamaged(), row.name.IsIgnored())
 		}
 	}
+	elsewhere := LeftOut{Kind: Ignored, Why: WhyIgnoredElsewhere}
+	for _, row := range []struct {
+		out                   []LeftOut
+		isIgnored, isToldHere bool
+	}{
+		{nil, false, true}, {[]LeftOut{elsewhere, elsewhere}, false, true}, {[]LeftOut{elsewhere, {Kind: Ignored, Why: WhyIgnored}}, true, false},
+		{[]LeftOut{elsewhere, {Kind: Special}}, false, false}, {[]LeftOut{{Kind: Special, Why: WhyIgnoredElsewhere}}, false, false},
+	} {
+		if name := (&Name{Out: row.out}); name.IsIgnored() != row.isIgnored || name.IsToldHere() != row.isToldHere {
+			t.Errorf("%+v: %v, %v", row.out, name.IsIgnored(), name.IsToldHere())
+		}
+	}
 	for _, look := range []*Look{nil, {ID: lookID}, {After: map[string]string{}}} {
 		if is := (&Head{Look: look}).hasBytes(); is != (look == nil || look.ID != "") {
 			t.Errorf("%+v has bytes: %v", look, is)

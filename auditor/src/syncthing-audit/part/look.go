@@ -97,7 +97,18 @@ func (n *Name) HasOtherBytes() bool {
 // WhyIgnored says why a name is left out that .stignore keeps out.
 const WhyIgnored = "it is ignored there by .stignore"
 
+// WhyIgnoredElsewhere says why a name is left out of which another device, as this one knows it, tells neither size nor blocks.
+const WhyIgnoredElsewhere = "it knows that another device ignores it, or has still to scan it"
+
+// isElsewhere says whether something is left out that another device has, and not this one.
+func (l *LeftOut) isElsewhere() bool { return l.Kind == Ignored && l.Why == WhyIgnoredElsewhere }
+
 // IsIgnored says whether .stignore keeps a name out of the folder at the device, whatever its file does.
 func (n *Name) IsIgnored() bool {
-	return slices.IndexFunc(n.Out, func(out LeftOut) bool { return out.Kind == Ignored }) >= 0
+	return slices.IndexFunc(n.Out, func(out LeftOut) bool { return out.Kind == Ignored && !out.isElsewhere() }) >= 0
+}
+
+// IsToldHere says whether a part leaves out nothing that the device itself has of a name: its own record, and what stands on its disk.
+func (n *Name) IsToldHere() bool {
+	return slices.IndexFunc(n.Out, func(out LeftOut) bool { return !out.isElsewhere() }) < 0
 }

@@ -152,7 +152,7 @@ func (f *File) adviceOfFault(fault *Fault, named print.Names) string {
 			"device has, replace it, and bring back what is lost. Don't delete what is damaged, and don't start Syncthing there, before that is done"
 	case fault.Cause == Differs && f.isOfSum: // 'sum' has no details of what documents tell, of however few names that is
 		return "'syncthing-audit check' of the same parts or homes tells the details"
-	case fault.Cause == Differs:
+	case fault.Cause == Differs || fault.isAlone() && fault.Due == nil && len(fault.sources) == 0:
 		return f.say("audit it by itself: --names with this name tells more", "audit some of them by themselves: --names with how they begin tells more") + "; parts are made anew with it"
 	case fault.Cause == NotScanned && f.isOdd:
 		return "rename " + f.say("it", "them") + " on " + at + ": " + f.say("its name isn't", "their names aren't") + " in Unicode's form NFC, in which Syncthing has names"

@@ -69,7 +69,7 @@ type Fault struct {
 	Reasons  []string    `json:"reasons"` // in syncaudit's words
 	// Of Behind: what is due has other bytes, under the very time of what the device recorded. Rot that a scan took looks so.
 	IsOfOneTime bool   `json:"under_one_time,omitempty"`
-	Why         string `json:"why,omitempty"` // of Damaged: the system's words
+	Why         string `json:"why,omitempty"` // of Damaged: the system's words; of OtherBytes and Differs: that the name wasn't compared
 	// Other devices on whose disks the very bytes stand that the device recorded, at their time.
 	sources    []string
 	at         *part.Name   // all that the device has of the name, if that was kept
@@ -191,6 +191,9 @@ func (f *File) isOfNobody() bool {
 func (f *Fault) isWithout() bool {
 	return f.Cause == Behind && f.Recorded == nil && slices.Contains(f.Reasons, "RecordMissing")
 }
+
+// isAlone says whether it is a device's own disk and index that differ, of a name that wasn't compared with what others have.
+func (f *Fault) isAlone() bool { return f.Cause == OtherBytes && f.Why != "" }
 
 // isFileForFile says whether a file stands where a file is recorded.
 func (f *Fault) isFileForFile() bool { return f.types() == "file file" }

@@ -98,6 +98,9 @@ func differingInAll(faults []*Fault) string {
 // fault prints what is wrong with a name on a device, and since when.
 func (p *printer) fault(fault *Fault) {
 	p.Line("  %s: %s%s", p.Called(fault.Device), wordsOfFaults([]*Fault{fault}, false), p.since(fault))
+	if fault.isAlone() {
+		p.Line("    the name wasn't compared with what other devices have: see below why")
+	}
 	if fault.Found != nil && fault.Found.Unread > 0 {
 		p.Line("    its last %s weren't read: it is that much longer than any record, so it isn't what is recorded, and which devices have the same "+
 			"bytes isn't known", size(fault.Found.Unread))

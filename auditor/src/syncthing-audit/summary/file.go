@@ -6,7 +6,9 @@ import (
 	"syncthing-audit/damage"
 	"syncthing-audit/finding"
 	"syncthing-audit/join"
+	"syncthing-audit/lists"
 	"syncthing-audit/part"
+	"syncthing-audit/print"
 )
 
 // Text is a name, which may be no text.
@@ -115,6 +117,10 @@ func (r *reader) readUnwon(name *finding.Unwon) {
 // readDamage adds of which devices the disk itself fails to give what it has, and why. Of a file that is a fault already, by what syncaudit says.
 func (r *reader) readDamage(damaged *finding.Damaged) {
 	for _, at := range damaged.At {
+		if at.IsRot && r.at(at.Member) != nil {
+			r.addOwnRot(at)
+			continue
+		}
 		member, fault := r.folder.Members[at.Member], (*Fault)(nil)
 		if !at.IsRot {
 			fault = r.file.faultOfDisk(member.Head.Device)
@@ -127,6 +133,28 @@ func (r *reader) readDamage(damaged *finding.Damaged) {
 			fault.Cause = Differs
 		}
 	}
+}
+
+// addOwnRot adds that a disk has other bytes than its own index records, of a name that isn't compared. What is due there is what that index has; others
+// that have it are told if they leave the name out for what .stignore says, and not for what they may have.
+func (r *reader) addOwnRot(at finding.DamagedAt) {
+	r.reasons[at.Member] = []string{"StoreDiffers"}
+	r.add(at.Member, OtherBytes)
+	fault := r.file.Faults[len(r.file.Faults)-1]
+	fault.Why = at.Why
+	for _, source := range fault.sources {
+		r.file.Have = print.AddOnce(r.file.Have, source)
+	}
+	if r.isToldOfAll() {
+		fault.due, fault.Due = fault.at.Own, fault.Recorded
+	}
+}
+
+// isToldOfAll says whether it is known of each device what it has of the name, unless .stignore keeps the name out there.
+func (r *reader) isToldOfAll() bool {
+	return !lists.Has(r.row.At, func(at *part.Name) bool {
+		return at != nil && (len(at.Moved) > 0 || at.IsDamaged() || !at.IsIgnored() && !at.IsToldHere())
+	})
 }
 
 // faultOfDisk gives the fault of a device that is one of its disk, if it is told already: as one of a file that a scan hasn't seen, say, or without details.
