@@ -12,7 +12,7 @@ to_these : (event : Option Stamped) (old : View) (listed : List Object) → IfSo
 to_these None old listed may = tt
 to_these (Some event) old listed may = may listed
 
-known_as : (place : Option (Seat Stamped View)) (known : Option View) (seat : Seat Stamped View) → option_map view_of place ≡ known → place ≡ Some seat → known ≡ Some (view_of seat)
+pub known_as : (place : Option (Seat Stamped View)) (known : Option View) (seat : Seat Stamped View) → option_map view_of place ≡ known → place ≡ Some seat → known ≡ Some (view_of seat)
 known_as place known seat view_is is = sym view_is ∙ ap (option_map view_of) is
 
 pub may_tell_of : (place : Option (Seat Stamped View)) (known : Option View) (seat : Seat Stamped View) (event : Option Stamped) (listed : List Object) →

@@ -7,3 +7,4 @@ mod PartsFit
 mod AddedIsClaimed
 mod ClaimedStands
 mod Chairs
+mod Above

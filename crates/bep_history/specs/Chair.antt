@@ -26,6 +26,10 @@ IsSeatOf (Some named) (Some seat) = (seat.table_id ≡ named) × (seat.me.1 ≡ 
 abbrev pub MayTell : Option View → Option Stamped → Type 0
 MayTell known event = IfSome known (λ old. IfSome event (λ one. (objects : List Object) → MayAdd objects old one))
 
+-- two seats with a row each, if there are any
+abbrev pub AreTwo : Option View → Option View → Type 0
+AreTwo known other = IfSome known (λ old. IfSome other (λ its. AreOfTwo old its))
+
 -- the same of two seats together, with a row each
 abbrev pub MayTellBoth : Option View → Option View → Option Stamped → Type 0
 MayTellBoth known other event =

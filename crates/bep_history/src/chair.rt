@@ -1,9 +1,9 @@
 //! A seat of a history that a type names: so a lock keeps it, with what it guards.
-ghost use Rattle.std.specs.Prelude.{◌≡◌, [], None, Some, option_map};
+ghost use Rattle.std.specs.Prelude.{◌≡◌, ◌<◌, [], IfSome, None, Some, option_map};
 ghost use Rattle.std.specs.Option.{option_copied};
 ghost use Rattle.atomic_table.specs.Seated.{TableId};
-ghost use Rattle.bep_history.specs.Chair.{IsNamed, MayTell, MayTellBoth, joined_with};
-ghost use Rattle.bep_history.specs.View.{first_row, other_rows, told, view_of, with_ticket};
+ghost use Rattle.bep_history.specs.Chair.{AreTwo, IsNamed, MayTell, MayTellBoth, joined_with};
+ghost use Rattle.bep_history.specs.View.{IsAbove, first_row, other_rows, told, view_of, with_ticket};
 
 use crate::history::{History, Place};
 use bep_fit::Stamped;
@@ -76,11 +76,26 @@ impl<T: Tabled> Chair<T> {
     /// A ticket for the seat alone, as `History::draw` gives it. Where there is no seat, it is for nobody. May wait.
     pub fn draw<R: Wait>(&mut self, rt: &R, history: &History) -> u64
         requires { IsNamed T.table history.now.table.shared.table_id }
-        ensures { self.new ≡ option_map (with_ticket result) self.old }
+        ensures seat { self.new ≡ option_map (with_ticket result) self.old }
+        ensures above { (0 < result) × IfSome self.old (IsAbove result) }
     {
         match &mut self.place {
             Some(place) => history.draw(rt, place),
             None => history.draw(rt, &mut history.fresh()),
+        }
+    }
+
+    /// The same for two seats with a row each: the ticket is the first one's, and above those of all events in both rows.
+    pub fn draw_both<R: Wait>(&mut self, rt: &R, history: &History, other: &mut Chair<T>) -> u64
+        requires named { IsNamed T.table history.now.table.shared.table_id }
+        requires two { AreTwo self.old other.old }
+        ensures seat { self.new ≡ option_map (with_ticket result) self.old }
+        ensures other { other.new ≡ other.old }
+        ensures above { (0 < result) × IfSome self.old (IsAbove result) × IfSome other.old (IsAbove result) }
+    {
+        match (&mut self.place, &mut other.place) {
+            (Some(place), Some(its)) => history.draw_both(rt, place, its),
+            _ => history.draw(rt, &mut history.fresh()),
         }
     }
 

@@ -1,6 +1,6 @@
 //! The counter of tickets, and what a seat does with it.
 ghost use Rattle.std.specs.Prelude.{◌≡◌, ◌<◌, [], IfOk};
-ghost use Rattle.bep_history.specs.View.{AreDistinct, IsAbove, IsTold, MayAdd, beginning, nothing, view_of, with_event, with_ticket, without_ticket};
+ghost use Rattle.bep_history.specs.View.{AreDistinct, AreOfTwo, IsAbove, IsTold, MayAdd, beginning, nothing, view_of, with_event, with_ticket, without_ticket};
 
 use crate::View;
 use crate::plays::{Add, Draw, Enter, GiveUp, Law, Learn, Named};
@@ -8,6 +8,7 @@ use atomic_table::{Seat, Table};
 use bep_fit::{Object, Stamped};
 use std::alloc::{AllocError, Global};
 use std::marker::Brand;
+use std::mem;
 use std::sync::Wait;
 
 /// A seat of a history. It has no bytes.
@@ -52,6 +53,22 @@ impl History {
             }
         }
         unreachable!()
+    }
+
+    /// The same for two seats with a row each: the ticket is the first one's, and above those of all events in both rows.
+    pub fn draw_both<R: Wait>(&self, rt: &R, seat: &mut Place, other: &mut Place) -> u64
+        requires own { (seat.old.table_id ≡ self.now.table.shared.table_id) × (other.old.table_id ≡ self.now.table.shared.table_id) }
+        requires free { (seat.old.me.1 ≡ []) × (other.old.me.1 ≡ []) }
+        requires two { AreOfTwo (view_of seat.old) (view_of other.old) }
+        ensures seat { (seat.new.table_id ≡ seat.old.table_id) × (seat.new.me ≡ (with_ticket result seat.old.me.0, [])) }
+        ensures other { (other.new.table_id ≡ other.old.table_id) × (other.new.me ≡ other.old.me) }
+        ensures above { (0 < result) × IsAbove result (view_of seat.old) × IsAbove result (view_of other.old) }
+    {
+        let its = mem::replace(other, self.fresh());
+        self.join(seat, its);
+        let ticket = self.draw(rt, seat);
+        *other = self.split(seat);
+        ticket
     }
 
     /// The seat's ticket is given up: no event will have it.
