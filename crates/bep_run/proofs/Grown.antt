@@ -25,7 +25,7 @@ use Rattle.bep_peer.specs.Member.{Member, tables_of}
 use Rattle.bep_peer.specs.network.Network.{Network}
 use Rattle.bep_log.specs.Acts.{ActsIn, Does, LogsIn}
 use Rattle.bep_log.specs.Event.{event_of, event_told}
-use Rattle.bep_log.specs.History.{with_events}
+use Rattle.bep_log.specs.History.{last_with, with_events}
 use Rattle.bep_log.specs.LoggedLink.{LinkLogs, LoggedBetween}
 use Rattle.bep_log.specs.LoggedPeer.{LoggedMember}
 use Rattle.bep_log.specs.declared.error.LogError.{LogError}
@@ -37,6 +37,7 @@ use Rattle.bep_run.specs.Quiet.{is_quiet, quiet_log}
 use Rattle.bep_run.proofs.Begins.{stands_as, still_stands}
 use Rattle.bep_run.proofs.Seating.{IsOf, grown_by, may_tell, of_device, of_link, seated_about, told_of}
 use Rattle.bep_run.proofs.StayQuiet.{quiet_in, quiet_link}
+use Rattle.bep_run.proofs.Tickets.{last_same, last_stays}
 
 -- ---- a device
 
@@ -44,6 +45,7 @@ use Rattle.bep_run.proofs.StayQuiet.{quiet_in, quiet_link}
 pub record Grows (step : Step) (ticket : ℕ) (old new : LoggedMember) : Type 0 where
   pub event : Option Logged
   pub log : new.log ≡ with_events old.log ticket event
+  pub last : new.last ≡ last_with old.last ticket event
   pub of : IfSome event (λ one. one.step ≡ step)
   pub round : new.round ≡ old.round
   pub base : new.base ≡ old.base
@@ -53,6 +55,7 @@ grows_same : (step : Step) (ticket : ℕ) (old new : LoggedMember) → new ≡ o
 grows_same step ticket old new same = record {
   event = None;
   log = ap (λ (m : LoggedMember). m.log) same;
+  last = ap (λ (m : LoggedMember). m.last) same;
   of = tt;
   round = ap (λ (m : LoggedMember). m.round) same;
   base = ap (λ (m : LoggedMember). m.base) same;
@@ -71,6 +74,7 @@ grows_acting : (name : Option FileName) (folder : Folder) (does : Does) (step : 
 grows_acting name folder does step ticket old new answer acts = record {
   event = event_told step answer acts.left.trace;
   log = acts.told.log;
+  last = acts.told.last;
   of = of_step step answer acts.left.trace;
   round = acts.told.round;
   base = acts.told.base;
@@ -114,19 +118,21 @@ module _ (start : Option Network) (table : Option TableId) (place : ℕ) (old ne
     seated =
         subst (λ n. IsSeated table (objects.Device n) new.round new.log now) (sym grows.number)
         (seated_about table (objects.Device old.now.number) old.round new.round old.log new.log ticket grows.event seat drawn now said kept.seated drew says about is grows.log grows.round);
+    last = last_stays table old.log new.log old.last new.last ticket grows.event grows.log grows.last kept.last;
   }
 
 -- ---- a device whose stores were read
 
 pub device_read : (start : Option Network) (table : Option TableId) (place : ℕ) (old new : LoggedMember) (seat : Option View) →
-    new.log ≡ old.log → new.round ≡ old.round → new.now.number ≡ old.now.number → tables_of new.base ≡ tables_of old.base → IsKeptDevice start table place old seat → IsKeptDevice start table place new seat
-device_read start table place old new seat log round number tables kept = record {
+    new.log ≡ old.log → new.last ≡ old.last → new.round ≡ old.round → new.now.number ≡ old.now.number → tables_of new.base ≡ tables_of old.base → IsKeptDevice start table place old seat → IsKeptDevice start table place new seat
+device_read start table place old new seat log last round number tables kept = record {
   began = still_stands (devices_in start) place old new number tables kept.began;
   quiet = subst (λ l. quiet_log start l ≡ true) (sym log) kept.quiet;
   seated =
       subst (λ n. IsSeated table (objects.Device n) new.round new.log seat) (sym number)
       (subst (λ r. IsSeated table (objects.Device old.now.number) r new.log seat) (sym round)
       (subst (λ l. IsSeated table (objects.Device old.now.number) old.round l seat) (sym log) kept.seated));
+  last = last_same table old.log new.log old.last new.last log last kept.last;
 }
 
 -- ---- a link
@@ -135,6 +141,7 @@ device_read start table place old new seat log round number tables kept = record
 pub record LinkGrows (step : Step) (ticket : ℕ) (old new : LoggedBetween) : Type 0 where
   pub event : Option Logged
   pub log : new.log ≡ with_events old.log ticket event
+  pub last : new.last ≡ last_with old.last ticket event
   pub of : IfSome event (λ one. one.step ≡ step)
   pub round : new.round ≡ old.round
   pub base : new.base ≡ old.base
@@ -144,6 +151,7 @@ link_same : (step : Step) (ticket : ℕ) (old new : LoggedBetween) → new ≡ o
 link_same step ticket old new same = record {
   event = None;
   log = ap (λ (l : LoggedBetween). l.log) same;
+  last = ap (λ (l : LoggedBetween). l.last) same;
   of = tt;
   round = ap (λ (l : LoggedBetween). l.round) same;
   base = ap (λ (l : LoggedBetween). l.base) same;
@@ -154,6 +162,7 @@ pub link_grows : (step : Step) (row : Link → Row Link) (ticket : ℕ) (old new
 link_grows step row ticket old new (Ok done) logs = record {
   event = Some (event_of step None false None);
   log = logs.3.log;
+  last = logs.3.last;
   of = refl;
   round = logs.3.round;
   base = logs.3.base;
@@ -189,4 +198,5 @@ module _ (start : Option Network) (table : Option TableId) (place : ℕ) (old ne
     seated =
         subst (λ (e : ℕ × ℕ). IsSeated table (objects.Link e.0 e.1) new.round new.log now) (sym grows.ends)
         (seated_about table (objects.Link old.now.ends.0 old.now.ends.1) old.round new.round old.log new.log ticket grows.event seat drawn now said kept.seated drew link_says link_about is grows.log grows.round);
+    last = last_stays table old.log new.log old.last new.last ticket grows.event grows.log grows.last kept.last;
   }

@@ -22,7 +22,7 @@ use Rattle.bep_peer.specs.declared.error.PeerError.TheVariants as peer
 use Rattle.bep_peer.specs.Member.{Member, tables_of}
 use Rattle.bep_peer.specs.network.Network.{Network}
 use Rattle.bep_log.specs.ActsOver.{ActsOver, AreSame, LogsOver, event_for, event_over}
-use Rattle.bep_log.specs.History.{with_events}
+use Rattle.bep_log.specs.History.{last_with, with_events}
 use Rattle.bep_log.specs.LoggedLink.{IsLinkReplayed, LoggedBetween, TouchLink}
 use Rattle.bep_log.specs.LoggedPeer.{IsReplayed, LoggedMember, TouchDevice}
 use Rattle.bep_log.specs.Over.{Doing, other_end, ready_for}
@@ -34,6 +34,7 @@ use Rattle.bep_run.specs.inner.Kept.{IsKeptDevice, IsKeptLink, IsSeated}
 use Rattle.bep_run.specs.Origin.{devices_in, links_in}
 use Rattle.bep_run.specs.Quiet.{quiet_log}
 use Rattle.bep_run.proofs.Begins.{stands_as}
+use Rattle.bep_run.proofs.Tickets.{last_stays}
 use Rattle.bep_run.proofs.Seating.{IsOfBoth, grown_by, may_tell_both, of_both, seated_about, seated_beside, told_of}
 
 -- the event is of a step of a device over a link
@@ -47,6 +48,8 @@ pub record BothGrow (ticket : ℕ) (old new : LoggedMember) (link after : Logged
   pub event : Option Logged
   pub log : new.log ≡ with_events old.log ticket event
   pub link_log : after.log ≡ with_events link.log ticket event
+  pub last : new.last ≡ last_with old.last ticket event
+  pub link_last : after.last ≡ last_with link.last ticket event
   pub over : IfSome event IsOver
   pub round : new.round ≡ old.round
   pub link_round : after.round ≡ link.round
@@ -59,6 +62,8 @@ both_same ticket old new link after same = record {
   event = None;
   log = ap (λ (m : LoggedMember). m.log) same.device;
   link_log = ap (λ (l : LoggedBetween). l.log) same.link;
+  last = ap (λ (m : LoggedMember). m.last) same.device;
+  link_last = ap (λ (l : LoggedBetween). l.last) same.link;
   over = tt;
   round = ap (λ (m : LoggedMember). m.round) same.device;
   link_round = ap (λ (l : LoggedBetween). l.round) same.link;
@@ -76,6 +81,8 @@ both_acting action ticket old new link after answer acts kind = record {
   event = event_over action old.now link.now after.now acts.left.trace answer;
   log = acts.told.log;
   link_log = acts.link_told.log;
+  last = acts.told.last;
+  link_last = acts.link_told.last;
   over = is_over (ready_for action old.now.number link.now) answer acts.left.trace.failed (option_map (λ (put : Message × Message). put.0) acts.left.trace.put) after.now.link.up (old.now.number, other_end link.now.ends old.now.number, kind old.now.number (other_end link.now.ends old.now.number));
   round = acts.told.round;
   link_round = acts.link_told.round;
@@ -148,6 +155,7 @@ module _ (start : Option Network) (table : Option TableId) (place its_place : �
         subst (λ n. IsSeated table (objects.Device n) new.round new.log now) (sym grow.number)
         (seated_about table (objects.Device old.now.number) old.round new.round old.log new.log ticket grow.event seat drawn now said kept.seated drew says
         (about_device (objects.Device old.now.number) (objects.Link link.now.ends.0 link.now.ends.1) ticket grow.event of) known grow.log grow.round);
+    last = last_stays table old.log new.log old.last new.last ticket grow.event grow.log grow.last kept.last;
   }
 
   pub link_kept_over : (now : Option View) → now ≡ option_map (told said) its → quiet_log start after.log ≡ true → IsKeptLink start table its_place after now
@@ -158,4 +166,5 @@ module _ (start : Option Network) (table : Option TableId) (place its_place : �
         subst (λ (e : ℕ × ℕ). IsSeated table (objects.Link e.0 e.1) after.round after.log now) (sym (ends ticket old new link after was is link_is grow))
         (seated_beside table (objects.Link link.now.ends.0 link.now.ends.1) link.round after.round link.log after.log ticket grow.event its now said its_kept.seated says
         (about_link (objects.Device old.now.number) (objects.Link link.now.ends.0 link.now.ends.1) ticket grow.event of) known grow.link_log grow.link_round);
+    last = last_stays table link.log after.log link.last after.last ticket grow.event grow.link_log grow.link_last its_kept.last;
   }

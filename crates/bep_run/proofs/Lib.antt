@@ -14,3 +14,5 @@ mod Handed
 mod Settling
 mod Listing
 mod Lent
+mod Tickets
+mod Failing

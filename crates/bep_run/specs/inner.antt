@@ -5,3 +5,5 @@ pub mod Starting
 pub mod Unchanged
 pub mod Kept
 pub mod Ending
+pub mod Tickets
+pub mod Looking

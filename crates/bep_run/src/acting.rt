@@ -1,11 +1,12 @@
 //! What a device does under its guard: under a ticket that its seat draws, and then the seat tells the history of the event.
-ghost use Rattle.std.specs.Prelude.{ℕ, None, Some};
+ghost use Rattle.std.specs.Prelude.{ℕ, IfErr, None, Some};
 ghost use Rattle.bep_history.specs.Chair.{IsNamed};
 ghost use Rattle.bep_log.specs.Acts.{LogsIn, MakesIn};
 ghost use Rattle.bep_machine.specs.declared.step.Step.TheVariants as Step;
 ghost use Rattle.bep_machine.specs.Local.{ScanRow};
 ghost use Rattle.bep_machine.specs.Pull.{FinishRow, StartPullRow};
 ghost use Rattle.bep_peer.specs.Within.{CommitsWithin};
+ghost use Rattle.bep_run.specs.inner.Tickets.{IsNew, IsNotOld};
 
 use crate::Origin;
 use crate::kept_peer::KeptPeer;
@@ -27,7 +28,8 @@ impl<S: Store, O: Origin> KeptPeer<S, O> {
         name: &Name,
     ) -> Result<Moved, LogError>
         requires { IsNamed O.table history.now.table.shared.table_id }
-        ensures logs { (ticket : ℕ) × LogsIn None folder.now (MakesIn folder.now (ScanRow self.old.now.number name.now)) (Step.Scan self.old.now.number folder.now name.now) ticket self.old self.new result }
+        ensures logs { (ticket : ℕ) × IsNew O.table self.old.last ticket × LogsIn None folder.now (MakesIn folder.now (ScanRow self.old.now.number name.now)) (Step.Scan self.old.now.number folder.now name.now) ticket self.old self.new result }
+        ensures only { IfErr result (IsNotOld O.table) }
     {
         let ticket = self.seat.draw(rt, history);
         let before = self.logged.log().len();
@@ -45,7 +47,8 @@ impl<S: Store, O: Origin> KeptPeer<S, O> {
         scan: ScanResult,
     ) -> Result<Moved, LogError>
         requires { IsNamed O.table history.now.table.shared.table_id }
-        ensures logs { (ticket : ℕ) × LogsIn None folder.now (CommitsWithin folder.now scan) (Step.Scan self.old.now.number folder.now scan.name) ticket self.old self.new result }
+        ensures logs { (ticket : ℕ) × IsNew O.table self.old.last ticket × LogsIn None folder.now (CommitsWithin folder.now scan) (Step.Scan self.old.now.number folder.now scan.name) ticket self.old self.new result }
+        ensures only { IfErr result (IsNotOld O.table) }
     {
         let ticket = self.seat.draw(rt, history);
         let before = self.logged.log().len();
@@ -63,7 +66,8 @@ impl<S: Store, O: Origin> KeptPeer<S, O> {
         name: &Name,
     ) -> Result<Moved, LogError>
         requires { IsNamed O.table history.now.table.shared.table_id }
-        ensures logs { (ticket : ℕ) × LogsIn None folder.now (MakesIn folder.now (λ _. StartPullRow self.old.now.number name.now)) (Step.StartPull self.old.now.number folder.now name.now) ticket self.old self.new result }
+        ensures logs { (ticket : ℕ) × IsNew O.table self.old.last ticket × LogsIn None folder.now (MakesIn folder.now (λ _. StartPullRow self.old.now.number name.now)) (Step.StartPull self.old.now.number folder.now name.now) ticket self.old self.new result }
+        ensures only { IfErr result (IsNotOld O.table) }
     {
         let ticket = self.seat.draw(rt, history);
         let before = self.logged.log().len();
@@ -81,7 +85,8 @@ impl<S: Store, O: Origin> KeptPeer<S, O> {
         name: &Name,
     ) -> Result<Moved, LogError>
         requires { IsNamed O.table history.now.table.shared.table_id }
-        ensures logs { (ticket : ℕ) × LogsIn (Some name.now) folder.now (MakesIn folder.now (FinishRow self.old.now.number name.now)) (Step.Finish self.old.now.number folder.now name.now) ticket self.old self.new result }
+        ensures logs { (ticket : ℕ) × IsNew O.table self.old.last ticket × LogsIn (Some name.now) folder.now (MakesIn folder.now (FinishRow self.old.now.number name.now)) (Step.Finish self.old.now.number folder.now name.now) ticket self.old self.new result }
+        ensures only { IfErr result (IsNotOld O.table) }
     {
         let ticket = self.seat.draw(rt, history);
         let before = self.logged.log().len();

@@ -1,9 +1,10 @@
-//! What a device does over a link under the guards of both: under a ticket that its seat draws, and then both seats tell the
-//! history of the event.
-ghost use Rattle.std.specs.Prelude.{ℕ};
+//! What a device does over a link under the guards of both: under a ticket that both seats draw, and then both tell the history
+//! of the event.
+ghost use Rattle.std.specs.Prelude.{ℕ, IfErr};
 ghost use Rattle.bep_history.specs.Chair.{IsNamed};
 ghost use Rattle.bep_log.specs.ActsOver.{LogsOver};
 ghost use Rattle.bep_log.specs.Over.{announces, asks, begins, delivers};
+ghost use Rattle.bep_run.specs.inner.Tickets.{IsNew, IsNotOld};
 
 use crate::Origin;
 use crate::kept_link::KeptLink;
@@ -24,11 +25,12 @@ impl<S: Store, O: Origin> KeptPeer<S, O> {
         link: &mut KeptLink<O>,
     ) -> Result<Moved, LogError>
         requires { IsNamed O.table history.now.table.shared.table_id }
-        ensures logs { (ticket : ℕ) × LogsOver begins ticket self.old self.new link.old link.new result }
+        ensures logs { (ticket : ℕ) × IsNew O.table self.old.last ticket × IsNew O.table link.old.last ticket × LogsOver begins ticket self.old self.new link.old link.new result }
+        ensures only { IfErr result (IsNotOld O.table) }
     {
-        // called for what they say: each event of a log touches its object
+        // this is called, and twice again, for what it says: each event of a log touches its object
         link.logged.log_replays();
-        let ticket = self.seat.draw(rt, history);
+        let ticket = self.seat.draw_both(rt, history, &mut link.seat);
         let before = self.logged.log().len();
         let answer = self.logged.begin(ticket, &mut link.logged);
         self.logged.log_replays();
@@ -46,11 +48,12 @@ impl<S: Store, O: Origin> KeptPeer<S, O> {
         link: &mut KeptLink<O>,
     ) -> Result<Moved, LogError>
         requires { IsNamed O.table history.now.table.shared.table_id }
-        ensures logs { (ticket : ℕ) × LogsOver delivers ticket self.old self.new link.old link.new result }
+        ensures logs { (ticket : ℕ) × IsNew O.table self.old.last ticket × IsNew O.table link.old.last ticket × LogsOver delivers ticket self.old self.new link.old link.new result }
+        ensures only { IfErr result (IsNotOld O.table) }
     {
-        // called for what they say: each event of a log touches its object
+        // this is called, and twice again, for what it says: each event of a log touches its object
         link.logged.log_replays();
-        let ticket = self.seat.draw(rt, history);
+        let ticket = self.seat.draw_both(rt, history, &mut link.seat);
         let before = self.logged.log().len();
         let answer = self.logged.deliver(ticket, &mut link.logged);
         self.logged.log_replays();
@@ -69,11 +72,12 @@ impl<S: Store, O: Origin> KeptPeer<S, O> {
         folder: &FolderName,
     ) -> Result<Moved, LogError>
         requires { IsNamed O.table history.now.table.shared.table_id }
-        ensures logs { (ticket : ℕ) × LogsOver (announces folder.now) ticket self.old self.new link.old link.new result }
+        ensures logs { (ticket : ℕ) × IsNew O.table self.old.last ticket × IsNew O.table link.old.last ticket × LogsOver (announces folder.now) ticket self.old self.new link.old link.new result }
+        ensures only { IfErr result (IsNotOld O.table) }
     {
-        // called for what they say: each event of a log touches its object
+        // this is called, and twice again, for what it says: each event of a log touches its object
         link.logged.log_replays();
-        let ticket = self.seat.draw(rt, history);
+        let ticket = self.seat.draw_both(rt, history, &mut link.seat);
         let before = self.logged.log().len();
         let answer = self.logged.announce(ticket, &mut link.logged, folder);
         self.logged.log_replays();
@@ -93,11 +97,12 @@ impl<S: Store, O: Origin> KeptPeer<S, O> {
         name: &Name,
     ) -> Result<Moved, LogError>
         requires { IsNamed O.table history.now.table.shared.table_id }
-        ensures logs { (ticket : ℕ) × LogsOver (asks folder.now name.now) ticket self.old self.new link.old link.new result }
+        ensures logs { (ticket : ℕ) × IsNew O.table self.old.last ticket × IsNew O.table link.old.last ticket × LogsOver (asks folder.now name.now) ticket self.old self.new link.old link.new result }
+        ensures only { IfErr result (IsNotOld O.table) }
     {
-        // called for what they say: each event of a log touches its object
+        // this is called, and twice again, for what it says: each event of a log touches its object
         link.logged.log_replays();
-        let ticket = self.seat.draw(rt, history);
+        let ticket = self.seat.draw_both(rt, history, &mut link.seat);
         let before = self.logged.log().len();
         let answer = self.logged.ask(ticket, &mut link.logged, folder, name);
         self.logged.log_replays();

@@ -1,7 +1,8 @@
 //! Cuts of the running cluster, and logs that begin anew: under all guards, by rising device and then by rising link.
-ghost use Rattle.std.specs.Prelude.{◌≡◌, ◌+◌, IfErr, IfOk, OnOk, length, map, min, true};
+ghost use Rattle.std.specs.Prelude.{◌≡◌, ◌+◌, IfErr, IfOk, IsSome, OnOk, length, map, min, true};
 ghost use Rattle.bep_blocks.specs.declared.gate.Place.TheVariants.{Guarded};
-ghost use Rattle.bep_log.specs.declared.error.LogError.TheVariants.{Memory};
+ghost use Rattle.bep_log.specs.declared.error.LogError.TheVariants.{Memory, Refused};
+ghost use Rattle.bep_machine.specs.declared.refusal.Refusal.TheVariants.{StoreFault};
 ghost use Rattle.bep_run.specs.Origin.{AreFirst, BeginsAs, IsAll, devices_in, links_in};
 ghost use Rattle.bep_run.specs.Based.{base_seen};
 ghost use Rattle.bep_run.specs.Quiet.{AreStill, device_logs, link_logs, quiet_logs};
@@ -32,7 +33,7 @@ impl<S: Store, O: Origin> Locked<S, O> {
     pub fn take_cut<R: Wait, G: Gate>(&self, rt: &R, gate: &G) -> Result<RunCut, LogError>
         ensures begins { IfOk result (λ run. BeginsAs O.start run.bases) }
         ensures still { IfOk result (λ run. AreStill O.start run.logs) }
-        ensures only { IfErr result IsOfCopies }
+        ensures only { IfErr result (IsOfCopies S.faults) }
     {
         let (peers, links) = self.copies(rt, gate)?;
         match RunCut::of(self.alloc, peers, links)? {
@@ -48,7 +49,7 @@ impl<S: Store, O: Origin> Locked<S, O> {
         ensures links { IfOk result (λ copies. IsAll (links_in O.start) (links_base copies.1.items)) }
         ensures quiet { IfOk result (λ copies. quiet_logs O.start (device_logs copies.0.items) ≡ true) }
         ensures quiet_links { IfOk result (λ copies. quiet_logs O.start (link_logs copies.1.items) ≡ true) }
-        ensures only { IfErr result IsOfCopies }
+        ensures only { IfErr result (IsOfCopies S.faults) }
     {
         let mut peers = self.peer_guards(rt, gate)?;
         let links = self.link_guards(rt, gate, peers.len())?;
@@ -121,7 +122,7 @@ fn copy_peers<S: Store, O: Origin>(
     ensures first { IfOk result (λ copies. AreFirst (devices_in O.start) (map base_seen copies.items)) }
     ensures all { IfOk result (λ copies. length copies.items ≡ length peers.old) }
     ensures quiet { IfOk result (λ copies. quiet_logs O.start (device_logs copies.items) ≡ true) }
-    ensures only { IfErr result IsOfCopies }
+    ensures only { IfErr result (IsOfCopies S.faults) }
 {
     let mut copies = Vec::with_capacity(alloc, peers.len())?;
     for peer in peers.iter_mut() {
@@ -141,7 +142,8 @@ fn copy_peer<S: Store, O: Origin>(
     ensures first { OnOk result (AreFirst (devices_in O.start) (map base_seen copies.new.items)) }
     ensures one_more { OnOk result (length copies.new.items ≡ length copies.old.items + 1) }
     ensures quiet { OnOk result (quiet_logs O.start (device_logs copies.new.items) ≡ true) }
-    ensures only { IfErr result IsOfCopies }
+    ensures only { IfErr result (IsOfCopies S.faults) }
+    ensures fault { IfErr result (λ e. (e ≡ Refused StoreFault) → IsSome peer.new.now.trace.failed) }
 {
     let copy = peer.copy(copies.len())?;
     copies.push(copy)?;

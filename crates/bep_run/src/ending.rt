@@ -1,6 +1,6 @@
 //! The cut with which a running cluster ends. Where there is a history, the seats of all devices and links come together: so
 //! they know one history, of which each log is its object's part.
-ghost use Rattle.std.specs.Prelude.{◌≡◌, ◌+◌, Contains, IfOk, OnOk, length, map, true};
+ghost use Rattle.std.specs.Prelude.{◌≡◌, ◌+◌, Contains, IfErr, IfOk, OnOk, length, map, true};
 ghost use Rattle.bep_history.specs.Chair.{IsNamed};
 ghost use Rattle.bep_history.specs.declared.view.Row.{Row};
 ghost use Rattle.bep_run.specs.inner.Ending.{KnowsDevices, KnowsLinks};
@@ -8,6 +8,7 @@ ghost use Rattle.bep_run.specs.inner.Kept.{DoFit};
 ghost use Rattle.bep_run.specs.Origin.{AreFirst, BeginsAs, IsAll, count_of, devices_in, links_in};
 ghost use Rattle.bep_run.specs.Based.{base_seen};
 ghost use Rattle.bep_run.specs.Quiet.{AreStill, device_logs, link_logs, quiet_logs};
+ghost use Rattle.bep_run.specs.Why.{IsOfCopies, IsOfPlaces};
 ghost use Rattle.bep_run_cut.specs.RunCut.{links_base};
 
 use crate::shared::{Held, Joint};
@@ -29,6 +30,7 @@ impl<S: Store, O: Origin> Locked<S, O> {
         ensures begins { IfOk result (λ run. BeginsAs O.start run.bases) }
         ensures still { IfOk result (λ run. AreStill O.start run.logs) }
         ensures fit { IfOk result (λ run. DoFit O.start O.table run.logs) }
+        ensures only { IfErr result (IsOfCopies S.faults) }
     {
         let alloc = self.alloc;
         let (devices, links, history) = self.into_parts();
@@ -63,6 +65,7 @@ fn end_devices<S: Store, O: Origin>(
     ensures all { IfOk result (λ copies. length copies.items ≡ length devices.items) }
     ensures quiet { IfOk result (λ copies. quiet_logs O.start (device_logs copies.items) ≡ true) }
     ensures knows { IfOk result (λ copies. KnowsDevices O.table copies.items whole.new.me.0.rows) }
+    ensures only { IfErr result (IsOfCopies S.faults) }
 {
     let mut copies = Vec::with_capacity(alloc, devices.len())?;
     for held in devices {
@@ -89,6 +92,7 @@ fn end_device<S: Store, O: Origin>(
     ensures one_more { OnOk result (length copies.new.items ≡ length copies.old.items + 1) }
     ensures quiet { OnOk result (quiet_logs O.start (device_logs copies.new.items) ≡ true) }
     ensures knows { OnOk result (KnowsDevices O.table copies.new.items whole.new.me.0.rows) }
+    ensures only { IfErr result (IsOfCopies S.faults) }
 {
     let (copy, seat) = held.into_kept().into_copy(copies.len())?;
     seat.give(history, whole);
@@ -112,6 +116,7 @@ fn end_links<O: Origin>(
     ensures quiet { IfOk result (λ copies. quiet_logs O.start (link_logs copies.items) ≡ true) }
     ensures knows { IfOk result (λ copies. KnowsLinks O.table copies.items whole.new.me.0.rows) }
     ensures still { (one : Row) → Contains whole.old.me.0.rows one → Contains whole.new.me.0.rows one }
+    ensures only { IfErr result IsOfPlaces }
 {
     let mut copies = Vec::with_capacity(alloc, links.len())?;
     for joint in links {
@@ -139,6 +144,7 @@ fn end_link<O: Origin>(
     ensures quiet { OnOk result (quiet_logs O.start (link_logs copies.new.items) ≡ true) }
     ensures knows { OnOk result (KnowsLinks O.table copies.new.items whole.new.me.0.rows) }
     ensures still { (one : Row) → Contains whole.old.me.0.rows one → Contains whole.new.me.0.rows one }
+    ensures only { IfErr result IsOfPlaces }
 {
     let (copy, seat) = joint.into_kept().into_copy(copies.len())?;
     seat.give(history, whole);

@@ -6,6 +6,7 @@ ghost use Rattle.bep_log.specs.LoggedLink.{LinkLogs};
 ghost use Rattle.bep_machine.specs.declared.step.Step.TheVariants as Step;
 ghost use Rattle.bep_machine.specs.Steps.{ConnectRow, LoseRow};
 ghost use Rattle.bep_run.specs.inner.Kept.{IsSeated};
+ghost use Rattle.bep_run.specs.inner.Tickets.{IsNew, IsNotOld};
 ghost use Rattle.bep_run.specs.Origin.{at_place, links_in};
 ghost use Rattle.bep_run.specs.Quiet.{quiet_log};
 ghost use Rattle.bep_run.specs.Why.{IsOfPlaces};
@@ -78,7 +79,8 @@ impl<O: Origin> KeptLink<O> {
     // The link comes up.
     pub(crate) fn connect<R: Wait>(&mut self, rt: &R, history: &History) -> Result<(), LogError>
         requires { IsNamed O.table history.now.table.shared.table_id }
-        ensures logs { (ticket : ℕ) × LinkLogs (Step.Connect self.old.now.ends.0 self.old.now.ends.1) ConnectRow ticket self.old self.new result }
+        ensures logs { (ticket : ℕ) × IsNew O.table self.old.last ticket × LinkLogs (Step.Connect self.old.now.ends.0 self.old.now.ends.1) ConnectRow ticket self.old self.new result }
+        ensures only { IfErr result (IsNotOld O.table) }
     {
         let ticket = self.seat.draw(rt, history);
         let before = self.logged.log().len();
@@ -90,7 +92,8 @@ impl<O: Origin> KeptLink<O> {
     // The link goes down.
     pub(crate) fn lose<R: Wait>(&mut self, rt: &R, history: &History) -> Result<(), LogError>
         requires { IsNamed O.table history.now.table.shared.table_id }
-        ensures logs { (ticket : ℕ) × LinkLogs (Step.Lose self.old.now.ends.0 self.old.now.ends.1) LoseRow ticket self.old self.new result }
+        ensures logs { (ticket : ℕ) × IsNew O.table self.old.last ticket × LinkLogs (Step.Lose self.old.now.ends.0 self.old.now.ends.1) LoseRow ticket self.old self.new result }
+        ensures only { IfErr result (IsNotOld O.table) }
     {
         let ticket = self.seat.draw(rt, history);
         let before = self.logged.log().len();
@@ -116,6 +119,7 @@ impl<O: Origin> KeptLink<O> {
         ensures began { IfOk result (λ end. at_place (links_in O.start) place end.0.base ≡ Some end.0.base) }
         ensures quiet { IfOk result (λ end. quiet_log O.start end.0.log ≡ true) }
         ensures seated { IfOk result (λ end. IsSeated O.table (objects.Link end.0.now.ends.0 end.0.now.ends.1) end.0.round end.0.log end.1) }
+        ensures only { IfErr result IsOfPlaces }
     {
         if self.place != place {
             return Err(LogError::Refused(Refusal::NotShared));

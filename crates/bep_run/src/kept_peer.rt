@@ -2,7 +2,12 @@
 ghost use Rattle.std.specs.Prelude.{◌≡◌, [], IfErr, IfOk, OnOk, Some, true};
 ghost use Rattle.bep_cut.specs.Cut.{seen};
 ghost use Rattle.bep_fit.specs.declared.object.Object.TheVariants.{Device};
+ghost use Rattle.bep_log.specs.Copies.{IsCopied};
+ghost use Rattle.bep_peer.specs.Contents.{NamesIn};
+ghost use Rattle.bep_peer.specs.Member.{tables_of};
+ghost use Rattle.bep_peer.specs.Within.{FindsWithin};
 ghost use Rattle.bep_run.specs.inner.Kept.{IsSeated};
+ghost use Rattle.bep_run.specs.inner.Looking.{IsOfCopy};
 ghost use Rattle.bep_run.specs.Origin.{at_place, devices_in};
 ghost use Rattle.bep_run.specs.Quiet.{quiet_log};
 ghost use Rattle.bep_run.specs.Why.{IsOfCopies, IsOfStores};
@@ -65,7 +70,7 @@ impl<S: Store, O: Origin> Model for KeptPeer<S, O> {
 
 impl<S: Store, O: Origin> KeptPeer<S, O> {
     // The device, which stands at this place, with an empty log, as `LoggedPeer::new` makes it.
-    #[tactic(auto, using(crate::proofs::Begins::new_stands))]
+    #[tactic(auto, using(crate::proofs::Begins::new_stands, crate::proofs::Tickets::none_taken))]
     pub(crate) fn new(
         alloc: Global,
         place: usize,
@@ -74,7 +79,7 @@ impl<S: Store, O: Origin> KeptPeer<S, O> {
     ) -> Result<Self, LogError>
         requires stands { at_place (devices_in O.start) place (seen peer) ≡ Some (seen peer) }
         requires seated { IsSeated O.table (Device peer.number) 0 [] seat }
-        ensures only { IfErr result IsOfStores }
+        ensures only { IfErr result (IsOfStores S.faults) }
     {
         let logged = LoggedPeer::new(alloc, peer)?;
         Ok(KeptPeer {
@@ -92,7 +97,10 @@ impl<S: Store, O: Origin> KeptPeer<S, O> {
     }
 
     // The names of the folder's store and of the own records.
-    pub(crate) fn names(&mut self, folder: &FolderName) -> Result<NameMap<()>, PeerError> {
+    pub(crate) fn names(&mut self, folder: &FolderName) -> Result<NameMap<()>, PeerError>
+        ensures read { NamesIn folder.now self.old.now self.new.now result }
+        ensures same { tables_of self.new.now ≡ tables_of self.old.now }
+    {
         self.logged.names(folder)
     }
 
@@ -101,7 +109,10 @@ impl<S: Store, O: Origin> KeptPeer<S, O> {
         &mut self,
         folder: &FolderName,
         name: &Name,
-    ) -> Result<Option<Node>, PeerError> {
+    ) -> Result<Option<Node>, PeerError>
+        ensures found { FindsWithin folder.now name.now self.old.now self.new.now result }
+        ensures same { tables_of self.new.now ≡ tables_of self.old.now }
+    {
         self.logged.look(folder, name)
     }
 
@@ -110,14 +121,15 @@ impl<S: Store, O: Origin> KeptPeer<S, O> {
     pub(crate) fn copy(&mut self, place: usize) -> Result<PeerCopy, LogError>
         ensures began { IfOk result (λ copy. at_place (devices_in O.start) place (seen copy.base) ≡ Some (seen copy.base)) }
         ensures quiet { IfOk result (λ copy. quiet_log O.start copy.log ≡ true) }
-        ensures only { IfErr result IsOfCopies }
+        ensures only { IfErr result (IsOfCopies S.faults) }
+        ensures fault { IfErr result (IsOfCopy self.new.now.trace.failed) }
     {
         if self.place != place {
             return Err(LogError::Refused(Refusal::NotShared));
         }
         // called for its clause: the base has the device's number
         self.logged.log_replays();
-        self.logged.copy()
+        copy_logged(&mut self.logged)
     }
 
     // A copy of it, as `copy` makes it, and its seat, which knows the copy's log.
@@ -126,6 +138,7 @@ impl<S: Store, O: Origin> KeptPeer<S, O> {
         ensures began { IfOk result (λ end. at_place (devices_in O.start) place (seen end.0.base) ≡ Some (seen end.0.base)) }
         ensures quiet { IfOk result (λ end. quiet_log O.start end.0.log ≡ true) }
         ensures seated { IfOk result (λ end. IsSeated O.table (Device end.0.now.number) end.0.round end.0.log end.1) }
+        ensures only { IfErr result (IsOfCopies S.faults) }
     {
         if self.place != place {
             return Err(LogError::Refused(Refusal::NotShared));
@@ -138,7 +151,22 @@ impl<S: Store, O: Origin> KeptPeer<S, O> {
         let mut logged = logged;
         // called for its clause: the base has the device's number
         logged.log_replays();
-        let copy = logged.copy()?;
+        let copy = copy_logged(&mut logged)?;
         Ok((copy, seat))
     }
+}
+
+// A copy of the device, as `LoggedPeer::copy` makes it. It also says that stores which never fail didn't.
+fn copy_logged<S: Store>(logged: &mut LoggedPeer<S>) -> Result<PeerCopy, LogError>
+    ensures copied { IfOk result (IsCopied logged.old) }
+    ensures number { logged.new.now.number ≡ logged.old.now.number }
+    ensures base { tables_of logged.new.base ≡ tables_of logged.old.base }
+    ensures log { logged.new ≡ record logged.old { now = logged.new.now; base = logged.new.base } }
+    ensures only { IfErr result (IsOfCopies S.faults) }
+    ensures fault { IfErr result (IsOfCopy logged.new.now.trace.failed) }
+{
+    let copied = logged.copy();
+    // called for what its clause says of stores that never fail
+    logged.peer().failed();
+    copied
 }

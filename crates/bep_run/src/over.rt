@@ -1,4 +1,6 @@
 //! What a device does over a link: under the guards of both, the device's first, and under a ticket of its own.
+ghost use Rattle.std.specs.Prelude.{IfErr};
+ghost use Rattle.bep_run.specs.inner.Tickets.{IsNotOld};
 
 use crate::shared::{Held, Joint};
 use crate::{Locked, Origin};
@@ -14,7 +16,9 @@ impl<S: Store, O: Origin> Locked<S, O> {
         rt: &R,
         held: &Held<S, O>,
         joint: &Joint<O>,
-    ) -> Result<Moved, LogError> {
+    ) -> Result<Moved, LogError>
+        ensures { IfErr result (IsNotOld O.table) }
+    {
         let mut peer = held.peer.lock(rt);
         let mut link = joint.link.lock(rt);
         peer.begin(rt, &self.history, &mut *link)
@@ -25,7 +29,9 @@ impl<S: Store, O: Origin> Locked<S, O> {
         rt: &R,
         held: &Held<S, O>,
         joint: &Joint<O>,
-    ) -> Result<Moved, LogError> {
+    ) -> Result<Moved, LogError>
+        ensures { IfErr result (IsNotOld O.table) }
+    {
         let mut peer = held.peer.lock(rt);
         let mut link = joint.link.lock(rt);
         peer.deliver(rt, &self.history, &mut *link)
@@ -37,7 +43,9 @@ impl<S: Store, O: Origin> Locked<S, O> {
         held: &Held<S, O>,
         joint: &Joint<O>,
         folder: &FolderName,
-    ) -> Result<Moved, LogError> {
+    ) -> Result<Moved, LogError>
+        ensures { IfErr result (IsNotOld O.table) }
+    {
         let mut peer = held.peer.lock(rt);
         let mut link = joint.link.lock(rt);
         peer.announce(rt, &self.history, &mut *link, folder)
@@ -50,7 +58,9 @@ impl<S: Store, O: Origin> Locked<S, O> {
         joint: &Joint<O>,
         folder: &FolderName,
         name: &Name,
-    ) -> Result<Moved, LogError> {
+    ) -> Result<Moved, LogError>
+        ensures { IfErr result (IsNotOld O.table) }
+    {
         let mut peer = held.peer.lock(rt);
         let mut link = joint.link.lock(rt);
         peer.ask(rt, &self.history, &mut *link, folder, name)

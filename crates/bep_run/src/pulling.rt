@@ -1,4 +1,8 @@
 //! A puller's turn.
+ghost use Rattle.std.specs.Prelude.{◌≡◌, IfErr, IfSome};
+ghost use Rattle.bep_log.specs.declared.error.LogError.TheVariants.{Memory};
+ghost use Rattle.bep_run.specs.Why.{IsOfTurns};
+ghost use Rattle.bep_run.specs.inner.Tickets.{IsNotOld};
 
 use crate::dropping::pulled_in_vain;
 use crate::shared::Held;
@@ -17,7 +21,9 @@ impl<S: Store, O: Origin> Locked<S, O> {
     /// there is none, the next block is asked for over each link, and the pull is ended if it can be. Then it ends the pulls of
     /// the names that aren't wanted, which are dropped. What is refused is passed over. Refuses `NotShared` where the device
     /// isn't there; else only for want of memory, which ends the turn. May wait.
-    pub fn puller_turn<R: Wait>(&self, rt: &R, device: DeviceId) -> Result<u64, LogError> {
+    pub fn puller_turn<R: Wait>(&self, rt: &R, device: DeviceId) -> Result<u64, LogError>
+        ensures only { IfErr result (IsOfTurns O.table) }
+    {
         let held = self.device(device)?;
         let mut done = 0;
         for folder in held.folders.as_slice() {
@@ -37,11 +43,13 @@ impl<S: Store, O: Origin> Locked<S, O> {
         held: &Held<S, O>,
         folder: &FolderName,
         before: u64,
-    ) -> Result<u64, LogError> {
+    ) -> Result<u64, LogError>
+        ensures only { IfErr result (IsOfTurns O.table) }
+    {
         let mut done = before;
         let names = self.in_vain(rt, held, folder)?;
         for (name, _) in names.iter() {
-            done = tally(done, self.finish(rt, held, folder, name))?;
+            done = tally::<O, Moved>(done, self.finish(rt, held, folder, name))?;
         }
         Ok(done)
     }
@@ -52,7 +60,9 @@ impl<S: Store, O: Origin> Locked<S, O> {
         rt: &R,
         held: &Held<S, O>,
         folder: &FolderName,
-    ) -> Result<NameMap<()>, LogError> {
+    ) -> Result<NameMap<()>, LogError>
+        ensures only { IfErr result (λ e. e ≡ Memory) }
+    {
         let peer = held.peer.lock(rt);
         match peer.peer().replica(folder) {
             Some(replica) => Ok(pulled_in_vain(self.alloc, replica)?),
@@ -66,7 +76,9 @@ impl<S: Store, O: Origin> Locked<S, O> {
         rt: &R,
         held: &Held<S, O>,
         folder: &FolderName,
-    ) -> Result<NameMap<()>, LogError> {
+    ) -> Result<NameMap<()>, LogError>
+        ensures only { IfErr result (λ e. e ≡ Memory) }
+    {
         let peer = held.peer.lock(rt);
         match peer.peer().replica(folder) {
             Some(replica) => Ok(replica.wanted_names()?),
@@ -82,15 +94,17 @@ impl<S: Store, O: Origin> Locked<S, O> {
         folder: &FolderName,
         name: &Name,
         before: u64,
-    ) -> Result<u64, LogError> {
+    ) -> Result<u64, LogError>
+        ensures only { IfErr result (IsOfTurns O.table) }
+    {
         let mut done = before;
         if let Some(began) = self.begin_pull(rt, held, folder, name) {
-            done = tally(done, began)?;
+            done = tally::<O, Moved>(done, began)?;
         }
         for joint in self.links.iter().filter(|joint| joint.is_of(held.number)) {
-            done = tally(done, self.ask(rt, held, joint, folder, name))?;
+            done = tally::<O, Moved>(done, self.ask(rt, held, joint, folder, name))?;
         }
-        tally(done, self.finish(rt, held, folder, name))
+        tally::<O, Moved>(done, self.finish(rt, held, folder, name))
     }
 
     // Begins a pull of the name, if there is none.
@@ -100,7 +114,9 @@ impl<S: Store, O: Origin> Locked<S, O> {
         held: &Held<S, O>,
         folder: &FolderName,
         name: &Name,
-    ) -> Option<Result<Moved, LogError>> {
+    ) -> Option<Result<Moved, LogError>>
+        ensures only { IfSome result (λ began. IfErr began (IsNotOld O.table)) }
+    {
         let mut peer = held.peer.lock(rt);
         if !has_no_pull(peer.peer(), folder, name) {
             return None;
@@ -115,7 +131,9 @@ impl<S: Store, O: Origin> Locked<S, O> {
         held: &Held<S, O>,
         folder: &FolderName,
         name: &Name,
-    ) -> Result<Moved, LogError> {
+    ) -> Result<Moved, LogError>
+        ensures only { IfErr result (IsNotOld O.table) }
+    {
         let mut peer = held.peer.lock(rt);
         peer.finish(rt, &self.history, folder, name)
     }

@@ -1,4 +1,8 @@
 //! A scanner's turn.
+ghost use Rattle.std.specs.Prelude.{◌≡◌, IfErr};
+ghost use Rattle.bep_log.specs.declared.error.LogError.TheVariants.{Memory};
+ghost use Rattle.bep_run.specs.Why.{IsOfTurns};
+ghost use Rattle.bep_run.specs.inner.Tickets.{IsNotOld};
 
 use crate::shared::Held;
 use crate::tally::{read_or_pass, tally};
@@ -38,7 +42,9 @@ impl<S: Store, O: Origin> Locked<S, O> {
         rt: &R,
         device: DeviceId,
         gate: &G,
-    ) -> Result<u64, LogError> {
+    ) -> Result<u64, LogError>
+        ensures only { IfErr result (IsOfTurns O.table) }
+    {
         let held = self.device(device)?;
         let mut done = 0;
         for folder in held.folders.as_slice() {
@@ -55,14 +61,16 @@ impl<S: Store, O: Origin> Locked<S, O> {
         held: &Held<S, O>,
         folder: &FolderName,
         before: u64,
-    ) -> Result<u64, LogError> {
+    ) -> Result<u64, LogError>
+        ensures only { IfErr result (IsOfTurns O.table) }
+    {
         let Some(names) = read_or_pass(self.names(rt, held, folder))? else {
             return Ok(before);
         };
         let mut done = before;
         for (name, _) in names.iter() {
             if let Some(found) = read_or_pass(self.find(rt, held, folder, name))? {
-                done = tally(done, self.record(rt, gate, held, folder, name, found))?;
+                done = tally::<O, Moved>(done, self.record(rt, gate, held, folder, name, found))?;
             }
         }
         Ok(done)
@@ -77,7 +85,9 @@ impl<S: Store, O: Origin> Locked<S, O> {
         folder: &FolderName,
         name: &Name,
         found: Found,
-    ) -> Result<Moved, LogError> {
+    ) -> Result<Moved, LogError>
+        ensures only { IfErr result (IsNotOld O.table) }
+    {
         let scan = match found {
             Found::Clean => None,
             Found::Unknown(node) => Some(self.hash(rt, gate, name, node)?),
@@ -122,7 +132,9 @@ impl<S: Store, O: Origin> Locked<S, O> {
         gate: &G,
         name: &Name,
         node: Option<Node>,
-    ) -> Result<ScanResult, LogError> {
+    ) -> Result<ScanResult, LogError>
+        ensures only { IfErr result (λ e. e ≡ Memory) }
+    {
         let name = name.copy(self.alloc)?;
         match ScanResult::hash(rt, self.alloc, gate, name, node, WORKERS) {
             Ok(scan) => Ok(scan),
@@ -139,7 +151,9 @@ impl<S: Store, O: Origin> Locked<S, O> {
         held: &Held<S, O>,
         folder: &FolderName,
         name: &Name,
-    ) -> Result<Moved, LogError> {
+    ) -> Result<Moved, LogError>
+        ensures only { IfErr result (IsNotOld O.table) }
+    {
         let mut peer = held.peer.lock(rt);
         if !is_known_clean(peer.peer(), folder, name) {
             return Err(LogError::Stale);
@@ -154,7 +168,9 @@ impl<S: Store, O: Origin> Locked<S, O> {
         held: &Held<S, O>,
         folder: &FolderName,
         scan: ScanResult,
-    ) -> Result<Moved, LogError> {
+    ) -> Result<Moved, LogError>
+        ensures only { IfErr result (IsNotOld O.table) }
+    {
         let mut peer = held.peer.lock(rt);
         peer.scan_commit(rt, &self.history, folder, scan)
     }

@@ -1,9 +1,12 @@
 //! The turn of a session.
+ghost use Rattle.std.specs.Prelude.{IfErr};
+ghost use Rattle.bep_run.specs.Why.{IsOfTurns};
 
 use crate::tally::tally;
 use crate::{Locked, Origin};
 use bep_blocks::{Gate, Place};
 use bep_log::LogError;
+use bep_machine::Moved;
 use bep_record::DeviceId;
 use bep_store::Store;
 use std::sync::Wait;
@@ -19,17 +22,19 @@ impl<S: Store, O: Origin> Locked<S, O> {
         device: DeviceId,
         other: DeviceId,
         gate: &G,
-    ) -> Result<u64, LogError> {
+    ) -> Result<u64, LogError>
+        ensures only { IfErr result (IsOfTurns O.table) }
+    {
         let held = self.device(device)?;
         let joint = self.link_of(device, other)?;
-        let mut done = tally(0, self.begin(rt, held, joint))?;
+        let mut done = tally::<O, Moved>(0, self.begin(rt, held, joint))?;
         let delivered = self.deliver(rt, held, joint);
         if delivered.is_ok() {
             gate.pass(Place::Delivered(device));
         }
-        done = tally(done, delivered)?;
+        done = tally::<O, Moved>(done, delivered)?;
         for folder in held.folders.as_slice() {
-            done = tally(done, self.announce(rt, held, joint, folder))?;
+            done = tally::<O, Moved>(done, self.announce(rt, held, joint, folder))?;
         }
         Ok(done)
     }

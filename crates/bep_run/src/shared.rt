@@ -1,12 +1,16 @@
 //! The cluster behind its locks.
-ghost use Rattle.std.specs.Prelude.{◌≡◌, ◌++◌, [], IfErr, IfOk, OnOk, Some, length, map};
+ghost use Rattle.std.specs.Prelude.{◌≡◌, ◌≢◌, ◌⊎◌, ◌↔◌, ◌++◌, [], All, IfErr, IfOk, IsTrue, OnErr, OnOk, Some, length, map};
 ghost use Rattle.std.specs.Coded.{Coded-set, coded_list};
+ghost use Rattle.std.specs.FinMap.{keys};
 ghost use Rattle.atomic_table.specs.Seated.{table_id_coded};
 ghost use Rattle.bep_cut.specs.Cut.{seen};
 ghost use Rattle.bep_fit.specs.contracts.object.Object as object_row;
 ghost use Rattle.bep_fit.specs.declared.object.Object.TheVariants as objects;
 ghost use Rattle.bep_history.specs.Chair.{IsNamed, named_or};
+ghost use Rattle.bep_log.specs.declared.error.LogError.TheVariants.{Refused};
+ghost use Rattle.bep_machine.specs.declared.refusal.Refusal.TheVariants.{NotShared};
 ghost use Rattle.bep_run.specs.inner.Kept.{IsAbout, IsFirstSeat, IsSeated, objects_in, objects_of_links, objects_of_peers};
+ghost use Rattle.bep_run.specs.inner.Looking.{AreEnds};
 ghost use Rattle.bep_run.specs.Origin.{BeginsAs, IsAll, at_place, count_of, devices_in, links_in};
 ghost use Rattle.bep_run.specs.Why.{IsOfStores};
 
@@ -95,7 +99,7 @@ impl<S: Store> Locked<S, Anywhere> {
     /// The cluster behind locks: each log is empty, in round 0, and the first ticket is 1. The cluster is used up, after a
     /// refusal too. Refuses `StoreFault` where a store fails to list its names or to read one; else only for want of memory.
     pub fn new(alloc: Global, cluster: Cluster<S>) -> Result<Self, LogError>
-        ensures only { IfErr result IsOfStores }
+        ensures only { IfErr result (IsOfStores S.faults) }
     {
         let (history, _place) = History::begin(alloc, &Vec::new(alloc))?;
         Locked::of(alloc, cluster, history, Chair::nobody())
@@ -120,7 +124,7 @@ impl<S: Store, O: Origin> Locked<S, O> {
         requires named { IsNamed O.table history.table.shared.table_id }
         requires about { IsAbout O.start history.table.shared.key.items }
         requires seat { IsFirstSeat O.table (objects_of_peers cluster.members ++ objects_of_links cluster.links) seat }
-        ensures only { IfErr result IsOfStores }
+        ensures only { IfErr result (IsOfStores S.faults) }
     {
         let (peers, joining) = cluster.into_parts();
         let mut seat = seat;
@@ -151,7 +155,11 @@ impl<S: Store, O: Origin> Locked<S, O> {
     }
 
     // The device of this number, or `NotShared`.
-    pub(crate) fn device(&self, number: DeviceId) -> Result<&Held<S, O>, LogError> {
+    pub(crate) fn device(&self, number: DeviceId) -> Result<&Held<S, O>, LogError>
+        ensures found { IfOk result (λ held. held.now.number ≡ number) }
+        ensures only { IfErr result (λ e. e ≡ Refused NotShared) }
+        ensures missing { OnErr result (All (λ held. held.number ≢ number) self.now.devices.items) }
+    {
         match self.devices.iter().find(|held| held.number == number) {
             Some(held) => Ok(held),
             None => Err(LogError::Refused(Refusal::NotShared)),
@@ -159,7 +167,10 @@ impl<S: Store, O: Origin> Locked<S, O> {
     }
 
     // The link between the two devices, the smaller first, or `NotShared`.
-    pub(crate) fn link(&self, lower: DeviceId, upper: DeviceId) -> Result<&Joint<O>, LogError> {
+    pub(crate) fn link(&self, lower: DeviceId, upper: DeviceId) -> Result<&Joint<O>, LogError>
+        ensures found { IfOk result (λ joint. (joint.now.lower ≡ lower) × (joint.now.upper ≡ upper)) }
+        ensures only { IfErr result (λ e. e ≡ Refused NotShared) }
+    {
         match self
             .links
             .iter()
@@ -171,7 +182,10 @@ impl<S: Store, O: Origin> Locked<S, O> {
     }
 
     // The link between the two devices, in whichever order they are named, or `NotShared`.
-    pub(crate) fn link_of(&self, device: DeviceId, other: DeviceId) -> Result<&Joint<O>, LogError> {
+    pub(crate) fn link_of(&self, device: DeviceId, other: DeviceId) -> Result<&Joint<O>, LogError>
+        ensures found { IfOk result (λ joint. AreEnds joint.now.lower joint.now.upper device other) }
+        ensures only { IfErr result (λ e. e ≡ Refused NotShared) }
+    {
         if device < other {
             self.link(device, other)
         } else {
@@ -204,7 +218,9 @@ impl<O: Origin> Joint<O> {
     }
 
     // Whether the device is at an end of the link.
-    pub(crate) fn is_of(&self, device: DeviceId) -> bool {
+    pub(crate) fn is_of(&self, device: DeviceId) -> bool
+        ensures { IsTrue result ↔ (self.now.lower ≡ device) ⊎ (self.now.upper ≡ device) }
+    {
         self.lower == device || self.upper == device
     }
 }
@@ -223,7 +239,7 @@ fn hold_all<S: Store, O: Origin>(
     requires seat { IsFirstSeat O.table (objects_of_peers peers.items ++ objects_of_links joining.now) seat.old }
     ensures all { IfOk result (λ held. count_of (devices_in O.start) (length held.items) ≡ length held.items) }
     ensures seat { OnOk result (IsFirstSeat O.table (objects_of_links joining.now) seat.new) }
-    ensures only { IfErr result IsOfStores }
+    ensures only { IfErr result (IsOfStores S.faults) }
 {
     let mut devices = Vec::with_capacity(alloc, peers.len())?;
     for peer in peers {
@@ -265,7 +281,9 @@ fn hold<S: Store, O: Origin>(
 ) -> Result<Held<S, O>, LogError>
     requires stands { at_place (devices_in O.start) place (seen peer) ≡ Some (seen peer) }
     requires seated { IsSeated O.table (objects.Device peer.number) 0 [] seat }
-    ensures only { IfErr result IsOfStores }
+    ensures number { IfOk result (λ held. held.number ≡ peer.number) }
+    ensures folders { IfOk result (λ held. held.folders ≡ keys peer.folders) }
+    ensures only { IfErr result (IsOfStores S.faults) }
 {
     let number = peer.number();
     let folders = folders_of(alloc, &peer)?;
@@ -286,6 +304,7 @@ fn join<O: Origin>(
 ) -> Result<Joint<O>, AllocError>
     requires stands { at_place (links_in O.start) place link ≡ Some link }
     requires seated { IsSeated O.table (objects.Link link.ends.0 link.ends.1) 0 [] seat }
+    ensures ends { IfOk result (λ joint. (joint.lower, joint.upper) ≡ link.ends) }
 {
     let (lower, upper) = link.ends();
     let link = Mutex::new(KeptLink::new(alloc, place, link, seat)?);
@@ -293,7 +312,9 @@ fn join<O: Origin>(
 }
 
 // The names of the device's folders, rising.
-fn folders_of<S: Store>(alloc: Global, peer: &Peer<S>) -> Result<Items<FolderName>, AllocError> {
+fn folders_of<S: Store>(alloc: Global, peer: &Peer<S>) -> Result<Items<FolderName>, AllocError>
+    ensures { IfOk result (λ names. names ≡ keys peer.now.folders) }
+{
     let mut names = Vec::new(alloc);
     for (folder, _) in peer.folders().iter() {
         names.push(folder.copy(alloc)?)?;

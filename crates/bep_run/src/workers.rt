@@ -1,11 +1,12 @@
 //! Threads that make turns.
-ghost use Rattle.std.specs.Prelude.{◌≡◌, ◌++◌, ℕ, [], IfOk, Some};
+ghost use Rattle.std.specs.Prelude.{◌≡◌, ◌++◌, ℕ, [], All, IfErr, IfOk, Some};
 ghost use Rattle.bep_fit.specs.Fit.{Fits};
 ghost use Rattle.bep_fit.specs.Replayed.{AreQuietLogs, AreResetOf};
 ghost use Rattle.bep_peer.specs.network.Network.{cluster_of};
 ghost use Rattle.bep_history.specs.View.{AreDistinct, beginning};
 ghost use Rattle.bep_run.specs.inner.Kept.{objects_of_links, objects_of_peers};
 ghost use Rattle.bep_run.specs.Settling.{StaysSettled};
+ghost use Rattle.bep_run.specs.Why.{IsOfCopies, IsOfTurns};
 ghost use Rattle.bep_run_cut.specs.OneRun.{IsRunOf};
 ghost use Rattle.bep_run_cut.specs.RunCut.{AreTheSame};
 
@@ -41,9 +42,19 @@ pub fn run_workers<R: Threads + Wait + Sync, S: Store + Send, O: Origin, G: Gate
     shared: &Locked<S, O>,
     gate: &G,
     turns: u32,
-) -> Result<u64, LogError> {
+) -> Result<u64, LogError>
+    ensures only { IfErr result (IsOfTurns O.table) }
+{
     let jobs = shared.jobs()?;
     let answers = thread::map_vec(rt, jobs, &|job| shared.make_turns(rt, gate, job, turns))?;
+    total::<O>(answers)
+}
+
+// How many actions answered Ok in all, or why the first of these workers ended that didn't make all of its turns.
+fn total<O: Origin>(answers: Vec<Result<u64, LogError>>) -> Result<u64, LogError>
+    requires { All (λ answer. IfErr answer (IsOfTurns O.table)) answers.items }
+    ensures only { IfErr result (IsOfTurns O.table) }
+{
     let mut done = 0u64;
     for answer in answers {
         done = done.saturating_add(answer?);
@@ -71,6 +82,7 @@ pub fn run_turns<R: Threads + Wait + Sync, S: Store + Send, G: Gate + Sync>(
     ensures fit { IfOk result (λ run. (count : ℕ) × Fits run.logs count) }
     ensures one_run { IfOk result (λ run. (count : ℕ) × IsRunOf run count) }
     ensures settled { IfOk result (λ run. StaysSettled (cluster_of cluster) (cluster_of run.present)) }
+    ensures only { IfErr result (IsOfCopies S.faults) }
 {
     let objects = objects_of(alloc, &cluster)?;
     let (history, place) = History::begin(alloc, &objects)?;
@@ -84,7 +96,7 @@ pub fn run_turns<R: Threads + Wait + Sync, S: Store + Send, G: Gate + Sync>(
 }
 
 // The same, where the type `O` says that all began as this cluster, and names this history.
-#[tactic(auto, using(crate::proofs::Still::still_where_known, crate::proofs::Handed::named_as, crate::proofs::Handed::about_these, crate::proofs::Handed::first_seat_of, crate::proofs::Handed::fit_where_known))]
+#[tactic(auto, using(crate::proofs::Still::still_where_known, crate::proofs::Handed::named_as, crate::proofs::Handed::about_these, crate::proofs::Handed::first_seat_of, crate::proofs::Handed::fit_where_known, crate::proofs::Failing::turns_where_known, crate::proofs::Failing::stores_of_copies))]
 fn run_from<R: Threads + Wait + Sync, S: Store + Send, O: Origin, G: Gate + Sync>(
     rt: &R,
     alloc: Global,
@@ -102,6 +114,7 @@ fn run_from<R: Threads + Wait + Sync, S: Store + Send, O: Origin, G: Gate + Sync
     ensures quiet { IfOk result (λ run. AreQuietLogs run.logs) }
     ensures no_reset { IfOk result (λ run. AreResetOf run.logs []) }
     ensures fit { IfOk result (λ run. (count : ℕ) × Fits run.logs count) }
+    ensures only { IfErr result (IsOfCopies S.faults) }
 {
     let shared = Locked::<S, O>::of(alloc, cluster, history, Chair::of(place))?;
     run_workers(rt, &shared, gate, turns)?;
@@ -147,7 +160,9 @@ impl<S: Store, O: Origin> Locked<S, O> {
         gate: &G,
         job: Job,
         turns: u32,
-    ) -> Result<u64, LogError> {
+    ) -> Result<u64, LogError>
+        ensures only { IfErr result (IsOfTurns O.table) }
+    {
         let mut done = 0u64;
         for _ in 0..turns {
             done = done.saturating_add(self.make_turn(rt, gate, job)?);
@@ -161,7 +176,9 @@ impl<S: Store, O: Origin> Locked<S, O> {
         rt: &R,
         gate: &G,
         job: Job,
-    ) -> Result<u64, LogError> {
+    ) -> Result<u64, LogError>
+        ensures only { IfErr result (IsOfTurns O.table) }
+    {
         match job {
             Job::Scan(device) => self.scanner_turn(rt, device, gate),
             Job::Pull(device) => self.puller_turn(rt, device),

@@ -18,6 +18,7 @@ use Rattle.bep_peer.specs.network.Network.{Network, cluster_of}
 use Rattle.bep_run.specs.Based.{began_as}
 use Rattle.bep_run.specs.Origin.{at_place, devices_in, links_in}
 use Rattle.bep_run.specs.Quiet.{quiet_log}
+use Rattle.bep_run.specs.inner.Tickets.{IsLastIn}
 
 -- what a seat knows that owns this object alone
 abbrev pub alone : Object → List Stamped → View
@@ -29,17 +30,20 @@ abbrev pub IsSeated : Option TableId → Object → ℕ → List Stamped → Opt
 IsSeated None object round log seat = seat ≡ None
 IsSeated (Some table) object round log seat = (round ≡ 0) × (seat ≡ Some (alone object log))
 
--- A device behind its lock: it began as what stood at its place, its log is quiet, and the seat knows the log.
+-- A device behind its lock: it began as what stood at its place, its log is quiet, the seat knows the log, and the log has the
+-- last ticket that was taken.
 pub record IsKeptDevice (start : Option Network) (table : Option TableId) (place : ℕ) (logged : LoggedMember) (seat : Option View) : Type 0 where
   pub began : at_place (devices_in start) place (began_as logged) ≡ Some (began_as logged)
   pub quiet : quiet_log start logged.log ≡ true
   pub seated : IsSeated table (objects.Device logged.now.number) logged.round logged.log seat
+  pub last : IsLastIn table logged.log logged.last
 
 -- the same of a link
 pub record IsKeptLink (start : Option Network) (table : Option TableId) (place : ℕ) (logged : LoggedBetween) (seat : Option View) : Type 0 where
   pub began : at_place (links_in start) place logged.base ≡ Some logged.base
   pub quiet : quiet_log start logged.log ≡ true
   pub seated : IsSeated table (objects.Link logged.now.ends.0 logged.now.ends.1) logged.round logged.log seat
+  pub last : IsLastIn table logged.log logged.last
 
 -- the devices and links of the cluster that all began as, where it is known
 abbrev pub objects_in : Option Network → Option (List Object)

@@ -10,7 +10,7 @@ returns-clause-above g c =
     let place = c.self.inside.place in
     let known = c.args.self.now in
     elim c.match-self.branch [
-      in-Some w ↦
+      | in-Some w ↦
           let above = w.draw.ensures.above in
           subst (λ t. (0 < t) × IfSome known (IsAbove t)) (sym w.result-is)
           (above.0, above_known place known w.in-Some.place w.draw.result c.self.view_is w.in-Some.is above.1)

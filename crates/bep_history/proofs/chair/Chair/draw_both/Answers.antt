@@ -13,7 +13,7 @@ returns-clause-above g c =
     let known = c.args.self.now in
     let its_known = c.args.other.now in
     elim c.match-self.branch [
-      in-Some-Some w ↦
+      | in-Some-Some w ↦
           let above = w.draw_both.ensures.above in
           let ticket = w.draw_both.result in
           subst (λ t. (0 < t) × IfSome known (IsAbove t) × IfSome its_known (IsAbove t)) (sym w.result-is)
@@ -24,7 +24,7 @@ returns-clause-above g c =
           subst (λ t. (0 < t) × IfSome known (IsAbove t) × IfSome its_known (IsAbove t)) (sym w.result-is)
           (w.draw.ensures.above.0, above_nobody place known w.draw.result c.self.view_is none, above_nobody its_place its_known w.draw.result c.other.view_is none') in
           elim w.in_default.branch [
-            in_default-via-in-Some+in_default u ↦ nobody (nobody_too table place its_place c.self.invariant c.other.invariant u.in_default.is-1) u.in_default.is-1
+            | in_default-via-in-Some+in_default u ↦ nobody (nobody_too table place its_place c.self.invariant c.other.invariant u.in_default.is-1) u.in_default.is-1
             | in_default-via-in_default u ↦ nobody u.in_default.is-0 (nobody_too table its_place place c.other.invariant c.self.invariant u.in_default.is-0)
           ]
     ]

@@ -8,4 +8,4 @@ pub invariant_of-self : goal.invariant_of-self
 invariant_of-self g c =
     let log = c.look.ensures.log in
     device_read g.O.Origin.start g.O.Tabled.table c.self.inside.place c.self.inside.logged c.look.new.self c.self.inside.seat
-    (ap (λ (m : LoggedMember). m.log) log) (ap (λ (m : LoggedMember). m.round) log) c.look.ensures.rest.number (ap (λ (m : LoggedMember). tables_of m.base) log) c.self.invariant
+    (ap (λ (m : LoggedMember). m.log) log) (ap (λ (m : LoggedMember). m.last) log) (ap (λ (m : LoggedMember). m.round) log) c.look.ensures.rest.number (ap (λ (m : LoggedMember). tables_of m.base) log) c.self.invariant
