@@ -1,15 +1,14 @@
 -- No device and no link of a cluster stands twice.
-use Rattle.std.proofs.Common.{◌≡◌, ◌≢◌, ◌++◌, ℕ, List, [], ◌∷◌, map, Contains, refl, sym, ap, subst, ◌∙◌, ⊎_elim}
+use Rattle.std.proofs.Common.{◌≡◌, ◌++◌, ℕ, List, [], ◌∷◌, map, Contains, refl, sym, ap, subst, ◌∙◌, ⊎_elim}
 use Rattle.std.specs.declared.cmp.Ordering.{Ordering}
 use Rattle.std.specs.declared.cmp.Ordering.TheVariants.{Less, Equal}
 use Rattle.std.specs.Ordering.{nat_cmp}
 use Rattle.std.specs.Cmp.{IsTotalOrder, nat_cmp_total}
 use Rattle.std.specs.List.Sorted.{IsStrictlySortedBy}
 use Rattle.std.proofs.lemmas.Cmp.{on_total, then_total, tied_itself}
-use Rattle.std.proofs.lemmas.List.{map-append}
 use Rattle.std.proofs.lemmas.List.Elements.{Contains-append_cases}
 use Rattle.std.proofs.lemmas.Map.Keys.{sorted_head, sorted_tail, sorted_from_strictly_increasing}
-use Rattle.bep_facts.specs.Members.{Contains-first, Contains-from_image, Contains-image, Contains-more, holds_of_member}
+use Rattle.bep_facts.specs.Members.{Contains-first, Contains-from_image, Contains-more, holds_of_member}
 use Rattle.bep_config.specs.Config.{by_ends}
 use Rattle.bep_fit.specs.declared.object.Object.{Object}
 use Rattle.bep_fit.specs.declared.object.Object.TheVariants as objects

@@ -1,13 +1,11 @@
 -- The logs of copies whose seats came together fit.
-use Rattle.std.proofs.Common.{◌≡◌, ◌++◌, ℕ, List, [], ◌∷◌, map, Option, Some, None, option_map, Contains, refl, sym, ap, subst, ◌∙◌, ⊎_elim}
+use Rattle.std.proofs.Common.{◌≡◌, ◌++◌, List, [], ◌∷◌, map, Option, Some, None, Contains, refl, sym, ap, subst, ◌∙◌, ⊎_elim}
 use Rattle.std.specs.List.{AllByRecursion}
-use Rattle.std.proofs.lemmas.List.Elements.{Contains-append_cases, Contains-append_left, Contains-append_right, Contains-push_cases}
+use Rattle.std.proofs.lemmas.List.Elements.{Contains-append_cases, Contains-append_right, Contains-push_cases}
 use Rattle.atomic_table.specs.Seated.{TableId}
-use Rattle.bep_facts.specs.Members.{Contains-first, Contains-from_image, Contains-image, holds_of_member, not_in_none}
+use Rattle.bep_facts.specs.Members.{Contains-first, Contains-from_image, holds_of_member, not_in_none}
 use Rattle.bep_fit.specs.declared.object.Object.{Object}
-use Rattle.bep_fit.specs.declared.object.Object.TheVariants as objects
-use Rattle.bep_fit.specs.declared.stamped.Stamped.{Stamped}
-use Rattle.bep_fit.specs.Fit.{AreOfOneRound, Fits, first_round}
+use Rattle.bep_fit.specs.Fit.{AreOfOneRound, first_round}
 use Rattle.bep_fit.specs.Logs.{HasLog, ObjectLog}
 use Rattle.bep_fit.specs.Replayed.{objects_of}
 use Rattle.bep_history.specs.Chair.{joined_with}
@@ -21,7 +19,7 @@ use Rattle.bep_peer.specs.network.Network.{Network, cluster_of}
 use Rattle.bep_run_check.specs.Log.{IsLogged}
 use Rattle.bep_run_cut.specs.RunCut.{AreTheSame, IsRunCut, RunState, device_log, link_log, logs_of}
 use Rattle.bep_run.specs.inner.Ending.{HaveLog, KnowsDevices, KnowsEach, KnowsLinks}
-use Rattle.bep_run.specs.inner.Kept.{DoFit, IsAbout, IsSeated, alone, objects_in}
+use Rattle.bep_run.specs.inner.Kept.{DoFit, IsAbout, IsSeated}
 use Rattle.bep_run.specs.Origin.{BeginsAs}
 use Rattle.bep_run.proofs.Begins.{same_cluster_of}
 

@@ -3,10 +3,10 @@ use Rattle.std.proofs.Common.{◌≡◌, ◌⊎◌, ◌↔◌, ℕ, Option, Some
 use Rattle.std.specs.Prelude.{IfErr, IsErrOf}
 use Rattle.atomic_table.specs.Seated.{TableId}
 use Rattle.bep_log.specs.declared.error.LogError.{LogError}
-use Rattle.bep_log.specs.declared.error.LogError.TheVariants.{TicketOld, Memory, Refused}
-use Rattle.bep_machine.specs.declared.refusal.Refusal.TheVariants.{NotShared, StoreFault}
+use Rattle.bep_log.specs.declared.error.LogError.TheVariants.{Memory, Refused}
+use Rattle.bep_machine.specs.declared.refusal.Refusal.TheVariants.{StoreFault}
 use Rattle.bep_store.specs.Sure.{NeverFails}
-use Rattle.bep_run.specs.Why.{IsOfCopies, IsOfPlaces, IsOfStores, IsOfTurns}
+use Rattle.bep_run.specs.Why.{IsOfCopies, IsOfStores, IsOfTurns}
 use Rattle.bep_run.specs.inner.Looking.{IsOfCopy}
 
 -- a device that wasn't taken

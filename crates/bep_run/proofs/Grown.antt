@@ -1,5 +1,5 @@
 -- A log grows by an event of the step that was made, or not at all; and the device, or the link, stays the same one.
-use Rattle.std.proofs.Common.{◌≡◌, ℕ, Bool, true, false, List, [], ◌∷◌, length, Option, Some, None, option_map, if◌then◌else◌, Result, Ok, Err, inl, inr, refl, sym, ap, subst, ◌∙◌}
+use Rattle.std.proofs.Common.{◌≡◌, ℕ, Bool, true, false, length, Option, Some, None, option_map, if◌then◌else◌, Result, Ok, Err, inl, inr, refl, sym, ap, subst, ◌∙◌}
 use Rattle.std.specs.Prelude.{IfSome}
 use Rattle.std.specs.List.{slice_get}
 use Rattle.atomic_table.specs.Seated.{TableId}
@@ -10,8 +10,7 @@ use Rattle.bep_history.specs.Chair.{MayTell}
 use Rattle.bep_history.specs.Parts.{is_about}
 use Rattle.bep_history.specs.View.{told, with_ticket}
 use Rattle.bep_history.specs.declared.view.View.{View}
-use Rattle.bep_model.specs.Tables.{Device, Folder, FileName}
-use Rattle.bep_cut.specs.Cut.{seen}
+use Rattle.bep_model.specs.Tables.{Folder, FileName}
 use Rattle.bep_machine.specs.declared.logged.Logged.{Logged}
 use Rattle.bep_machine.specs.declared.step.Step.{Step}
 use Rattle.bep_machine.specs.Halves.{OfDevice, OfLink, guards_of}
@@ -32,11 +31,10 @@ use Rattle.bep_log.specs.declared.error.LogError.{LogError}
 use Rattle.bep_log.specs.declared.error.LogError.TheVariants.{TicketOld, LogFull, Refused, Stale, Memory}
 use Rattle.bep_run.specs.Based.{began_as}
 use Rattle.bep_run.specs.inner.Kept.{IsKeptDevice, IsKeptLink, IsSeated}
-use Rattle.bep_run.specs.Origin.{at_place, devices_in, links_in}
-use Rattle.bep_run.specs.Quiet.{is_quiet, quiet_log}
+use Rattle.bep_run.specs.Origin.{devices_in, links_in}
+use Rattle.bep_run.specs.Quiet.{quiet_log}
 use Rattle.bep_run.proofs.Begins.{stands_as, still_stands}
 use Rattle.bep_run.proofs.Seating.{IsOf, grown_by, may_tell, of_device, of_link, seated_about, told_of}
-use Rattle.bep_run.proofs.StayQuiet.{quiet_in, quiet_link}
 use Rattle.bep_run.proofs.Tickets.{last_same, last_stays}
 
 -- ---- a device

@@ -1,5 +1,5 @@
 -- An action over a link leaves its event in both logs, or in neither; and both stay the same device and link.
-use Rattle.std.proofs.Common.{◌≡◌, ◌++◌, ℕ, Bool, true, List, [], ◌∷◌, length, Option, Some, None, option_map, Result, Ok, Err, inl, inr, refl, sym, ap, subst, ◌∙◌}
+use Rattle.std.proofs.Common.{◌≡◌, ◌++◌, ℕ, Bool, true, List, [], ◌∷◌, length, Option, Some, None, option_map, Result, Ok, Err, inl, inr, sym, ap, subst, ◌∙◌}
 use Rattle.std.specs.Prelude.{IfSome}
 use Rattle.std.specs.List.{slice_get}
 use Rattle.atomic_table.specs.Seated.{TableId}
@@ -14,7 +14,6 @@ use Rattle.bep_links.specs.Link.{LinkBetween}
 use Rattle.bep_machine.specs.declared.logged.Logged.{Logged}
 use Rattle.bep_machine.specs.declared.message.Message.{Message}
 use Rattle.bep_machine.specs.declared.moved.Moved.{Moved}
-use Rattle.bep_machine.specs.declared.step.Step.{Step}
 use Rattle.bep_machine.specs.Halves.{OfDeviceAndLink, guards_of, touches_device, touches_link}
 use Rattle.bep_model.specs.Tables.{Device}
 use Rattle.bep_peer.specs.declared.error.PeerError.{PeerError}

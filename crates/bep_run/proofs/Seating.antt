@@ -1,5 +1,5 @@
 -- What a seat knows of a log stays true, as the log grows by an event that the seat tells of.
-use Rattle.std.proofs.Common.{◌≡◌, ◌⊎◌, ◌++◌, ◌&&◌, ℕ, Bool, true, false, List, [], ◌∷◌, map, length, if◌then◌else◌, eqb, Option, Some, None, option_map, Contains, refl, sym, ap, subst, ◌∙◌, inl, inr, ⊎_elim, eq-eqb}
+use Rattle.std.proofs.Common.{◌≡◌, ◌⊎◌, ◌++◌, ◌&&◌, ℕ, Bool, true, false, List, [], ◌∷◌, length, if◌then◌else◌, eqb, Option, Some, None, option_map, Contains, refl, sym, ap, subst, ◌∙◌, inl, inr, ⊎_elim, eq-eqb}
 use Rattle.std.specs.Prelude.{IfSome, nat_lt}
 use Rattle.std.specs.List.{slice_get}
 use Rattle.std.proofs.lemmas.Bool.{eqb-true}
@@ -15,7 +15,7 @@ use Rattle.bep_history.specs.View.{AreOfTwo, HasRow, MayAdd, joined, row, row_wi
 use Rattle.bep_history.specs.declared.view.View.{View}
 use Rattle.bep_log.specs.History.{with_events}
 use Rattle.bep_machine.specs.declared.logged.Logged.{Logged}
-use Rattle.bep_machine.specs.Halves.{Guards, OfDevice, OfDeviceAndLink, OfLink, OfDeviceAndLinks, guards_of}
+use Rattle.bep_machine.specs.Halves.{OfDevice, OfDeviceAndLink, OfLink, guards_of}
 use Rattle.bep_run.specs.inner.Kept.{IsSeated, alone}
 
 abbrev stamped : ℕ → Logged → Stamped

@@ -1,5 +1,5 @@
 -- A cluster that is settled stays so, along one run without local steps and resets.
-use Rattle.std.proofs.Common.{◌≡◌, ◌++◌, ℕ, List, [], ◌∷◌, Contains, refl, sym, ap, subst, ◌∙◌}
+use Rattle.std.proofs.Common.{◌≡◌, ◌++◌, ℕ, List, [], ◌∷◌, Contains, refl, ap, subst, ◌∙◌}
 use Rattle.bep_facts.specs.Members.{Contains-first, Contains-from_image, Contains-more, not_in_none}
 use Rattle.bep_fit.specs.declared.stamped.Stamped.{Stamped}
 use Rattle.bep_fit.specs.Fit.{IsMerged}

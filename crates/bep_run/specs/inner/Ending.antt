@@ -1,5 +1,5 @@
 -- What a seat knows of copies with which a running cluster ends (this project's profile).
-use Rattle.std.specs.Prelude.{◌≡◌, ℕ, List, Option, Some, None, Contains}
+use Rattle.std.specs.Prelude.{◌≡◌, List, Option, Some, None, Contains}
 use Rattle.atomic_table.specs.Seated.{TableId}
 use Rattle.bep_history.specs.View.{row}
 use Rattle.bep_history.specs.declared.view.Row.{Row}

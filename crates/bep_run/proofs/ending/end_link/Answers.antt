@@ -1,5 +1,4 @@
-use Rattle.std.proofs.Common.{List, Contains, sym, subst}
-use Rattle.bep_history.specs.declared.view.View.{View}
+use Rattle.std.proofs.Common.{Contains, sym, subst}
 use Rattle.bep_run.proofs.Endings.{still_has}
 use Rattle.bep_run.proofs.ending.end_link.Goals as goal
 

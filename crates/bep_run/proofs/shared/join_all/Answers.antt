@@ -1,6 +1,5 @@
 use Rattle.std.proofs.Common.{rules, ◌≡◌, ◌∷◌, length, Some, sym, ap, subst, ◌∙◌}
 use Rattle.std.proofs.lemmas.List.{length_push, nil_from_length}
-use Rattle.bep_links.specs.Link.{LinkBetween}
 use Rattle.bep_run.specs.Origin.{at_place, links_in}
 use Rattle.bep_run.proofs.Places.{AreLeft, fewer_left, next_stands, none_left}
 use Rattle.bep_run.proofs.FirstSeat.{link_seated, links_left}

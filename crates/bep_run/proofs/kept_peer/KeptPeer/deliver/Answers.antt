@@ -4,7 +4,7 @@ use Rattle.bep_fit.specs.declared.object.Object.TheVariants.{Device, Link}
 use Rattle.bep_history.specs.declared.view.View.{View}
 use Rattle.bep_log.specs.LoggedLink.{LoggedBetween}
 use Rattle.bep_log.specs.LoggedPeer.{LoggedMember}
-use Rattle.bep_log.specs.Over.{announces, asks, begins, delivers}
+use Rattle.bep_log.specs.Over.{delivers}
 use Rattle.bep_run.specs.inner.Kept.{IsKeptLink}
 use Rattle.bep_run.specs.inner.Tickets.{IsNew}
 use Rattle.bep_run.proofs.GrownBoth.{both_grow, both_may_tell, device_kept_over, link_kept_over}

@@ -1,4 +1,4 @@
-use Rattle.std.proofs.Common.{refl, subst, None, Some}
+use Rattle.std.proofs.Common.{refl, subst, Some}
 use Rattle.std.specs.Option.{option_copied}
 use Rattle.bep_fit.specs.declared.object.Object.TheVariants.{Device}
 use Rattle.bep_log.specs.Acts.{LogsIn, MakesIn}
