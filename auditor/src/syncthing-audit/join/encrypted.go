@@ -52,6 +52,9 @@ func (p *Plan) takeOutEncrypted(folder *Folder) map[string]bool {
 
 const sharedEncrypted = "the folder is shared encrypted with it by "
 
+// eitherIsRight says that of two devices that are at odds either may be the one that is wrong: where most say the same, too.
+const eitherIsRight = ": which of the two is right isn't known"
+
 // atOddsOnEncryption gives the members of which one says that it shares the folder encrypted with another that says of itself that it isn't encrypted
 // there: one device's word alone takes out no other.
 func (p *Plan) atOddsOnEncryption(folder *Folder) []odds {
@@ -59,8 +62,8 @@ func (p *Plan) atOddsOnEncryption(folder *Folder) []odds {
 	for _, member := range folder.Members {
 		for _, other := range member.About.Sharing {
 			if at := folder.Member(other.Device); other.Encrypted && at >= 0 && !folder.Members[at].About.IsOpened {
-				found = append(found, odds{other.Device, member.Head.Device, sharedEncrypted + member.Label() + p.unopened(folder.ID, other.Device),
-					"it says that it shares the folder encrypted with " + folder.Members[at].Label() + ", on which it isn't encrypted"})
+				found = append(found, odds{other.Device, member.Head.Device, sharedEncrypted + member.Label() + ", by that one's word, and isn't encrypted there by its own" + eitherIsRight,
+					"it says that it shares the folder encrypted with " + folder.Members[at].Label() + ", and by that one's word it isn't encrypted there" + eitherIsRight})
 			}
 		}
 	}

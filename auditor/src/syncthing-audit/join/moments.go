@@ -59,8 +59,9 @@ func (m *Member) clip(place int, most int64) {
 // whyEarlier says why a part can't be of the moment of another one.
 func whyEarlier(head *part.Head) string {
 	if head.IsOverWire() {
-		return "its index went back: %s knows of its change %d, and over the wire it says later that its last one is %d, as after an older home was put in its " +
-			"place there. Syncthing doesn't tell such changes again by itself: stop it there, and start it once by 'syncthing serve --reset-deltas'"
+		return "%s says that it knows of its change %d, and over the wire it says later itself that its last one is %d. Either that isn't so, or its index went back, as " +
+			"after an older home was put in its place there. Then Syncthing doesn't tell such changes again by itself: stop it there, and start it once by " +
+			"'syncthing serve --reset-deltas'"
 	}
 	if head.Look != nil {
 		return "%s knew of its change %d at its first look, and at this one's second look, which came later, its last one is %d: " +

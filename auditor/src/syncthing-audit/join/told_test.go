@@ -56,9 +56,9 @@ func TestEachRefusalOfAPlanIsToldWhole(t *testing.T) {
 			[]Refusal{of(part.Encrypted, one, "own 0", "the folder is encrypted there: 'observe' with --passwords reads it")}, nil},
 		{"one device says that it is encrypted on two others, which don't", map[byte]string{1: "23", 2: "13", 3: "12"}, func(devices []*Device) {
 			first(devices).Sharing[0].Encrypted, first(devices).Sharing[1].Encrypted = true, true
-		}, []Refusal{of(part.Encrypted, one, "own 0", "it says that it shares the folder encrypted with device own 1 (AAAAAAA), on which it isn't encrypted")}, nil},
+		}, []Refusal{of(part.Encrypted, one, "own 0", "it says that it shares the folder encrypted with device own 1 (AAAAAAA), and by that one's word it isn't encrypted there: which of the two is right isn't known")}, nil},
 		{"it is shared encrypted", map[byte]string{1: "2", 2: "1"}, func(devices []*Device) { first(devices).Sharing[0].Encrypted = true },
-			[]Refusal{of(part.Encrypted, two, "own 1", "the folder is shared encrypted with it by device own 0 (AAAAAAA): 'observe' with --passwords reads it")}, nil},
+			[]Refusal{of(part.Encrypted, two, "own 1", "the folder is shared encrypted with it by device own 0 (AAAAAAA), by that one's word, and isn't encrypted there by its own: which of the two is right isn't known")}, nil},
 		{"an earlier moment", map[byte]string{1: "2", 2: "1"}, func(devices []*Device) {
 			first(devices).Views = []part.View{{Device: deviceID(9), IndexID: 2, Max: 99}, {Device: two, IndexID: 7, Max: 99}, {Device: two, IndexID: 2, Max: 6}}
 		}, nil, []Refusal{of(part.Moment, two, "own 1", "it is of an earlier moment than 1, which knows of its change 6, and here its last one is 5. To compare all "+

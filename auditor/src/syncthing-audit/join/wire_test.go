@@ -165,7 +165,7 @@ func TestFilesThatWereNotReadThisTime(t *testing.T) {
 // A device that says over the wire that its last change is before one that another device knows of went back.
 func TestWentBackOverTheWire(t *testing.T) {
 	plan, err := NewPlan([]*Device{partOf(0, true, false, 5, 9), partOf(1, true, false, 7, 5)}, nil)
-	if err != nil || len(plan.Refusals) != 1 || !strings.Contains(plan.Refusals[0].Why, "its index went back") || plan.Refusals[0].Device != ids[1] {
+	if err != nil || len(plan.Refusals) != 1 || !strings.Contains(plan.Refusals[0].Why, " says that it knows of its change 9, and over the wire it says later itself that its last one is 7. Either that isn't so, or its index went back") || plan.Refusals[0].Device != ids[1] {
 		t.Errorf("%v, %+v", err, plan.Refusals)
 	}
 }
