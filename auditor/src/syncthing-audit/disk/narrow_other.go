@@ -2,5 +2,7 @@
 
 package disk
 
+import "syncthing-audit/directory"
+
 // isTimeCut says that no time is: these systems have times of 64 bits, also for programs of 32 bits.
-func isTimeCut(string) bool { return false }
+func isTimeCut(directory.Directory, string) bool { return false }

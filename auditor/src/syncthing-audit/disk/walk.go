@@ -140,7 +140,7 @@ func (w *Walker) found(name string, info directory.Info) Found {
 		node.Type, node.Target = bep.Symlink, target
 	case info.IsDir():
 		node.Type = bep.Directory
-	case info.IsRegular() && isTimeCut(w.PathOf(name)):
+	case info.IsRegular() && isTimeCut(w.Disk, name):
 		return out(part.Unreadable, "a 32-bit program can't read its time, which isn't between December 1901 and January 2038")
 	case info.IsRegular():
 		node.Type, node.Size = bep.File, info.Size()
