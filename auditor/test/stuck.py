@@ -9,7 +9,7 @@ import json
 import shutil
 
 from behind import NEW, OLD, Behind
-from exporting import main
+from exporting import Exporting, main
 from rot import text_of
 from syncthing import wait_until, wait_until_in_step
 
@@ -196,6 +196,42 @@ class ADirectoryInPlaceOfADeletedFile(Behind):
 
     def failed(self):
         return self.one.api("GET", "folder/errors?folder=docs")["errors"] or []
+
+
+class HoldsWhatIsIgnored(Exporting):
+    """One device deletes directories in which the other one has what its .stignore keeps out: with (?d), so that it goes with the directory, and without."""
+
+    @classmethod
+    def synchronise(cls):
+        for name in ("goes", "stays"):
+            (cls.one.files / name).mkdir()
+            (cls.one.files / name / "in").write_text(OLD)
+        cls.scan_and_wait()
+
+    @classmethod
+    def setUpClass(cls):
+        super().setUpClass()
+        (cls.two.files / ".stignore").write_text("(?d)*.cache\n*.keep\n")
+        (cls.two.files / "goes/a.cache").write_text("")
+        (cls.two.files / "stays/a.keep").write_text("to stay")
+        for name in ("goes", "stays"):
+            shutil.rmtree(cls.one.files / name)
+        cls.one.start()
+        cls.one.scan()
+        cls.one.stop()
+
+    def test_what_is_told_comes_so(self):
+        fates = self.foretold()
+        self.assertEqual([kept["why"] for kept in fates["stays"]["kept"]], ["has-ignored"])
+        self.start()
+        wait_until("the one is deleted, and the other one fails", lambda: not (self.two.files / "goes").exists() and self.fails("stays"))
+        self.stop()
+        self.assertEqual([path.name for path in (self.two.files / "stays").iterdir()], ["a.keep"])
+        self.assert_came(fates, "goes", "goes/in", "stays", "stays/in")
+
+    def fails(self, name):
+        """Whether the second device tells that it fails to take a name."""
+        return name in [one["path"] for one in self.two.api("GET", "folder/errors?folder=docs")["errors"] or []]
 
 
 if __name__ == "__main__":

@@ -75,6 +75,9 @@ func (p *pull) removeDirectory(n int) Why {
 		return BelowNoDirectory
 	}
 	why := NoReason
+	if p.names[n].holds.Has(p.i) {
+		why = HasIgnored
+	}
 	for below := range p.names {
 		if !p.isBelow(below, n) || !p.at(p.i, below).isThere() {
 			continue

@@ -66,7 +66,7 @@ func (l *loader) nameAll(names []Name) {
 		places[names[place].Name] = place
 	}
 	for place := range names {
-		added := name{parent: -1, root: place, isCopy: isConflictCopy(names[place].Name)}
+		added := name{parent: -1, root: place, isCopy: isConflictCopy(names[place].Name), holds: names[place].Holds}
 		for above := path.Dir(names[place].Name); above != "."; above = path.Dir(above) {
 			if found, is := places[above]; is {
 				added.parent = found

@@ -29,6 +29,7 @@ type name struct {
 	root   int // of a copy that the model made: what it is a copy of; else the name itself
 	node   int32
 	device int
+	holds  Places
 }
 
 type copyKey struct {
@@ -132,7 +133,7 @@ func (m *machine) copyOf(root int, what int32, device int) int {
 	place, is := m.copies[key]
 	if !is {
 		place = len(m.names)
-		m.names, m.copies[key] = append(m.names, name{m.names[root].parent, true, root, what, device}), place
+		m.names, m.copies[key] = append(m.names, name{parent: m.names[root].parent, isCopy: true, root: root, node: what, device: device}), place
 	}
 	return place
 }

@@ -9,6 +9,7 @@ const (
 	NoSource         Why = "no-source"          // no device has the bytes that are recorded
 	NotScanned       Why = "not-scanned"        // something else stands there than is recorded
 	HasUnscanned     Why = "has-unscanned"      // a directory has something that isn't recorded
+	HasIgnored       Why = "has-ignored"        // a directory has something that .stignore keeps out
 	HasLocalChanges  Why = "has-local-changes"  // a directory has local changes
 	NotEmpty         Why = "not-empty"          // a directory isn't empty
 	BelowNoDirectory Why = "below-no-directory" // what is above isn't a directory
@@ -22,7 +23,7 @@ const (
 )
 
 // AllWhys are all of them.
-var AllWhys = []Why{NoReason, OnlySends, NoSource, NotScanned, HasUnscanned, HasLocalChanges, NotEmpty, BelowNoDirectory, IsDirectory, NotThere, KeepsLocalChange,
+var AllWhys = []Why{NoReason, OnlySends, NoSource, NotScanned, HasUnscanned, HasIgnored, HasLocalChanges, NotEmpty, BelowNoDirectory, IsDirectory, NotThere, KeepsLocalChange,
 	NotSeen, IgnoresDeletions}
 
 // pull is one pull of one device. It works on the state, and reads what the device knew when the pull began: its index is written at the

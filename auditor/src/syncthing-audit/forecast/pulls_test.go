@@ -155,3 +155,33 @@ func TestAnEndTellsWhatIsNeeded(t *testing.T) {
 		t.Errorf("%v are needed: %+v", needed, end.stuck)
 	}
 }
+
+// A directory stays where it holds what .stignore keeps out, and goes elsewhere.
+func TestADirectoryThatHoldsWhatIsIgnored(t *testing.T) {
+	name := inStep("d", "", 3, 5)
+	for i := range name.Own {
+		entry := &Record{Type: Directory, Version: []Counter{{10, 5}}, Mode: 0o755}
+		name.Own[i], name.Disk[i] = entry, &Node{Type: Directory, Mode: 0o755}
+		for j := range name.Views[i] {
+			if j != i {
+				name.Views[i][j] = entry
+			}
+		}
+	}
+	name.Disk[0] = nil
+	for holds, due := range map[Places][]Stuck{0: nil, 1 << 1: {{1, "d", HasIgnored}}, 1<<1 | 1<<2: {{1, "d", HasIgnored}, {2, "d", HasIgnored}}} {
+		name.Holds = holds
+		answer := New(Budget{States: 1000, Walks: 5, Total: 1000}).OfGroup(three(), []Name{name})
+		if len(answer.Ends) != 1 || !answer.IsAll || !reflect.DeepEqual(answer.Ends[0].Stuck, due) {
+			t.Fatalf("%b: %+v", holds, answer)
+		}
+		if settled := Settle(World{three(), []Name{name}}, []int{0, 1}, 1000); settled.Names[0].Holds != holds {
+			t.Errorf("%b: then %+v", holds, settled.Names[0])
+		}
+		for i, disk := range answer.Ends[0].Disks {
+			if stays := holds.Has(i); stays != (len(disk) == 1) {
+				t.Errorf("%b: device %d has %+v", holds, i, disk)
+			}
+		}
+	}
+}

@@ -65,7 +65,7 @@ func (l *loader) shape(s *state) string {
 		put(int64(device.MaxConflicts), device.TimeWindow, int64(device.Apart))
 	}
 	for _, name := range l.names {
-		put(int64(name.parent), truth(name.isCopy), int64(name.root))
+		put(int64(name.parent), truth(name.isCopy), int64(name.root), int64(name.holds))
 	}
 	put(l.sizes...)
 	for _, vector := range l.vectors {

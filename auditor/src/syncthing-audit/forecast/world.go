@@ -7,7 +7,7 @@
 //
 // The package predicts, and says nothing in words. It reads nothing, and changes nothing.
 //
-// What the model leaves out: .stignore, encrypted folders, blocks (a file has its bytes as a whole or not at all), owners and extended
+// What the model leaves out: .stignore, but for directories that hold what it keeps out, encrypted folders, blocks (a file has its bytes as a whole or not at all), owners and extended
 // attributes, what is behind a symlink, errors of a disk, and clocks that run wrong.
 package forecast
 
@@ -92,6 +92,7 @@ type Name struct {
 	Own   []*Record
 	Views [][]*Record // Views[i][j] is what device i knows of device j
 	Disk  []*Node
+	Holds Places `json:",omitempty"` // devices on whose disks the directory has something that .stignore keeps out, and that doesn't go with it
 }
 
 // Record is an entry of an index.

@@ -4,8 +4,10 @@ import (
 	"os"
 	"path/filepath"
 	"reflect"
+	"strings"
 	"testing"
 
+	"github.com/syncthing/syncthing/lib/ignore"
 	"syncthing-audit/choice"
 	"syncthing-audit/device"
 	"syncthing-audit/disk"
@@ -37,6 +39,9 @@ func TestIgnoredNamesAreHidden(t *testing.T) {
 		if line.Name != nil {
 			names[line.Name.Name] = line.Name
 		}
+		if line.End != nil && line.End.Holding != nil {
+			t.Errorf("the folder's own directory is told: %+v", line.End.Holding)
+		}
 		return nil
 	})
 	hidden := names[part.HiddenName("docs", "a.log").Bytes()]
@@ -48,5 +53,44 @@ func TestIgnoredNamesAreHidden(t *testing.T) {
 	}
 	if known := names["known.log"]; known == nil || !known.IsIgnored() || known.Own == nil {
 		t.Errorf("%+v", known)
+	}
+}
+
+// patterned is a folder with patterns.
+type patterned struct {
+	directory
+	text string
+}
+
+func (p patterned) Patterns() (*ignore.Matcher, error) {
+	patterns := ignore.New(p.Disk())
+	return patterns, patterns.Parse(strings.NewReader(p.text), ".stignore")
+}
+
+// A part says which directories hold what .stignore keeps out and Syncthing doesn't delete with them, but for directories that are ignored themselves.
+func TestDirectoriesThatHoldWhatIsIgnored(t *testing.T) {
+	room := t.TempDir()
+	for _, name := range []string{"keeps/a.log", "keeps/sub/b.log", "drops/a.cache", "both/a.cache", "both/b.log", "free/a", "ignored/in/deep", "ignored/kept", "whole/ignored/a"} {
+		if err := os.MkdirAll(filepath.Join(room, filepath.Dir(name)), 0o700); err != nil {
+			t.Fatal(err)
+		}
+		if err := os.WriteFile(filepath.Join(room, name), nil, 0o600); err != nil {
+			t.Fatal(err)
+		}
+	}
+	pool := disk.NewPool(1)
+	defer pool.Close()
+	read := &Device{Folders: []Folder{patterned{directory{room}, "(?d)*.cache\n!/ignored/kept\n*.log\n/ignored\n/whole/ignored\n"}}, Pool: pool}
+	var holding *part.Holding
+	if err := read.Run(read.Head(), func(line part.Line) error {
+		if line.End != nil {
+			holding = line.End.Holding
+		}
+		return nil
+	}); err != nil {
+		t.Fatal(err)
+	}
+	if due := (&part.Holding{Names: []part.Bytes{"both", "keeps", "keeps/sub", "whole"}}); !reflect.DeepEqual(holding, due) {
+		t.Errorf("%+v", holding)
 	}
 }

@@ -28,6 +28,7 @@ type merge struct {
 	to       *disk.Queue
 	folder   string
 	hidden   []hidden
+	holding  map[string]bool // directories in which something is ignored that Syncthing doesn't delete with them
 	toIgnore stignore.ToIgnore
 }
 
@@ -36,7 +37,7 @@ var errStopped = errors.New("stopped")
 
 // newMerge begins to read a folder.
 func newMerge(of *Device, folder Folder, about *part.Folder, patterns *ignore.Matcher, to *disk.Queue) *merge {
-	m := &merge{device: of, patterns: patterns, to: to, walker: of.walker(folder), hashed: disk.File{Disk: adapt.Directory(folder.Disk())}, folder: about.ID}
+	m := &merge{holding: map[string]bool{}, device: of, patterns: patterns, to: to, walker: of.walker(folder), hashed: disk.File{Disk: adapt.Directory(folder.Disk())}, folder: about.ID}
 	m.own = pull(func(take func(device.Entry) bool) error { return folder.Own(of.Names, take) })
 	for _, view := range about.Views {
 		view := view
@@ -81,7 +82,7 @@ func (m *merge) run() error {
 
 // tellEnd writes what was counted on the way. Where some names alone were read, it isn't known where a link leads, and what is below a directory.
 func (m *merge) tellEnd(end *part.End) {
-	end.Temporary = &m.walker.Temporary
+	end.Temporary, end.Holding = &m.walker.Temporary, part.HoldingOf(m.holding)
 	if m.device.Names.IsAll() {
 		m.toIgnore.End()
 		linked := m.walker.Linked()

@@ -143,6 +143,7 @@ var wordsOfKept = map[forecast.Why]string{
 	forecast.NoSource:         "it finds no device with the recorded bytes",
 	forecast.NotScanned:       "something else stands there than is recorded",
 	forecast.HasUnscanned:     "the directory has something that isn't recorded",
+	forecast.HasIgnored:       "the directory has something that .stignore ignores there without (?d)",
 	forecast.HasLocalChanges:  "the directory has local changes",
 	forecast.NotEmpty:         "the directory isn't empty",
 	forecast.BelowNoDirectory: "what stands above is no directory",

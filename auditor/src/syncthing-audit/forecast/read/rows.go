@@ -208,12 +208,38 @@ func (r *Rows) World() forecast.World {
 		return forecast.World{Devices: r.world.Devices}
 	}
 	r.finish()
+	r.addHolding()
 	for _, name := range r.world.Names {
 		if _, is := r.Unknown[name.Name]; !is && r.mayDropCopies(name.Name) {
 			r.Unknown[name.Name] = Copies
 		}
 	}
 	return r.world
+}
+
+// addHolding adds on which disks directories hold what .stignore keeps out. Where a part doesn't list all of these, it isn't known of any directory there.
+func (r *Rows) addHolding() {
+	places := make(map[string]int, len(r.world.Names))
+	for place := range r.world.Names {
+		places[r.world.Names[place].Name] = place
+	}
+	for member := range r.members {
+		holding := r.members[member].Holding
+		if holding == nil {
+			continue
+		}
+		for _, name := range holding.Names {
+			if place, is := places[string(name)]; is {
+				r.world.Names[place].Holds |= 1 << member
+			}
+		}
+		for place := range r.world.Names {
+			name := &r.world.Names[place]
+			if what := name.Disk[member]; holding.More > 0 && what != nil && what.Type == forecast.Directory && r.risky[name.Name] {
+				r.Unknown[name.Name] = LeftOut
+			}
+		}
+	}
 }
 
 // mayDropCopies says whether a name may come to have more conflict copies than a device keeps.
