@@ -241,6 +241,21 @@ def save_on(operator, names, found):
             operator.save(operator.by_label[label], name)
 
 
+def put_from_elsewhere(operator, names, found):
+    """Puts on these devices what another name has that is to be deleted."""
+    source = operator.by_label[found[2]]
+    operator.save(source, unquoted(found[1]))
+    saved = operator.saved / f"{operator.count}-{source.name}" / unquoted(found[1])
+    was_running = any(one.process for one in operator.devices)
+    operator.stop()
+    for label in found[3].split(", "):
+        to = operator.by_label[label].files / names[0]
+        to.parent.mkdir(parents=True, exist_ok=True)
+        subprocess.run(["cp", "--preserve=timestamps", saved, to], check=True)
+    if was_running:
+        operator.run(operator.devices, "run again")
+
+
 def save_all_and_put(operator, names, _):
     """Copies elsewhere what is to stay, and puts what one device has on all."""
     save_all(operator, names, None)
@@ -285,6 +300,8 @@ def same_mode(operator, names, found):
 NEEDED = r"(?:[\w]{7}(?:, [\w]{7})*)"
 ADVICE = [
     (r"look among old versions and backups: no audited device has what is recorded", nothing),
+    (r"before Syncthing starts on any of these devices, copy (\S+) of (\w{7}) elsewhere: it has what is recorded here, and is to be deleted\. "
+     r"Then copy that to (" + NEEDED + r") under this name", put_from_elsewhere),
     (r"the steps for (?:it|them) above, behind 'to do in'", nothing),
     (r"choose for the whole folder what stands above", nothing),
     (r"leave (?:it|them) so, or choose something for the whole folder, as another audit says", nothing),

@@ -28,6 +28,7 @@ type File struct {
 	RenamedFrom     Text       `json:"renamed_from,omitempty"` // the name that goes where this one comes with the same bytes
 	RenamedTo       Text       `json:"renamed_to,omitempty"`   // and the other way round
 	hasDetails      bool
+	elsewhere       *elsewhere
 	foretold        foretold
 	isOfSum         bool   // whether 'sum' tells it
 	isOfAnotherTime bool   // whether those that have what is due have it with another time

@@ -80,6 +80,7 @@ type folding struct {
 	modes int64                        // names of which the permissions alone differ
 	alike lists.Grouped[string, Group] // names of which the very same is told
 	kinds int                          // how many of these may be told as one
+	going going                        // bytes that stand under a name which goes
 	name  string                       // of the folder, for a person
 }
 
@@ -92,6 +93,7 @@ func (f *folding) take(file *File) {
 	}
 	file.sortDevices(f.named)
 	file.Same = sameOtherBytes(file.Faults)
+	f.going.add(file)
 	f.to.note(file, f.name)
 	isAlike, key := file.canBeTold(), f.keyOf(file)
 	if !file.hasDetails && (!isAlike || !f.alike.Has(key) && f.kinds >= mostKinds) {
@@ -129,6 +131,7 @@ func (f *folding) end() ([]*File, []*Group) {
 	}
 	sort.Slice(files, func(a, b int) bool { return files[a].Name < files[b].Name })
 	for _, file := range files {
+		file.elsewhere = f.going.of(file)
 		file.Foretold, file.Advice = file.tell(f.named), adviceOf(file, f.named)
 	}
 	link(files)

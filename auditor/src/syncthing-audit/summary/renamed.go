@@ -3,7 +3,9 @@ package summary
 import (
 	"fmt"
 
+	"golang.org/x/exp/slices"
 	"syncthing-audit/part"
+	"syncthing-audit/print"
 	"syncthing-audit/shell"
 )
 
@@ -65,6 +67,50 @@ func link(files []*File) {
 			}
 		}
 	}
+}
+
+// elsewhere is another name under which the bytes of a name stand, and which is to be deleted there.
+type elsewhere struct {
+	name   Text
+	device string
+}
+
+// going has bytes that stand on some disk under a name that goes there.
+type going map[part.Content]*elsewhere
+
+// add adds those of a name.
+func (g going) add(file *File) {
+	for _, fault := range file.Faults {
+		for _, content := range fault.goes() {
+			if content.Size > 0 && g[content] == nil && slices.Contains(fault.onDisk(), content) {
+				g[content] = &elsewhere{file.Name, fault.Device}
+			}
+		}
+	}
+}
+
+// of gives where the bytes of a name stand that no audited device has as recorded: what it was renamed from, say.
+func (g going) of(file *File) *elsewhere {
+	if file.isWithoutCopy() {
+		for _, fault := range file.Faults {
+			if file.isHarmOfDue(fault) && fault.due != nil && fault.due.Content != nil {
+				return g[*fault.due.Content]
+			}
+		}
+	}
+	return nil
+}
+
+// advice says to save that, since a pull may take it away, and where it is to go.
+func (e *elsewhere) advice(of *File, named print.Names) string {
+	on := []string{}
+	for _, fault := range of.Faults {
+		if of.isHarmOfDue(fault) {
+			on = print.AddOnce(on, fault.Device)
+		}
+	}
+	return "before Syncthing starts on any of these devices, copy " + shell.Path(string(e.name)) + " of " + named(e.device) + " elsewhere: it has what is recorded here, and is to be deleted. " +
+		"Then copy that to " + named.All(on) + " under this name, with its time (cp --preserve=timestamps), while Syncthing is stopped there"
 }
 
 // renamed prints from what or to what a name was renamed, as it seems.
