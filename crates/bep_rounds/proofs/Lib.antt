@@ -3,3 +3,8 @@ mod Made
 mod Seen
 mod Rounds
 mod Whole
+mod Owned
+mod Tops
+mod Walks
+mod Searched
+mod AllRounds

@@ -1,5 +1,5 @@
 -- What a round is: a quiet run that brings what prevails of a name to a device (this project's profile).
-use Rattle.std.specs.Prelude.{◌≤◌, ◌∷◌, ℕ, ⊤, List, IsSome, Result, Ok, Err}
+use Rattle.std.specs.Prelude.{◌≡◌, ◌≤◌, ◌∷◌, ℕ, ⊤, List, Option, Some, None, IsSome, Result, Ok, Err}
 use Rattle.bep_record.specs.declared.entry.Entry.{Entry}
 use Rattle.bep_model.specs.Tables.{Device}
 use Rattle.bep_machine.specs.Cluster.{Cluster}
@@ -9,6 +9,8 @@ use Rattle.bep_machine.specs.Steps.{Event, IsRun, AreQuiet, HasNoReset}
 use Rattle.bep_peer.specs.Member.{Member}
 use Rattle.bep_peer.specs.network.Network.{failed_at}
 use Rattle.bep_converge.specs.Prevails.{IsAtTop}
+use Rattle.bep_converge.specs.Rises.{GoesOnPrevailing}
+use Rattle.bep_converge.specs.Ended.{IsEnded}
 use Rattle.bep_converge.specs.Arrival.{Behind, HasAllBehind, IsKept}
 use Rattle.bep_converge.specs.Bring.{bring, most_batches, most_blocks}
 use Rattle.bep_rounds.specs.declared.error.RoundError.{RoundError}
@@ -60,3 +62,18 @@ pub record IsBrought (turns : ℕ) (old new : Cluster) (wanted : Wanted) (top : 
   pub at_top : IsAtTop ((tables_of_cluster new).own wanted.device wanted.folder wanted.name) top
   pub kept : IsKept turns old new wanted.device wanted.folder wanted.name
   pub fewer : (more : List Behind) → HasAllBehind (tables_of_cluster old) (behind_of wanted top ∷ more) → HasAllBehind (tables_of_cluster new) more
+
+-- ---- what all rounds make
+
+-- nothing is left to be brought, and this is so, unless something outside kept it from that
+abbrev pub IfAllMade : List Member → Result (Option Wanted) RoundError → Type 0 → Type 0
+IfAllMade members (Ok None) so = so
+IfAllMade members (Ok (Some left)) so = ⊥
+IfAllMade members (Err error) so = IsOutside members error
+
+-- All devices are at the top of every name. What prevailed does still, no name has come, and each device has the very record and
+-- file that it had, or its name rose. Who shares what, and which links there are, is as before.
+pub record IsAllBrought (old new : Cluster) : Type 0 where
+  pub ended : IsEnded (tables_of_cluster new)
+  pub goes : GoesOnPrevailing (tables_of_cluster old) (tables_of_cluster new)
+  pub config : new.config ≡ old.config

@@ -3,6 +3,7 @@ ghost use Rattle.std.specs.Prelude.{◌≡◌, ◌↔◌, IsTrue, Some, length, 
 ghost use Rattle.std.specs.FinMap as map;
 ghost use Rattle.std.specs.Option.{option_copied};
 ghost use Rattle.bep_machine.specs.Replica.{Replica as ReplicaOf, own_at, pull_at, view_of};
+ghost use Rattle.bep_machine.specs.Said.{tables_of_cluster};
 ghost use Rattle.bep_peer.specs.network.Network.{cluster_of};
 ghost use Rattle.bep_machine.specs.Pull.{IsFile};
 ghost use Rattle.bep_converge.specs.Watched.{HasHeardUpTo, IsUnfinished, LacksBlocks};
@@ -25,6 +26,22 @@ fn replica_at<'a, S: Store>(
 {
     tables_are_found();
     cluster.peer(device)?.replica(folder)
+}
+
+// The device's own record of the name, if the device shares the folder and has one.
+pub(crate) fn own_record<'a, S: Store>(
+    cluster: &'a Cluster<S>,
+    device: DeviceId,
+    folder: &FolderName,
+    name: &Name,
+) -> Option<&'a Record>
+    ensures { option_copied result ≡ (tables_of_cluster (cluster_of cluster.now)).own device folder.now name.now }
+{
+    cluster.cluster_is_sound();
+    match replica_at(cluster, device, folder) {
+        None => None,
+        Some(replica) => replica.index().get(name),
+    }
 }
 
 // The sequence number of the owner's own record of the name, and how many blocks it has.
