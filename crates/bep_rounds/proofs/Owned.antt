@@ -7,7 +7,6 @@ use Rattle.std.specs.Ordering.{nat_cmp}
 use Rattle.bep_facts.specs.Members.{not_in_none, Contains-cons_cases}
 use Rattle.bep_record.specs.declared.folder_kind.FolderKind.{FolderKind}
 use Rattle.bep_model.specs.Tables.{Device, Folder, FileName}
-use Rattle.bep_machine.specs.Cluster.{Cluster}
 use Rattle.bep_machine.specs.Replica.{Replica, own_at}
 use Rattle.bep_machine.specs.Said.{is_among, looked_up, tables_of_cluster}
 use Rattle.bep_machine.specs.Sound.{IsSound, FitsFolder}

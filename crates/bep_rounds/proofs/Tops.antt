@@ -5,7 +5,7 @@ use Rattle.std.proofs.lemmas.Option.{same_Some}
 use Rattle.bep_record.specs.declared.entry.Entry.{Entry}
 use Rattle.bep_record.specs.Content.{Deleted, content_of, content_of_kind}
 use Rattle.bep_record.specs.Vector.{IsAtMost}
-use Rattle.bep_model.specs.Tables.{Tables, Device, Folder, FileName, Shares}
+use Rattle.bep_model.specs.Tables.{Tables, Device, Folder, FileName}
 use Rattle.bep_model.specs.Firm.{AreEqual}
 use Rattle.bep_model.proofs.StaysFacts.{not_deleted}
 use Rattle.bep_machine.specs.Cluster.{Cluster}

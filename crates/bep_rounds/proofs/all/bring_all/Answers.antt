@@ -1,9 +1,9 @@
-use Rattle.std.proofs.Common.{◌≡◌, ◌+◌, ◌-◌, length, Option, None, Some, Err, Ok, rules, subst, arith}
+use Rattle.std.proofs.Common.{◌≡◌, ◌+◌, ◌-◌, length, Option, Err, rules, subst, arith}
 use Rattle.bep_machine.specs.Said.{tables_of_cluster}
 use Rattle.bep_peer.specs.network.Network.{cluster_of}
 use Rattle.bep_converge.specs.Ended.{IsEnded}
 use Rattle.bep_converge.specs.Prevails.{AllPrevail}
-use Rattle.bep_rounds.specs.Finding.{IsFound, IsWanted}
+use Rattle.bep_rounds.specs.Finding.{IsFound}
 use Rattle.bep_rounds.specs.Rounds.{IsAllBrought}
 use Rattle.bep_rounds.specs.declared.wanted.Wanted.{Wanted}
 use Rattle.bep_rounds.proofs.AllRounds.{at_error, brings_next, first_brings, last_found, next_round, none_is_left}

@@ -1,4 +1,4 @@
-use Rattle.std.proofs.Common.{◌≡◌, Contains, List, false, rules, sym, subst, arith}
+use Rattle.std.proofs.Common.{◌≡◌, Contains, List, false, rules, subst, arith}
 use Rattle.bep_model.specs.Tables.{Folder, FileName}
 use Rattle.bep_machine.specs.Said.{tables_of_cluster}
 use Rattle.bep_peer.specs.Member.{Member}
