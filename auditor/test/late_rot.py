@@ -71,7 +71,7 @@ class RotThatIsFetched(LateRot):
         taken = self.foretold()
         self.assertEqual([taken[name]["fate"] for name in (KEPT, LOST)], ["right", "lost"], "the first device has the last good copy")
         entry, _ = self.entry(LOST)
-        self.assertIn(f"{self.label(self.one)}: behind: hasn't taken what is newest: other bytes under the time of its own, as of rot that a scan took", entry)
+        self.assertIn(f"{self.label(self.one)}: behind: hasn't taken what is newest: other bytes under the time of its own: rot that a scan took, or an edit that kept the time", entry)
         size = len("rotten " + LOST)
         self.assertIn(f"\nunder one time: {FOLDER} {LOST} on {self.number(self.one)}: {size} bytes recorded, {size} due\n",
                       self.check().stdout)

@@ -30,7 +30,7 @@ type Disk struct {
 	Recorded, Found int64 // sizes
 }
 
-// UnderOneTime is a name of which other bytes are due at a device, under the very time of what it recorded. Rot that a scan took looks so.
+// UnderOneTime is a name of which other bytes are due at a device, under the very time of what it recorded. Rot that a scan took looks so, and an edit that kept the time.
 type UnderOneTime struct {
 	Folder, Name  string
 	Device        uint64

@@ -67,7 +67,7 @@ type Fault struct {
 	Damage   damage.Kind `json:"damage,omitempty"` // why what stands on the disk looks like damage, and not like an edit
 	Blocks   *Blocks     `json:"blocks,omitempty"`
 	Reasons  []string    `json:"reasons"` // in syncaudit's words
-	// Of Behind: what is due has other bytes, under the very time of what the device recorded. Rot that a scan took looks so.
+	// Of Behind: what is due has other bytes, under the very time of what the device recorded. Rot that a scan took looks so, and an edit that kept the time.
 	IsOfOneTime bool   `json:"under_one_time,omitempty"`
 	Why         string `json:"why,omitempty"` // of Damaged: the system's words; of OtherBytes and Differs: that the name wasn't compared
 	// Other devices on whose disks the very bytes stand that the device recorded, at their time.

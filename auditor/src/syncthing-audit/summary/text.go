@@ -95,7 +95,7 @@ func wordsOfFaults(faults []*Fault, isMany bool) string {
 	case fault.isTied:
 		return "has something else under the same version"
 	case fault.IsOfOneTime:
-		return kinds[Behind].words + ": other bytes under the time of its own, as of rot that a scan took"
+		return kinds[Behind].words + ": other bytes under the time of its own: rot that a scan took, or an edit that kept the time"
 	case fault.Cause == Behind && fault.Deletion:
 		return "behind: hasn't deleted " + it + " yet"
 	case fault.isWithout():

@@ -143,7 +143,7 @@ a  (in docs, 300.0 kB)
 		fails(folder, "a", []*part.Name{file(2, 1), file(1, 2)}, "RecordDiffers 2", "StoreDiffers 2")
 	}, lineOfFolder + `
 a  (in docs, 300.0 kB)
-  server: behind: hasn't taken what is newest: other bytes under the time of its own, as of rot that a scan took (modified 2020-09-13 12:26:40 UTC)
+  server: behind: hasn't taken what is newest: other bytes under the time of its own: rot that a scan took, or an edit that kept the time (modified 2020-09-13 12:26:40 UTC)
   as recorded on: laptop
   if nothing is done: it isn't known what happens: nothing is foretold of it.
   to do: before Syncthing starts or scans on any of these devices, copy elsewhere what is to stay of
