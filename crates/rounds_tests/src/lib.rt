@@ -4,4 +4,6 @@
 #[cfg(test)]
 mod bring;
 #[cfg(test)]
+mod bring_all;
+#[cfg(test)]
 mod made;

@@ -66,28 +66,54 @@ pub(crate) fn file(alloc: Global, size: usize) -> Option<Node> {
 
 /// The first device has the file, recorded.
 pub(crate) fn put<S: Store>(alloc: Global, cluster: &mut Cluster<S>, size: usize) -> Option<()> {
-    let first = DeviceId::read(1)?;
-    let node = file(alloc, size)?;
-    cluster
-        .apply(Step::Edit(first, docs(alloc)?, photo(alloc)?, node))
-        .ok()?;
-    scan(alloc, cluster)
+    put_at(alloc, cluster, 1, b"photo", size)
 }
 
 /// It removes it.
 pub(crate) fn remove<S: Store>(alloc: Global, cluster: &mut Cluster<S>) -> Option<()> {
-    let first = DeviceId::read(1)?;
-    cluster
-        .apply(Step::Remove(first, docs(alloc)?, photo(alloc)?))
-        .ok()?;
-    scan(alloc, cluster)
+    remove_at(alloc, cluster, 1, b"photo")
 }
 
-fn scan<S: Store>(alloc: Global, cluster: &mut Cluster<S>) -> Option<()> {
-    let first = DeviceId::read(1)?;
+/// The device has a file of this name, recorded.
+pub(crate) fn put_at<S: Store>(
+    alloc: Global,
+    cluster: &mut Cluster<S>,
+    device: u64,
+    name: &[u8],
+    size: usize,
+) -> Option<()> {
+    let device = DeviceId::read(device)?;
+    let node = file(alloc, size)?;
+    let named = Name::read(alloc, name).ok()?;
     cluster
-        .apply(Step::Scan(first, docs(alloc)?, photo(alloc)?))
+        .apply(Step::Edit(device, docs(alloc)?, named, node))
         .ok()?;
+    scan(alloc, cluster, device, name)
+}
+
+/// The device removes the file of this name.
+pub(crate) fn remove_at<S: Store>(
+    alloc: Global,
+    cluster: &mut Cluster<S>,
+    device: u64,
+    name: &[u8],
+) -> Option<()> {
+    let device = DeviceId::read(device)?;
+    let named = Name::read(alloc, name).ok()?;
+    cluster
+        .apply(Step::Remove(device, docs(alloc)?, named))
+        .ok()?;
+    scan(alloc, cluster, device, name)
+}
+
+fn scan<S: Store>(
+    alloc: Global,
+    cluster: &mut Cluster<S>,
+    device: DeviceId,
+    name: &[u8],
+) -> Option<()> {
+    let named = Name::read(alloc, name).ok()?;
+    cluster.apply(Step::Scan(device, docs(alloc)?, named)).ok()?;
     Some(())
 }
 
@@ -101,16 +127,26 @@ pub(crate) fn wanted(alloc: Global, device: u64, owner: u64) -> Option<Wanted> {
     })
 }
 
-/// Of how many bytes the device's own record of the name tells, or `None` where that is a deletion; the inner one is `None` where
-/// there is no record.
+/// Of how many bytes the device's own record of the photo tells: the inner one is `None` where that is a deletion, and the outer one
+/// where there is no record.
 pub(crate) fn told<S: Store>(
     alloc: Global,
     cluster: &Cluster<S>,
     device: u64,
 ) -> Option<Option<u64>> {
-    let (docs, photo) = (docs(alloc)?, photo(alloc)?);
+    told_of(alloc, cluster, device, b"photo")
+}
+
+/// The same of this name.
+pub(crate) fn told_of<S: Store>(
+    alloc: Global,
+    cluster: &Cluster<S>,
+    device: u64,
+    name: &[u8],
+) -> Option<Option<u64>> {
+    let (docs, name) = (docs(alloc)?, Name::read(alloc, name).ok()?);
     let replica = cluster.peer(DeviceId::read(device)?)?.replica(&docs)?;
-    let entry = replica.index().get(&photo)?.entry();
+    let entry = replica.index().get(&name)?.entry();
     if entry.deleted {
         return Some(None);
     }
