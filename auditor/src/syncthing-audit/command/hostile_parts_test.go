@@ -53,7 +53,9 @@ func stoppedParts(device byte) []*hostile {
 	linked := &part.Name{Name: "c", Own: symlink, Views: []part.Seen{{Record: symlink}}, Disk: &part.Node{Type: 4, Target: "elsewhere"}}
 	out := &part.Name{Name: "f/", Out: []part.LeftOut{{Kind: part.Unreadable, Why: "it can't be read", Below: true}}}
 	damaged := &part.Name{Name: "g/", Out: []part.LeftOut{{Kind: part.Damaged, Why: "its names can't be had", Below: true}}}
-	return []*hostile{{headOfHostile(device), linesOf(hostileFile("a", 1, 7), lost, linked, hostileFile("d~20261128.sync-conflict-20261128-100000-ABCDEFG", 4, 1), out, damaged)}}
+	lines := linesOf(hostileFile("a", 1, 7), lost, linked, hostileFile("d~20261128.sync-conflict-20261128-100000-ABCDEFG", 4, 1), out, damaged)
+	lines[len(lines)-1].End.Holding = &part.Holding{Names: []part.Bytes{"f"}}
+	return []*hostile{{headOfHostile(device), lines}}
 }
 
 // partsByNames gives that of a device that was asked for names alone which begin so.

@@ -33,7 +33,7 @@ func TestALiarHidesNoFaultOfAnother(t *testing.T) {
 	}{
 		{"it changed between its looks", runningParts, func(parts []*hostile) {
 			find(parts[0].Lines, "a").Name = &part.Name{Name: "a", Moved: []string{part.MovedRecord}}
-		}, nothing, "other bytes on the disk than its own index records", "c"},
+		}, nothing, "other bytes on the disk; size and time are as recorded", "c"},
 		{"it changed between its looks, and the other disk fails", runningParts, func(parts []*hostile) {
 			find(parts[0].Lines, "a").Name = &part.Name{Name: "a", Moved: []string{part.MovedDisk}}
 		}, lostIn, "it is lost", "c"},
@@ -41,10 +41,10 @@ func TestALiarHidesNoFaultOfAnother(t *testing.T) {
 			for _, name := range []string{"a", "c"} {
 				find(parts[0].Lines, name).Name = &part.Name{Name: part.Bytes(name), Moved: []string{part.MovedDisk}}
 			}
-		}, nothing, "other bytes on the disk than its own index records", "c"},
+		}, nothing, "other bytes on the disk; size and time are as recorded", "c"},
 		{"it can't be read", stoppedParts, func(parts []*hostile) {
 			find(parts[0].Lines, "a").Name = &part.Name{Name: "a", Out: []part.LeftOut{{Kind: part.Unreadable, Why: "it can't be read"}}}
-		}, nothing, "other bytes on the disk than its own index records", "d"},
+		}, nothing, "other bytes on the disk; size and time are as recorded", "d"},
 	} {
 		honest, liar := row.parts(1), row.parts(2)
 		row.honest(honest)

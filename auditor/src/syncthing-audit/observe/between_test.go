@@ -326,7 +326,7 @@ func TestWhatWasKeptCannotBeRead(t *testing.T) {
 
 // However many names there are that are too long for a part, they take no memory.
 func TestManyLongNames(t *testing.T) {
-	const names = 40000
+	const names = 60000
 	folder, records := seenIn(t, "docs", nil), [][]byte{}
 	for at := 0; at < names; at++ {
 		records = append(records, fileOf(fmt.Sprintf("%s%06d", shell.BehindNames, at), uint64(at+1), true))

@@ -16,14 +16,18 @@ func HoldingOf(names map[string]bool) *Holding {
 	if len(names) == 0 {
 		return nil
 	}
-	holding, bytes := &Holding{Names: []Bytes{}}, 0
+	rising := make([]string, 0, len(names))
 	for name := range names {
+		rising = append(rising, name)
+	}
+	sort.Strings(rising)
+	holding, bytes := &Holding{Names: []Bytes{}}, 0
+	for _, name := range rising {
 		if bytes += len(name); bytes > mostOfHolding {
 			holding.More++
 		} else {
 			holding.Names = append(holding.Names, Bytes(name))
 		}
 	}
-	sort.Slice(holding.Names, func(a, b int) bool { return holding.Names[a] < holding.Names[b] })
 	return holding
 }
