@@ -7,6 +7,7 @@ audit.
 
 import json
 import os
+import shutil
 import sys
 
 from answers import SCHEMA, STATUS_MISSING
@@ -149,12 +150,62 @@ class FaultsFromAuditToAudit(History):
         self.assertRegex(ran.stdout, r"since the audit of .*: 0 faults are new, 1 is mended, 0 last\n  mended: text in docs on \w{7} \(StoreDiffers\), since ")
         self.assertEqual(news(), [[], [], [], []])
 
+    def test_a_device_that_is_not_asked_had_the_recorded_bytes(self):
+        """The one device is audited alone: the advice names the other one, which had them when it was read, before backups."""
+        def alone():
+            ran = self.on_homes("check", [self.two.home], "--syncaudit", self.auditor, "--history", self.kept)
+            self.assertEqual(ran.returncode, 1, ran.stderr)
+            return " ".join(ran.stdout.split())
+
+        put_back = self.rot_with_its_time(self.two.files / "text")
+        try:
+            told = alone()
+            self.assertIn(" isn't asked, and may have it.", told)
+            self.assertNotIn("had what is recorded", told)
+            self.audit()
+            self.assertRegex(alone(), r"to do: look on \S+ first, before Syncthing starts there: \S+ had what is recorded when it was read on .*, and isn't asked now\. .*to do: look among old versions")
+        finally:
+            put_back()
+
     def test_a_history_in_a_folder_is_refused(self):
         self.kept = self.one.files / "history"
         ran = self.audit()
         self.assertEqual((ran.returncode, ran.stdout), (2, ""))
         self.assertIn("whose devices would all get the history: name a directory elsewhere", ran.stderr)
         self.assertFalse(self.kept.exists())
+
+
+class FilesThatAreGone(History):
+    """A device gets an empty directory with a marker while its index is kept: Syncthing deletes all files on all devices, and these are in step."""
+
+    def test_an_empty_directory_with_a_marker(self):
+        self.assertNotIn("emptied", self.since()[0])
+        self.rot_with_its_time(self.one.files / "text")
+        self.assertEqual(self.audit().returncode, 1)
+        shutil.rmtree(self.two.files)
+        (self.two.files / ".stfolder").mkdir(parents=True)
+        self.start()
+        try:
+            wait_until("the deletions are on the other device", lambda: not (self.one.files / "text").exists())
+            wait_until("both are in step", lambda: self.one.is_in_step_with(self.two) and self.two.is_in_step_with(self.one))
+        finally:
+            self.stop()
+        self.assertEqual(self.report()[0], "settled")
+        ran = self.audit()
+        self.assertEqual(ran.returncode, 6, ran.stderr)
+        self.assertRegex(ran.stdout, r"^GONE: 3 of 3 files in docs went from all devices that were asked after ")
+        self.assertIn("to do: if nobody wanted that: stop Syncthing on all devices of the folder, before it cleans old versions", " ".join(ran.stdout.split()))
+        self.assertRegex(ran.stdout, r"(?m)^  deleted since: text in docs on \w{7} \(StoreDiffers\), since .*; read last: .* had 5 bytes on .*, .* had 5 bytes on ")
+        self.assertNotIn("  mended: ", ran.stdout)
+        since, status = self.since()
+        emptied, = since["emptied"]
+        self.assertEqual((status, emptied["new"], emptied["files"], emptied["of"], emptied["unasked"], len(emptied["first"])), (6, False, 3, 3, [], 3))
+        self.assertRegex(self.audit("--lines").stdout, r"\ngone: docs 3 of 3 files between \S+ and \S+\n")
+        backup = self.room / "backup"
+        backup.mkdir()
+        (backup / "text").write_text("hello")
+        ran = run([self.program, "find", "--history", self.kept, "--folder", "docs", "text", backup])
+        self.assertEqual((ran.returncode, ran.stdout), (0, f"{backup}/text\n"), ran.stderr)
 
 
 if __name__ == "__main__":

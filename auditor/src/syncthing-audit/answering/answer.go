@@ -62,7 +62,7 @@ func Tell(output, log io.Writer, asked commandline.Options, answer *finding.Answ
 	if asked.Take != nil {
 		asked.Take(told)
 	}
-	if status := Status(answer); status != exit.Done || since == nil || since.Count+since.Takes == 0 && since.Unkept == "" {
+	if status := Status(answer); status != exit.Done || since == nil || !since.IsToLookAt() {
 		return status, nil
 	}
 	return exit.Partial, nil

@@ -91,7 +91,11 @@ func (r *Remembering) keep(answer *finding.Answer, now time.Time) (*history.Sinc
 			unkept = append(unkept, olderPart(tee, folder))
 		}
 	}
-	audited := history.Audited{At: now, Found: faultsOf(answer), Folders: map[string][]uint64{}, Sharing: map[string][]uint64{}, IDs: map[uint64]string{}}
+	audited := history.Audited{At: now, Found: faultsOf(answer), Folders: map[string][]uint64{}, Sharing: map[string][]uint64{}, IDs: map[uint64]string{},
+		IsThere: r.watch.IsThere, Stayed: map[string]int64{}}
+	for _, tee := range r.tees {
+		tee.AddStayed(audited.Stayed)
+	}
 	for _, folder := range answer.Folders {
 		for _, member := range folder.Members {
 			audited.Folders[folder.ID] = append(audited.Folders[folder.ID], member.Number)

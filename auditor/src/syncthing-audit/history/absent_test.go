@@ -13,7 +13,7 @@ func (h *History) auditOf(t *testing.T, day int, devices map[int]device, found [
 	if err != nil {
 		t.Fatal(err)
 	}
-	audited := Audited{At: night(day), Found: found, Folders: map[string][]uint64{}, Sharing: map[string][]uint64{}, IDs: map[uint64]string{}, Names: func(folder, name string) bool { return watch.IsClear(folder, name) }}
+	audited := Audited{At: night(day), Found: found, Folders: map[string][]uint64{}, Sharing: map[string][]uint64{}, IDs: map[uint64]string{}, IsThere: watch.IsThere, Stayed: map[string]int64{}, Names: func(folder, name string) bool { return watch.IsClear(folder, name) }}
 	for place, id := range ids {
 		audited.Sharing["docs"] = append(audited.Sharing["docs"], part.Number(id))
 		audited.IDs[part.Number(id)] = id
@@ -24,9 +24,11 @@ func (h *History) auditOf(t *testing.T, day int, devices map[int]device, found [
 		stream := has.partOf(place, choice.Names{})
 		stream.head.Made = night(day)
 		audited.Folders["docs"] = append(audited.Folders["docs"], part.Number(id))
-		if tee := h.Tee(stream, watch); drained(t, tee) < 2 || tee.End() != nil {
+		tee := h.Tee(stream, watch)
+		if drained(t, tee) < 2 || tee.End() != nil {
 			t.Fatal("the lines aren't all there")
 		}
+		tee.AddStayed(audited.Stayed)
 	}
 	since, err := h.Since(audited)
 	if err != nil {

@@ -6,6 +6,7 @@ import (
 	"sort"
 	"strings"
 	"syscall"
+	"time"
 
 	"github.com/syndtr/goleveldb/leveldb/storage"
 )
@@ -20,6 +21,8 @@ const (
 	ofPart    = 'p' // folder, device: when its newest part was made
 	ofTaken   = 't' // folder, name, device: that the device records the bytes of a change
 	ofAsked   = 'a' // folder, device, name: when the bytes were asked for, where each look asks for some
+	ofGone    = 'g' // folder, name, device: what was read last of a file that is gone
+	ofEmptied = 'e' // folder, time: that most files went from it
 )
 
 func keyOfFormat() []byte { return []byte{ofFormat} }
@@ -60,6 +63,20 @@ func keyOfChange(folder, name string, device uint64) []byte {
 // keyOfTaken gives the key that says of a change whether its device records the bytes.
 func keyOfTaken(folder, name string, device uint64) []byte {
 	return binary.BigEndian.AppendUint64(keyOfName(ofTaken, folder, name), device)
+}
+
+func keyOfGone(folder, name string, device uint64) []byte {
+	return binary.BigEndian.AppendUint64(keyOfName(ofGone, folder, name), device)
+}
+
+// keyOfAllGone begins the keys of what is gone from a folder.
+func keyOfAllGone(folder string) []byte { return append(append([]byte{ofGone}, folder...), 0) }
+
+// keyOfEmptieds begins the keys of the times at which a folder was emptied.
+func keyOfEmptieds(folder string) []byte { return append(append([]byte{ofEmptied}, folder...), 0) }
+
+func keyOfEmptied(folder string, at time.Time) []byte {
+	return appendTime(keyOfEmptieds(folder), at)
 }
 
 func keyOfFault(fault Fault) []byte {

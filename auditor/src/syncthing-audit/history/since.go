@@ -17,6 +17,7 @@ type Since struct {
 	New     List       `json:"new"`                    // faults that the audit before didn't find
 	Lasting List       `json:"lasting"`
 	Mended  List       `json:"mended"`     // found before; the name was audited, and isn't at fault any more
+	Deleted List       `json:"deleted"`    // found before; nothing is there any more
 	Unasked List       `json:"not_looked"` // found before; the name wasn't audited now
 	Changed []Changed  `json:"bytes_changed_everywhere"`
 	Count   int64      `json:"bytes_changed_everywhere_count"`   // of all, also of those that aren't listed
@@ -24,9 +25,13 @@ type Since struct {
 	Takes   int64      `json:"bytes_changed_and_recorded_count"` // of all, also of those that aren't listed
 	Read    []Read     `json:"read"`
 	Waiting []Waiting  `json:"not_read_yet,omitempty"`
+	Emptied []Emptied  `json:"emptied,omitempty"`
 	Unkept  string     `json:"not_kept,omitempty"` // why the history doesn't have all of this audit
 
 	Directory string `json:"-"` // of the history
+
+	// Had gives the devices that aren't audited now and had these bytes of a file when it was read there last.
+	Had func(folder, name string, content part.Content) []Held `json:"-"`
 }
 
 // List has the first of some faults, and counts all.
@@ -43,6 +48,7 @@ type Told struct {
 	Reason string     `json:"reason"`
 	First  time.Time  `json:"first"`
 	Audits int64      `json:"audits"`
+	Held   []Held     `json:"held,omitempty"` // of a name that is deleted since: who had which bytes
 }
 
 // Changed is a file whose bytes changed under one time and size on these devices.
@@ -70,7 +76,7 @@ type Read struct {
 // NotKept gives what is said where a history can't be opened or written: of what is new nothing is known.
 func NotKept(why error) *Since {
 	none := List{First: []Told{}}
-	return &Since{New: none, Lasting: none, Mended: none, Unasked: none, Changed: []Changed{}, Taken: []Changed{}, Read: []Read{}, Unkept: why.Error()}
+	return &Since{New: none, Lasting: none, Mended: none, Deleted: none, Unasked: none, Changed: []Changed{}, Taken: []Changed{}, Read: []Read{}, Unkept: why.Error()}
 }
 
 // Audited is an audit that is to be kept.
@@ -80,7 +86,9 @@ type Audited struct {
 	Folders map[string][]uint64 // the devices of each folder that were audited
 	Sharing map[string][]uint64 // other devices that share these folders
 	Names   func(folder, name string) bool
-	IDs     map[uint64]string // of devices
+	IDs     map[uint64]string                             // of devices
+	IsThere func(folder, name string, device uint64) bool // of names at fault before
+	Stayed  map[string]int64                              // of each folder: how many files that were read before still stand
 }
 
 // Since keeps an audit, and says what the history has beside its answer.
@@ -104,15 +112,55 @@ func (h *History) Since(audit Audited) (*Since, error) {
 	if err != nil {
 		return nil, err
 	}
+	mended, deleted := audit.split(news.Mended)
 	for _, kind := range []struct {
 		faults []Fault
 		to     *List
-	}{{news.New, &since.New}, {news.Lasting, &since.Lasting}, {news.Mended, &since.Mended}, {news.Unasked, &since.Unasked}} {
+	}{{news.New, &since.New}, {news.Lasting, &since.Lasting}, {mended, &since.Mended}, {deleted, &since.Deleted}, {news.Unasked, &since.Unasked}} {
 		if *kind.to, err = h.list(kind.faults, audit.IDs); err != nil {
 			return nil, err
 		}
 	}
+	for place := range since.Deleted.First {
+		told := &since.Deleted.First[place]
+		if told.Held, err = h.held(&audit, told.Folder, string(told.Name)); err != nil {
+			return nil, err
+		}
+	}
+	if err := h.addEmptied(since, &audit); err != nil {
+		return nil, err
+	}
+	since.Had = func(folder, name string, content part.Content) []Held { return h.had(&audit, folder, name, content) }
 	return since, h.addRead(since, audit)
+}
+
+// split tells faults that are mended from those of which nothing is there any more: what a device had isn't there again.
+func (a *Audited) split(faults []Fault) (mended, deleted []Fault) {
+	for _, fault := range faults {
+		if a.IsThere == nil || a.IsThere(fault.Folder, fault.Name, fault.Device) {
+			mended = append(mended, fault)
+		} else {
+			deleted = append(deleted, fault)
+		}
+	}
+	return mended, deleted
+}
+
+// known gives all devices of a folder that was audited, each once.
+func (a *Audited) known(folder string) []uint64 {
+	known := append([]uint64(nil), a.sharing(folder)...)
+	slices.Sort(known)
+	return slices.Compact(known)
+}
+
+// isAsked says whether a device was audited in a folder.
+func (a *Audited) isAsked(folder string, device uint64) bool {
+	return slices.Contains(a.Folders[folder], device)
+}
+
+// IsToLookAt says whether the history knows something by which an answer without faults isn't the whole truth.
+func (s *Since) IsToLookAt() bool {
+	return s.Count+s.Takes > 0 || len(s.Emptied) > 0 || s.Unkept != ""
 }
 
 // sharing gives all devices that share a folder which was audited.
@@ -163,7 +211,7 @@ func (h *History) list(faults []Fault, ids map[uint64]string) (List, error) {
 		if err != nil {
 			return List{}, err
 		}
-		told.First = append(told.First, Told{fault.Folder, part.Bytes(fault.Name), ids[fault.Device], fault.Cause, seen.First, seen.Audits})
+		told.First = append(told.First, Told{Folder: fault.Folder, Name: part.Bytes(fault.Name), Device: ids[fault.Device], Reason: fault.Cause, First: seen.First, Audits: seen.Audits})
 	}
 	return told, nil
 }

@@ -31,17 +31,19 @@ func (h *History) audit(t *testing.T, day int, devices []device, names choice.Na
 	if err != nil {
 		t.Fatal(err)
 	}
-	numbers, ids := []uint64{}, map[uint64]string{}
+	numbers, ids, stayed := []uint64{}, map[uint64]string{}, map[string]int64{}
 	for place, device := range devices {
 		stream := device.partOf(place, names)
 		stream.head.Made = night(day)
 		numbers = append(numbers, stream.head.Number())
 		ids[stream.head.Number()] = stream.head.Device
-		if tee := h.Tee(stream, watch); drained(t, tee) < 2 || tee.End() != nil {
+		tee := h.Tee(stream, watch)
+		if drained(t, tee) < 2 || tee.End() != nil {
 			t.Fatal("the lines aren't all there")
 		}
+		tee.AddStayed(stayed)
 	}
-	since, err := h.Since(Audited{At: night(day), Found: named(faults), Folders: map[string][]uint64{"docs": numbers}, IDs: ids,
+	since, err := h.Since(Audited{At: night(day), Found: named(faults), Folders: map[string][]uint64{"docs": numbers}, IDs: ids, IsThere: watch.IsThere, Stayed: stayed,
 		Names: func(folder, name string) bool { return names.Has(folder, name) && watch.IsClear(folder, name) }})
 	if err != nil {
 		t.Fatal(err)
@@ -54,7 +56,7 @@ func (s *Since) counts() [5]int64 {
 	return [5]int64{s.New.Count, s.Lasting.Count, s.Mended.Count, s.Unasked.Count, s.Count}
 }
 
-// A name that one device leaves out, or that nobody asked for, isn't mended: nobody looked. One that is gone everywhere is.
+// A name that one device leaves out, or that nobody asked for, isn't mended: nobody looked. One that is gone everywhere is deleted.
 func TestWhatIsMendedWasLookedAt(t *testing.T) {
 	good, unread := device{"a": {bytes: 'a'}, "b": {bytes: 'b'}}, device{"a": {unread: true}, "b": {bytes: 'b'}}
 	for _, one := range []struct {
@@ -66,7 +68,7 @@ func TestWhatIsMendedWasLookedAt(t *testing.T) {
 		{"looked at", []device{good, good}, choice.Names{}, [5]int64{0, 0, 1, 0, 0}},
 		{"left out at one device", []device{good, unread}, choice.Names{}, [5]int64{0, 0, 0, 1, 0}},
 		{"not asked for", []device{good, good}, choice.Names{Prefix: "b"}, [5]int64{0, 0, 0, 1, 0}},
-		{"gone", []device{{"b": {bytes: 'b'}}, {"b": {bytes: 'b'}}}, choice.Names{}, [5]int64{0, 0, 1, 0, 0}},
+		{"gone", []device{{"b": {bytes: 'b'}}, {"b": {bytes: 'b'}}}, choice.Names{}, [5]int64{0, 0, 0, 0, 0}},
 	} {
 		history := opened(t)
 		if first := history.audit(t, 0, []device{good, good}, choice.Names{}, "a"); first.counts() != [5]int64{1, 0, 0, 0, 0} || first.Before != nil {

@@ -20,6 +20,8 @@ type taking struct {
 	before iterator.Iterator    // what was read of the folder's names before
 	isEnd  bool                 // whether no earlier reading is left
 	newer  map[string]time.Time // of folders of which something was read after this part: when
+	stayed map[string]int64     // of each folder: how many files that were read before still stand
+	isGone bool                 // whether a file of the folder is known to be gone
 }
 
 // Take keeps what a part has read. What the part didn't read stays as it was; a name that isn't there any more is forgotten.
@@ -41,7 +43,7 @@ func (h *History) Take(stream part.Stream, at time.Time) error {
 }
 
 func (h *History) taking(head *part.Head, at, now time.Time) *taking {
-	return &taking{writes: writes{to: h.db}, head: head, at: at, now: now, newer: map[string]time.Time{}}
+	return &taking{writes: writes{to: h.db}, head: head, at: at, now: now, newer: map[string]time.Time{}, stayed: map[string]int64{}}
 }
 
 func (t *taking) release() {
@@ -58,6 +60,9 @@ func (t *taking) take(line part.Line) error {
 		t.before = t.to.NewIterator(util.BytesPrefix(keyOfReadings(t.folder, t.head.Number())), nil)
 		t.isEnd = !t.before.Next()
 		if err := t.before.Error(); err != nil {
+			return err
+		}
+		if err := t.findGone(); err != nil {
 			return err
 		}
 		return t.compareAge()
@@ -78,7 +83,7 @@ func (t *taking) forget(before string) error {
 		if name := t.nameBefore(); t.head.Names.Has(t.folder, name) {
 			earlier, err := readReading(t.before.Value())
 			if err == nil && !t.isOlderThan(earlier) {
-				err = t.removeReading(name)
+				err = t.goneFrom(name, earlier)
 			}
 			if err != nil {
 				return err
@@ -125,13 +130,17 @@ func (t *taking) name(line *part.Name) error {
 		t.isEnd = !t.before.Next()
 	}
 	reading := readingOf(line, t.at)
-	if before != nil && t.isOlderThan(before) {
-		return nil
-	}
-	if reading == nil {
-		if before != nil && isGone(line) {
-			return t.removeReading(name)
+	switch {
+	case before != nil && reading == nil && isGone(line) && !t.isOlderThan(before):
+		return t.goes(line, before)
+	case before != nil:
+		t.stayed[t.folder]++
+	case reading != nil && t.isGone:
+		if err := t.noteThere(name); err != nil {
+			return err
 		}
+	}
+	if reading == nil || before != nil && t.isOlderThan(before) {
 		return nil
 	}
 	isChanged, err := t.compare(name, before, reading)

@@ -4,6 +4,7 @@ import (
 	"io"
 	"sync"
 
+	"golang.org/x/exp/slices"
 	"syncthing-audit/part"
 )
 
@@ -62,7 +63,8 @@ func (t *Tee) End() error {
 // Watch sees which of the names that were at fault before are looked at now.
 type Watch struct {
 	mutex   sync.Mutex
-	unclear map[place]bool // names that were at fault: whether a device leaves one out, or it moved there
+	unclear map[place]bool     // names that were at fault: whether a device leaves one out, or it moved there
+	there   map[place][]uint64 // devices on which something stands at such a name, or is recorded
 }
 
 // place is a name in a folder.
@@ -70,7 +72,7 @@ type place struct{ folder, name string }
 
 // Watch gives a watch over all names that were at fault.
 func (h *History) Watch() (*Watch, error) {
-	watch := &Watch{unclear: map[place]bool{}}
+	watch := &Watch{unclear: map[place]bool{}, there: map[place][]uint64{}}
 	err := h.each([]byte{ofFault}, func(key, _ []byte) error {
 		folder, name, _, _, err := readName(key)
 		watch.unclear[place{folder, name}] = false
@@ -88,16 +90,29 @@ func (w *Watch) WasAtFault(folder, name string) bool {
 }
 
 func (w *Watch) take(folder string, line *part.Name, head *part.Head) {
-	if line == nil || len(line.Out) == 0 && len(line.Moved) == 0 && !isUnclearOverWire(head, line) {
+	if line == nil {
 		return
 	}
 	w.mutex.Lock()
 	defer w.mutex.Unlock()
-	if at := (place{folder, string(line.Name)}); !w.unclear[at] {
-		if _, is := w.unclear[at]; is {
-			w.unclear[at] = true
-		}
+	at := place{folder, string(line.Name)}
+	if _, is := w.unclear[at]; !is {
+		return
 	}
+	if len(line.Out) > 0 || len(line.Moved) > 0 || isUnclearOverWire(head, line) {
+		w.unclear[at] = true
+	}
+	if line.Disk != nil || line.Own != nil && !line.Own.Deleted {
+		w.there[at] = append(w.there[at], head.Number())
+	}
+}
+
+// IsThere says whether a device has something at a name that was at fault, or any one where none is named.
+func (w *Watch) IsThere(folder, name string, device uint64) bool {
+	w.mutex.Lock()
+	defer w.mutex.Unlock()
+	at := w.there[place{folder, name}]
+	return slices.Contains(at, device) || device == 0 && len(at) > 0
 }
 
 // IsClear says whether no device left a name out or had it in motion.

@@ -8,12 +8,28 @@ import (
 )
 
 // Wanted gives what was read of a name with the bytes that one may look for: those before they changed under their time, on whichever device; where
-// none changed, those that were read last. Each bytes are there once.
+// none changed, those that were read last; where no device has it any more, those of the file that is gone. Each bytes are there once.
 func (h *History) Wanted(folder, name string) ([]Reading, error) {
 	found, err := h.before(folder, name)
 	if err == nil && len(found) == 0 {
 		found, err = h.last(folder, name)
 	}
+	if err == nil && len(found) == 0 {
+		found, err = h.lastGone(folder, name)
+	}
+	return found, err
+}
+
+// lastGone gives what was read last of a file where it is gone.
+func (h *History) lastGone(folder, name string) ([]Reading, error) {
+	found := []Reading{}
+	err := h.each(keyOfName(ofGone, folder, name), func(_, value []byte) error {
+		of, err := readGone(value)
+		if err == nil {
+			found = withContent(found, of.before)
+		}
+		return err
+	})
 	return found, err
 }
 

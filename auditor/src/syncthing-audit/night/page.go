@@ -44,6 +44,7 @@ func (n *night) inShort(status int) page.Night {
 		if since := audit.answer.Since; since != nil {
 			night.New += since.New.Count
 			night.Mended += since.Mended.Count
+			night.Gone += since.Gone()
 		}
 	}
 	return night

@@ -12,6 +12,7 @@ import (
 	"syncthing-audit/exit"
 	"syncthing-audit/outside"
 	"syncthing-audit/part"
+	"syncthing-audit/print"
 	"syncthing-audit/shell"
 	"syncthing-audit/summary"
 	"syncthing-audit/watch"
@@ -102,10 +103,24 @@ func (n *night) subject(status int) string {
 	if status == exit.Refused && !n.lacksAnswer() {
 		words = subjects[exit.Done] + ", and the night itself has a fault"
 	}
+	if gone := n.gone(); gone > 0 {
+		words = print.Counted(gone, "FILE IS GONE", "FILES ARE GONE") + ", else " + words
+	}
 	if n.due.IsOfSlice() {
 		words += ", " + n.due.Words()
 	}
 	return words
+}
+
+// gone counts the files of folders from which most went at once.
+func (n *night) gone() int64 {
+	files := int64(0)
+	for _, audit := range n.audits {
+		if audit.answer != nil && audit.answer.Since != nil {
+			files += audit.answer.Since.Gone()
+		}
+	}
+	return files
 }
 
 // lacksAnswer says whether an audit has no answer.

@@ -85,6 +85,10 @@ func TestTheTextOfANight(t *testing.T) {
 		t.Errorf("%+v", answers)
 	}
 	r.audits = r.audits[:2]
+	r.audits[1].answer.Since.Emptied = []history.Emptied{{Files: 12}}
+	if short := r.inShort(exit.Partial); short.Gone != 12 || short.Words != "12 FILES ARE GONE, else in step as far as audited" {
+		t.Errorf("%+v", short)
+	}
 	if size := r.size(); size != "3 devices, "+amount.Bytes(240e6)+" read\n" {
 		t.Errorf("%q", size)
 	}

@@ -24,6 +24,7 @@ type Night struct {
 	Wrong  int64     `json:"wrong"` // names, in all folders
 	New    int64     `json:"new"`   // faults
 	Mended int64     `json:"mended"`
+	Gone   int64     `json:"gone,omitempty"` // files of folders from which most went at once
 	Bytes  int64     `json:"bytes"`
 }
 

@@ -69,7 +69,7 @@ func (n Night) numbers() string {
 	for _, part := range []struct {
 		count int64
 		word  string
-	}{{n.Wrong, "wrong"}, {n.New, "new"}, {n.Mended, "mended"}} {
+	}{{n.Gone, "files gone"}, {n.Wrong, "wrong"}, {n.New, "new"}, {n.Mended, "mended"}} {
 		if part.count > 0 {
 			told += fmt.Sprintf(", %d %s", part.count, part.word)
 		}

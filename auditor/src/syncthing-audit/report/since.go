@@ -10,7 +10,7 @@ import (
 	"syncthing-audit/part"
 )
 
-// Since prints what a history says beside an answer, a line each: what is new, what lasts, what is mended and what wasn't looked at, with the time at
+// Since prints what a history says beside an answer, a line each: folders that were emptied, what is new, what lasts, what is deleted or mended and what wasn't looked at, with the time at
 // which it was found first, and files whose bytes changed under one time on all devices, or where they are recorded.
 func Since(to io.Writer, since *history.Since) {
 	if since == nil {
@@ -18,6 +18,9 @@ func Since(to io.Writer, since *history.Since) {
 	}
 	if since.Before != nil {
 		outside.Printf(to, "since: %s\n", since.Before.Format(time.RFC3339))
+	}
+	for _, emptied := range since.Emptied {
+		outside.Printf(to, "gone: %s %d of %d files between %s and %s\n", emptied.Folder, emptied.Files, emptied.Of, emptied.Since.Format(time.RFC3339), emptied.Found.Format(time.RFC3339))
 	}
 	for _, changed := range since.Changed {
 		outside.Printf(to, "changed everywhere: %s %s between %s and %s\n", changed.Folder, printed(string(changed.Name)), changed.Before.Format(time.RFC3339), changed.Since.Format(time.RFC3339))
@@ -37,7 +40,7 @@ func Since(to io.Writer, since *history.Since) {
 	for _, kind := range []struct {
 		word string
 		list history.List
-	}{{"new", since.New}, {"lasts", since.Lasting}, {"mended", since.Mended}, {"not looked at", since.Unasked}} {
+	}{{"new", since.New}, {"lasts", since.Lasting}, {"deleted since", since.Deleted}, {"mended", since.Mended}, {"not looked at", since.Unasked}} {
 		for _, fault := range kind.list.First {
 			outside.Printf(to, "%s: %s %s %s%s since %s\n", kind.word, fault.Reason, fault.Folder, printed(string(fault.Name)), onDevice(fault.Device), fault.First.Format(time.RFC3339))
 		}

@@ -27,13 +27,15 @@ func TestLinesOfAHistory(t *testing.T) {
 		}
 		return made
 	}
-	since := &history.Since{Before: &before, New: list(1, "StoreDiffers", one), Lasting: list(3, "NotWinner", "", two), Mended: list(4, "X"), Unasked: list(0, "X"),
+	since := &history.Since{Before: &before, New: list(1, "StoreDiffers", one), Lasting: list(3, "NotWinner", "", two), Mended: list(4, "X"), Unasked: list(0, "X"), Deleted: list(2, "StoreDiffers", one),
+		Emptied: []history.Emptied{{Folder: "docs", Files: 7, Of: 9, Since: at(1), Found: at(2)}},
 		Changed: []history.Changed{{Folder: "docs", Name: "c", Devices: []string{one, two}, Before: at(4), Since: at(5)}}, Count: 3,
 		Taken: []history.Changed{{Folder: "docs", Name: "d", Devices: []string{one, two}, Before: at(6), Since: at(7)}}, Takes: 2,
 		Read:    []history.Read{{Folder: "docs", Device: one}, {Folder: "docs", Device: two, Files: 1, Bytes: 9, Oldest: at(8), OldestName: "e\xff"}},
 		Waiting: []history.Waiting{{Folder: "docs", Device: one, Files: 5, Bytes: 6, Never: 4, Oldest: &oldest}, {Folder: "docs", Device: two, Files: 1, Bytes: 2, Never: 1}},
 		Unkept:  "no room"}
 	const expected = `since: 2026-11-29T01:00:00Z
+gone: docs 7 of 9 files between 2026-11-29T01:00:00Z and 2026-11-29T02:00:00Z
 changed everywhere: docs c between 2026-11-29T04:00:00Z and 2026-11-29T05:00:00Z
 changed everywhere: 2 more
 changed and recorded: docs d on ONE between 2026-11-29T06:00:00Z and 2026-11-29T07:00:00Z
@@ -43,6 +45,8 @@ new: StoreDiffers docs a\x20b on ONE since 2026-11-29T03:00:00Z
 lasts: NotWinner docs a\x20b since 2026-11-29T03:00:00Z
 lasts: NotWinner docs a\x20b on TWO since 2026-11-29T03:00:00Z
 lasts: 1 more
+deleted since: StoreDiffers docs a\x20b on ONE since 2026-11-29T03:00:00Z
+deleted since: 1 more
 mended: 4 more
 read: docs 1 files, 9 bytes on TWO, the oldest 2026-11-29T08:00:00Z e\xff
 not read: docs 5 files, 6 bytes on ONE, 4 never, the oldest of the others 2026-11-29T02:00:00Z
@@ -62,7 +66,7 @@ not kept in the history: no room
 			t.Errorf("%q", made)
 		}
 	}
-	since.Count, since.Takes, since.Lasting.Count = 1, 1, 2 // all are listed
+	since.Count, since.Takes, since.Lasting.Count, since.Deleted.Count = 1, 1, 2, 1 // all are listed
 	if made := sinceOf(since); strings.Count(made, " more\n") != 1 {
 		t.Error(made)
 	}

@@ -135,7 +135,7 @@ func (f *File) withoutCopy(named print.Names) []string {
 	if len(on) > 1 {
 		told += ", the most on " + named(most.Device)
 	}
-	return []string{told}
+	return []string{told + mayBeOff(f.off)}
 }
 
 // afterSaving says how what was saved before other bytes came under its very time comes back, as a change that all take.

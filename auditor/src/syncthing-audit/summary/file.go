@@ -30,11 +30,12 @@ type File struct {
 	hasDetails      bool
 	elsewhere       *elsewhere
 	foretold        foretold
-	isOfSum         bool   // whether 'sum' tells it
-	isOfAnotherTime bool   // whether those that have what is due have it with another time
-	isOdd           bool   // whether the name isn't in Unicode's form NFC
-	isMany          bool   // whether it stands for many names, which are told as one
-	among           *Group // all of which the very same is told
+	off             []part.Sharing // devices that share the folder and aren't audited in it
+	isOfSum         bool           // whether 'sum' tells it
+	isOfAnotherTime bool           // whether those that have what is due have it with another time
+	isOdd           bool           // whether the name isn't in Unicode's form NFC
+	isMany          bool           // whether it stands for many names, which are told as one
+	among           *Group         // all of which the very same is told
 }
 
 // say gives what is said of one name, or of many where the file stands for these.

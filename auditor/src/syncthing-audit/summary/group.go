@@ -7,6 +7,7 @@ import (
 
 	"syncthing-audit/finding"
 	"syncthing-audit/lists"
+	"syncthing-audit/part"
 	"syncthing-audit/print"
 )
 
@@ -80,12 +81,14 @@ type folding struct {
 	modes int64                        // names of which the permissions alone differ
 	alike lists.Grouped[string, Group] // names of which the very same is told
 	kinds int                          // how many of these may be told as one
+	off   []part.Sharing               // devices that share the folder and aren't audited in it
 	going going                        // bytes that stand under a name which goes
 	name  string                       // of the folder, for a person
 }
 
 // take takes the next name.
 func (f *folding) take(file *File) {
+	file.off = f.off
 	if len(file.Faults) > 0 {
 		f.wrong++
 	} else if len(file.Permissions) > 0 {

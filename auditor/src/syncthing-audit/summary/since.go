@@ -18,7 +18,11 @@ const mostNews = 5
 // an edit.
 func (s *Summary) Remember(since *history.Since) {
 	s.Since = since
-	if since == nil || since.Takes == 0 {
+	if since == nil {
+		return
+	}
+	s.rememberOff()
+	if since.Takes == 0 {
 		return
 	}
 	on := []string{}
@@ -33,7 +37,8 @@ func (s *Summary) Remember(since *history.Since) {
 }
 
 // history says what is new, and what no comparison of devices shows.
-func (p *printer) history(since *history.Since) {
+func (p *printer) history(s *Summary) {
+	since := s.Since
 	if since == nil {
 		return
 	}
@@ -47,7 +52,7 @@ func (p *printer) history(since *history.Since) {
 	})
 	switch {
 	case since.Before != nil:
-		p.news(since)
+		p.news(s)
 	case since.Unkept == "":
 		p.Line("history: this is the first audit that it has")
 	}
@@ -74,9 +79,13 @@ func (p *printer) changed(by *history.Since, count int64, all []history.Changed,
 }
 
 // news says what is new since the audit before.
-func (p *printer) news(since *history.Since) {
+func (p *printer) news(s *Summary) {
+	since := s.Since
 	told := []string{counted(since.New.Count, "fault is new", "faults are new"), counted(since.Mended.Count, "is mended", "are mended"),
 		counted(since.Lasting.Count, "lasts", "last")}
+	if since.Deleted.Count > 0 {
+		told = append(told, counted(since.Deleted.Count, "is of a name that is deleted since", "are of names that are deleted since"))
+	}
 	if since.Unasked.Count > 0 {
 		told = append(told, counted(since.Unasked.Count, "wasn't looked at", "weren't looked at"))
 	}
@@ -84,10 +93,10 @@ func (p *printer) news(since *history.Since) {
 	for _, list := range []struct {
 		word string
 		list history.List
-	}{{"new", since.New}, {"mended", since.Mended}, {"lasts", since.Lasting}, {"not looked at", since.Unasked}} {
+	}{{"new", since.New}, {"deleted since", since.Deleted}, {"mended", since.Mended}, {"lasts", since.Lasting}, {"not looked at", since.Unasked}} {
 		places := placesOf(list.list.First)
 		for _, place := range lists.AtMost(mostNews, places) {
-			p.Line("  %s: %s in %s%s (%s), since %s", list.word, shell.Quoted(string(place.Name)), place.Folder, p.onDevice(place.Device), place.Reason, p.day(place.First))
+			p.Line("  %s: %s in %s%s (%s), since %s%s", list.word, shell.Quoted(string(place.Name)), place.Folder, p.onDevice(place.Device), place.Reason, p.day(place.First), s.WordsOfHeld(place, p.Zone))
 		}
 		if more := len(places) - mostNews; more > 0 {
 			p.Line("  %s: %s more (--json has the first %s)", list.word, counted(int64(more), "name", "names"), thousands(history.MostListed))
@@ -129,4 +138,4 @@ func (p *printer) onDevice(id string) string {
 }
 
 // day gives a time as a person reads it in a history.
-func (p *printer) day(at time.Time) string { return at.In(p.Zone).Format("2006-01-02 15:04") }
+func (p *printer) day(at time.Time) string { return dayOf(at, p.Zone) }

@@ -15,7 +15,7 @@ func TestANameIsToldOnceOfAHistory(t *testing.T) {
 	faults := []history.Told{{Folder: "docs", Name: "a", Device: "1", Reason: "StoreDiffers", First: day(3)}, {Folder: "docs", Name: "a", Device: "2", Reason: "StoreDiffers", First: day(2)},
 		{Folder: "docs", Name: "a", Device: "1", Reason: "OwnNotWinner", First: day(1)}}
 	var told strings.Builder
-	printerOf(&told, map[string]string{"1": "laptop", "2": "nas"}).history(&history.Since{Before: &before, Lasting: history.List{Count: 3, First: faults}})
+	printerOf(&told, map[string]string{"1": "laptop", "2": "nas"}).history(&Summary{Since: &history.Since{Before: &before, Lasting: history.List{Count: 3, First: faults}}})
 	expected := `since the audit of 2026-01-04 03:00: 0 faults are new, 0 are mended, 3 last
   lasts: a in docs on laptop (StoreDiffers, OwnNotWinner), since 2026-01-01 03:00
   lasts: a in docs on nas (StoreDiffers), since 2026-01-02 03:00
@@ -44,7 +44,7 @@ func TestWhatChangedAndIsRecordedIsTold(t *testing.T) {
 		{history.Since{Taken: taken, Takes: 9}, mostNews + 3, "9 files have other bytes than before, each where it is recorded so, "},
 	} {
 		var told strings.Builder
-		printerOf(&told, map[string]string{"1": "laptop", "2": "nas"}).history(&row.since)
+		printerOf(&told, map[string]string{"1": "laptop", "2": "nas"}).history(&Summary{Since: &row.since})
 		if !strings.HasPrefix(told.String(), row.told) || strings.Count(told.String(), "\n") != row.lines || (row.since.Takes > mostNews) != strings.Contains(told.String(), "  and 4 more (--json has 7 of them)\n") {
 			t.Errorf("%s", told.String())
 		}

@@ -101,6 +101,7 @@ type Folder struct {
 	More    Count              `json:"conflict_copies_unlisted"`
 	Ignored Count              `json:"ignored"`
 	Own     bool               `json:"not_shared,omitempty"` // its one device shares it with nobody: it was compared with that one's own index
+	off     []part.Sharing     // devices that share it and aren't audited in it
 	modes   int64              // names of which the permissions alone differ, which don't count for the verdict
 	isApart bool               // whether other devices have theirs of this id, which they share with nobody, too
 	Live    *finding.Live      `json:"live,omitempty"` // of devices that were looked at while they ran, or whose parts are of different moments
@@ -195,7 +196,7 @@ func Of(answer *finding.Answer) *Summary {
 	summary.actions = &actions{safe: map[string]bool{}, wrong: map[wrongAt]*First{}, waits: map[string]*waiting{}}
 	names := []*folding{}
 	for _, folder := range answer.Folders {
-		all := &folding{named: named, going: going{}, to: summary.actions, name: shell.Folder(folder.ID, folder.Label)}
+		all := &folding{named: named, going: going{}, off: offOf(folder), to: summary.actions, name: shell.Folder(folder.ID, folder.Label)}
 		summary.Folders, names = append(summary.Folders, folderOf(answer, folder, all)), append(names, all)
 	}
 	for place, folder := range summary.Folders { // what is told of one name depends on what is told of all others
@@ -242,7 +243,7 @@ func verdictOf(hasFailures, isPartial bool) string {
 
 // folderOf gives the summary of a folder, but for what is told of its names, which it puts there.
 func folderOf(answer *finding.Answer, from *finding.Folder, all *folding) *Folder {
-	folder := &Folder{Outlook: &outlook.Outlook{}, ID: from.ID, Label: from.Label, Own: from.Own != "", isApart: answer.IsApart(from), Verdict: verdictOf(from.HasFailures(), answer.IsPart(from)), Names: from.Names, Deleted: from.Deleted, Going: from.Deleting, Bytes: from.Bytes,
+	folder := &Folder{Outlook: &outlook.Outlook{}, ID: from.ID, Label: from.Label, Own: from.Own != "", isApart: answer.IsApart(from), off: all.off, Verdict: verdictOf(from.HasFailures(), answer.IsPart(from)), Names: from.Names, Deleted: from.Deleted, Going: from.Deleting, Bytes: from.Bytes,
 		Devices: lists.Each(from.Members, memberOf), Files: []*File{}, Groups: []*Group{}, Copies: append([]finding.Conflict{}, from.Conflicts...), LeftOut: append([]*finding.LeftOut{}, from.LeftOut...), Ignored: from.Outside, MoreOut: from.Unlisted.LeftOut, More: from.Unlisted.Conflicts}
 	if from.Outlook != nil {
 		*folder.Outlook = *from.Outlook

@@ -23,10 +23,11 @@ type printer struct {
 func (s *Summary) Print(to io.Writer, zone *time.Location, now time.Time) {
 	noticed := &noticing{to: to}
 	p := &printer{&print.Person{To: noticed, Called: s.Called(), Zone: zone}, now}
+	p.emptied(s)
 	for _, folder := range s.Folders {
 		p.folder(folder)
 	}
-	p.history(s.Since)
+	p.history(s)
 	p.first(s)
 	for _, folder := range s.Folders {
 		p.Outlook(shell.Folder(folder.ID, folder.Label), folder.Verdict != NotInStep, folder.Outlook)

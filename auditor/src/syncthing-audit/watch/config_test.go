@@ -132,6 +132,12 @@ func TestFaultsAreNews(t *testing.T) {
 	if len(lines) != 1+mostNews+1 || lines[0] != `new: '[not-for-typing:a b\x1b]' in docs: StoreDiffers` || lines[len(lines)-1] != "mended: 2 more" {
 		t.Errorf("%q", lines)
 	}
+	since.Deleted = history.List{Count: 1, First: []history.Told{fault}}
+	since.Emptied = []history.Emptied{{Folder: "pics", Files: 2, Of: 2}, {Folder: "docs", Files: 7, Of: 9, IsNew: true}}
+	lines, _ = News(&summary.Summary{Since: since}, false, nil)
+	if !strings.HasPrefix(lines[0], "GONE: 7 of 9 files in docs went ") || lines[2] != `deleted since: '[not-for-typing:a b\x1b]' in docs: StoreDiffers` || len(lines) != 3+mostNews+1 {
+		t.Errorf("%q", lines)
+	}
 	since.Unkept = "no space left"
 	if lines, _ = News(&summary.Summary{Since: since}, false, nil); lines[len(lines)-1] != "the history doesn't have all of this night: no space left" {
 		t.Errorf("%q", lines)

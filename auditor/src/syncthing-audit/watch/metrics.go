@@ -71,6 +71,7 @@ func (m Measured) Text() string {
 	names := &metric{name: "names", help: "Names of a folder that were audited."}
 	out := &metric{name: "left_out", help: "Devices and folders that were left out."}
 	spread := &metric{name: "bytes_changed_everywhere", help: "Files whose bytes changed on all devices under one time."}
+	gone := &metric{name: "files_gone", help: "Files that went from all devices of a folder from which most went at once."}
 	slice := &metric{name: "slice", help: "Which slice of the names the last night was of."}
 	read := &metric{name: "part_timestamp_seconds", help: "When a device's files were read last."}
 	oldest := &metric{name: "oldest_read_timestamp_seconds", help: "When the file of a folder at a device was read whose last reading is the oldest."}
@@ -98,6 +99,9 @@ func (m Measured) Text() string {
 			continue
 		}
 		spread.add(float64(answer.Since.Count))
+		for _, emptied := range answer.Since.Emptied {
+			gone.add(float64(emptied.Files), "folder", emptied.Folder)
+		}
 		for _, read := range answer.Since.Read {
 			if read.Files > 0 {
 				oldest.add(float64(read.Oldest.Unix()), "folder", read.Folder, "device", read.Device, "name", called[read.Device])
@@ -108,7 +112,7 @@ func (m Measured) Text() string {
 		}
 	}
 	text := &strings.Builder{}
-	for _, each := range []*metric{status, ended, wrong, names, out, spread, slice, read, oldest, never} {
+	for _, each := range []*metric{status, ended, wrong, names, out, spread, gone, slice, read, oldest, never} {
 		each.write(text)
 	}
 	return text.String()

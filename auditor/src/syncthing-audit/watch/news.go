@@ -2,10 +2,10 @@ package watch
 
 import (
 	"fmt"
+	"time"
 
 	"syncthing-audit/history"
 	"syncthing-audit/outside"
-	"syncthing-audit/print"
 	"syncthing-audit/shell"
 	"syncthing-audit/summary"
 )
@@ -20,7 +20,7 @@ type Limits map[string]int
 // News says what an answer has that the one before it hadn't, and no longer, a line each. Parts of different moments are told once two nights in a row
 // have them: an edit at night makes such.
 func News(told *summary.Summary, isOfParts bool, before Limits) ([]string, Limits) {
-	lines := faults(told.Since, told.Called())
+	lines := append(emptied(told), faults(told)...)
 	now := Limits{}
 	add := func(what summary.LeftOut, called, why string, nights int) {
 		key := fmt.Sprintf("%s\x00%s\x00%s\x00%s", called, what.Folder, what.Device, what.Kind)
@@ -62,16 +62,30 @@ func placeOf(folder, device string) string {
 	return shell.Folder(folder, "") + " of " + device
 }
 
-// faults says which faults are new, and which are mended.
-func faults(since *history.Since, called print.Names) []string {
+// emptied says from which folders most files went since the last night. It comes before all else.
+func emptied(told *summary.Summary) []string {
 	lines := []string{}
+	if told.Since == nil {
+		return lines
+	}
+	for _, folder := range told.Since.Emptied {
+		if folder.IsNew {
+			lines = append(lines, outside.Sprintf("%s", told.WordsOfEmptied(folder, time.Local)[0]))
+		}
+	}
+	return lines
+}
+
+// faults says which faults are new, which are of names that are deleted since, and which are mended.
+func faults(told *summary.Summary) []string {
+	lines, since, called := []string{}, told.Since, told.Called()
 	if since == nil {
 		return lines
 	}
 	for _, kind := range []struct {
 		called string
 		all    history.List
-	}{{"new", since.New}, {"mended", since.Mended}} {
+	}{{"new", since.New}, {"deleted since", since.Deleted}, {"mended", since.Mended}} {
 		for place, fault := range kind.all.First {
 			if place == mostNews {
 				break
@@ -80,7 +94,8 @@ func faults(since *history.Since, called print.Names) []string {
 			if fault.Device != "" {
 				on = " on " + called(fault.Device)
 			}
-			lines = append(lines, outside.Sprintf("%s: %s in %s%s: %s", kind.called, shell.Path(string(fault.Name)), shell.Folder(fault.Folder, ""), on, fault.Reason))
+			lines = append(lines, outside.Sprintf("%s: %s in %s%s: %s%s", kind.called, shell.Path(string(fault.Name)), shell.Folder(fault.Folder, ""), on, fault.Reason,
+				told.WordsOfHeld(&kind.all.First[place], time.Local)))
 		}
 		if kind.all.Count > mostNews {
 			lines = append(lines, outside.Sprintf("%s: %d more", kind.called, kind.all.Count-mostNews))

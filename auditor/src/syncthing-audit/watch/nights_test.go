@@ -23,7 +23,7 @@ func TestMetricsOfANight(t *testing.T) {
 	at := func(second int64) time.Time { return time.Unix(second, 0) }
 	answer := func(folder string) *summary.Summary {
 		return &summary.Summary{LeftOut: make([]summary.LeftOut, 2), Folders: []*summary.Folder{{ID: folder, Wrong: 3, Names: 40}}, Devices: []summary.Device{{ID: "A", Name: "la\"p\\t\nop\xff", Read: at(50)}},
-			Since: &history.Since{Count: 6, Read: []history.Read{{Folder: folder, Device: "A", Files: 1, Oldest: at(7)}, {Folder: folder, Device: "B", Files: 0, Oldest: at(8)}},
+			Since: &history.Since{Count: 6, Emptied: []history.Emptied{{Folder: folder, Files: 12}}, Read: []history.Read{{Folder: folder, Device: "A", Files: 1, Oldest: at(7)}, {Folder: folder, Device: "B", Files: 0, Oldest: at(8)}},
 				Waiting: []history.Waiting{{Folder: folder, Device: "A", Files: 9, Never: 5}, {Folder: folder, Device: "B", Files: 4}}}}
 	}
 	other := answer("pics")
@@ -37,6 +37,7 @@ func TestMetricsOfANight(t *testing.T) {
 		{"names", "Names of a folder that were audited.", `{folder="docs",slice="2/7"} 40` + "|" + `{folder="pics",slice="2/7"} 40`},
 		{"left_out", "Devices and folders that were left out.", " 4"},
 		{"bytes_changed_everywhere", "Files whose bytes changed on all devices under one time.", " 6"},
+		{"files_gone", "Files that went from all devices of a folder from which most went at once.", `{folder="docs"} 12`},
 		{"slice", "Which slice of the names the last night was of.", `{of="7"} 2`},
 		{"part_timestamp_seconds", "When a device's files were read last.", `{device="A",name="la\"p\\t\nop?"} 50`},
 		{"oldest_read_timestamp_seconds", "When the file of a folder at a device was read whose last reading is the oldest.", `{folder="docs",device="A",name="la\"p\\t\nop?"} 7`},
