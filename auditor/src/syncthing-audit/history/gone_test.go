@@ -120,3 +120,37 @@ func TestWhoHadWhatIsDeleted(t *testing.T) {
 		t.Errorf("%+v", held)
 	}
 }
+
+// Bytes are had by devices that aren't asked now and have them by what was read last; those of a file that is gone everywhere can still be looked for.
+func TestWhoHasBytesThatAreWanted(t *testing.T) {
+	good, rotten := device{"f": {bytes: 'a', recorded: 'a'}}, device{"f": {bytes: 'b', recorded: 'a'}}
+	content := func(of byte) part.Content { return part.Content{Size: 9, BlockSize: 131072, Hash: part.Hash{of}} }
+	for _, row := range []struct {
+		why  string
+		days []map[int]device
+		had  string
+	}{
+		{"a device is off", []map[int]device{{0: rotten, 1: good}, {0: rotten}}, ids[1]},
+		{"it is asked", []map[int]device{{0: rotten, 1: good}, {0: rotten, 1: good}}, ""},
+		{"it had other bytes", []map[int]device{{0: good, 1: rotten}, {0: rotten}}, ""},
+		{"it deleted the file before it was off", []map[int]device{{0: rotten, 1: good}, {0: rotten, 1: {}}, {0: rotten}}, ""},
+	} {
+		history, since := opened(t), (*Since)(nil)
+		for day, devices := range row.days {
+			since = history.auditOf(t, day, devices, nil)
+		}
+		had := ""
+		for _, held := range since.Had("docs", "f", content('a')) {
+			had += held.Device
+		}
+		if had != row.had || len(since.Had("docs", "other", content('a'))) > 0 {
+			t.Errorf("%s: %q, not %q", row.why, had, row.had)
+		}
+	}
+	history := opened(t)
+	history.mustTake(t, 0, good, good)
+	history.mustTake(t, 1, device{}, device{})
+	if found, err := history.Wanted("docs", "f"); err != nil || len(found) != 1 || found[0].Content != content('a') {
+		t.Errorf("%+v, %v", found, err)
+	}
+}
