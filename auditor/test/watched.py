@@ -120,7 +120,7 @@ class Watched(Nights):
         self.night()
         status, _, mails = self.night(both)
         self.assertEqual((status, self.subjects(mails)), (6, ["in step as far as audited, with news"]))
-        self.assertRegex(mails, r"(?m)^left out: off: off: its command ended with exit status 255: ssh: connect to host off: No route to host")
+        self.assertRegex(mails, r"(?m)^left out: off: its command ended with exit status 255: ssh: connect to host off: No route to host")
         self.assertEqual(self.night(both)[::2], (6, ""))
         undo = rot(self.room / "made/device2/files/00000/03.bin", 5)
         try:
