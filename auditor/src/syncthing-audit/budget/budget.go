@@ -22,7 +22,7 @@ type Plan struct {
 // Asked is what a plan is made for.
 type Asked struct {
 	Bytes   int64                          // how many, of all devices together; the last file may go over them
-	IsFault func(folder, name string) bool // whether something was wrong with a name before: such names have the first half of the bytes
+	IsFault func(folder, name string) bool // whether something was wrong with a name before: such names come first
 	Room    string                         // a directory for what is chosen
 }
 
@@ -58,26 +58,28 @@ func keyOf(folder, name string) []byte { return append(append([]byte(folder), 0)
 
 // choose counts what waits how long, and then chooses names in the order of folders and names, as far as their turn and the bytes go.
 func (p *Plan) choose(ctx context.Context, asked Asked) error {
-	faults, others := &queue{costs: map[int64]int64{}}, &queue{costs: map[int64]int64{}}
-	queueOf := func(folder string, name *name) *queue {
-		if name.bytes <= asked.Bytes/2 && asked.IsFault(folder, name.name) {
+	faults, others, first := &queue{costs: map[int64]int64{}}, &queue{costs: map[int64]int64{}}, &large{most: asked.Bytes}
+	queueOf := func(folder string, name *name, isFault bool) *queue {
+		if isFault && name.bytes <= asked.Bytes/2 {
 			return faults
 		}
 		return others
 	}
 	err := p.eachName(ctx, func(folder string, name *name) error {
-		queueOf(folder, name).add(name)
+		isFault := asked.IsFault(folder, name.name)
+		first.see(folder, name, isFault)
+		queueOf(folder, name, isFault).add(name)
 		return nil
 	})
 	if err != nil {
 		return err
 	}
-	spent := faults.limit(asked.Bytes / 2)
-	others.limit(asked.Bytes - spent)
+	left := asked.Bytes - first.takeFrom(others)
+	others.limit(left - faults.limit(left/2))
 	var batch leveldb.Batch
 	counts := newCounts(p.places)
 	err = p.eachName(ctx, func(folder string, name *name) error {
-		if !queueOf(folder, name).takes(name) {
+		if !first.is(folder, name) && !queueOf(folder, name, asked.IsFault(folder, name.name)).takes(name) {
 			counts.wait(name)
 			return nil
 		}

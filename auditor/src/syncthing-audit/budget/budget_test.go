@@ -205,6 +205,42 @@ func TestFaultsFirst(t *testing.T) {
 	}
 }
 
+// What was at fault and takes more than half of the bytes comes first, too, at every other look: so the others have half of all bytes. What takes all of
+// them has its turn alone.
+func TestALargeFault(t *testing.T) {
+	for size, most := range map[int64]int{200: 12, 201: 6, 399: 6, 400: 4, 3000: 4} {
+		c := newCluster(t, 2)
+		for at := 0; at < 10; at++ {
+			c.record(fmt.Sprintf("file %02d", at), 50, 0, 1)
+		}
+		c.record("large", size/2, 0)
+		c.record("large", size-size/2, 1)
+		c.faults = map[string]bool{"large": true}
+		times, isLast := map[string]int{}, false
+		for at := 0; at < 12; at++ {
+			asked := c.look(400, int64(at+1), all)
+			isAfter := asked["large"] && isLast
+			if isLast = asked["large"]; isAfter && size > 200 || at == 0 && isLast != (size < 400) || isLast && size < 400 && len(asked) == 1 {
+				t.Errorf("%d bytes, look %d: %v", size, at, asked)
+			}
+			if bytes := 100 * int64(len(asked)-1); isLast && size < 400 && bytes+size > 400+100 {
+				t.Errorf("%d bytes, look %d: %d bytes", size, at, bytes+size)
+			}
+			for name := range asked {
+				times[name]++
+			}
+		}
+		if times["large"] != most {
+			t.Errorf("%d bytes: %v", size, times)
+		}
+		for name := range c.sizes {
+			if times[name] == 0 {
+				t.Errorf("%d bytes: %s wasn't asked for", size, name)
+			}
+		}
+	}
+}
+
 // What isn't asked for is told of each device, with how much was never read, and when the rest was.
 func TestWhatWaits(t *testing.T) {
 	c := newCluster(t, 2)

@@ -75,14 +75,15 @@ func drawPlaces(t *testing.T, random *rand.Rand, to *history.History) []drawnPla
 	return places
 }
 
-// chosenPlainly says which names are asked for, slowly: those that wait longest, of faults first for half of the bytes.
+// chosenPlainly says which names are asked for, slowly: those that wait longest, of faults first for half of the bytes. Before them comes the large fault
+// that waits longest, unless it was asked for at the last look.
 func chosenPlainly(places []drawnPlace, bytes int64, isFault func(folder, name string) bool) map[string]bool {
 	type waiting struct {
-		key         string
-		at, bytes   int64
-		isSmallFlaw bool
+		key       string
+		at, bytes int64
+		isFlaw    bool
 	}
-	all := map[string]*waiting{}
+	all, half := map[string]*waiting{}, bytes/2
 	for _, place := range places {
 		for name, file := range place.files {
 			if !file.hasBytes() || !place.Names.Has(place.Folder, name) {
@@ -96,13 +97,30 @@ func chosenPlainly(places []drawnPlace, bytes int64, isFault func(folder, name s
 				all[key].at = file.waits()
 			}
 			all[key].bytes += file.size
-			all[key].isSmallFlaw = isFault(place.Folder, name)
+			all[key].isFlaw = isFault(place.Folder, name)
 		}
 	}
 	chosen, queues := map[string]bool{}, map[bool][]*waiting{}
+	var large *waiting
+	last := int64(0)
 	for _, name := range all {
-		isFirst := name.isSmallFlaw && name.bytes <= bytes/2
-		queues[isFirst] = append(queues[isFirst], name)
+		if name.at > last {
+			last = name.at
+		}
+		isLarge := name.isFlaw && name.bytes > bytes/2 && name.bytes < bytes
+		if isLarge && (large == nil || name.at < large.at || name.at == large.at && name.key < large.key) {
+			large = name
+		}
+	}
+	if large != nil && (large.at == 0 || large.at < last) {
+		chosen[large.key] = true
+		bytes -= large.bytes
+	}
+	for _, name := range all {
+		if !chosen[name.key] {
+			isFirst := name.isFlaw && name.bytes <= half
+			queues[isFirst] = append(queues[isFirst], name)
+		}
 	}
 	take := func(queue []*waiting, most int64) (spent int64) {
 		sort.Slice(queue, func(a, b int) bool {
