@@ -59,6 +59,35 @@ class ObservedBudget(Observing):
         ran = self.observe("--budget", "1GB", "--history", self.room / "history", "--lines")
         self.assertNotIn("\nnot read: ", ran.stdout)
 
+    def test_rot_is_not_forgotten(self):
+        """What was found while one device was off is told by each look, also where there are too few bytes to read it on both."""
+        path = self.devices[1].files / "file 3"
+        good, about = path.read_bytes(), path.stat()
+        path.write_bytes(b"rot" + good[3:])
+        os.utime(path, ns=(about.st_atime_ns, about.st_mtime_ns))
+        self.devices[0].stop()
+        ran = self.observe("--json", "--budget", "1.5MB", "--history", self.room / "history", "--leave-out", "absent")
+        self.assertEqual((ran.returncode, [one["name"] for one in json.loads(ran.stdout)["folders"][0]["files"]]), (1, ["file 3"]), ran.stderr)
+        self.devices[0].start()
+        wait_until_in_step(*self.devices)
+        read = []
+        for budget in ("0.7MB", "0.7MB", "0.7MB", "0.4MB", "0.4MB"):
+            status, told = self.observed("--budget", budget, "--history", self.room / "history")
+            folder, unread = told["folders"][0], told["since"]["not_read_again"]["first"]
+            found = [one["name"] for one in folder["files"]] + [one["name"] for one in unread]
+            self.assertEqual((status, told["verdict"], folder["verdict"], folder["names_wrong"], found), (1, "not-in-step", "not-in-step", 1, ["file 3"]))
+            self.assertTrue(all(one["device"] == self.devices[1].id and one["last"] >= one["first"] for one in unread), unread)
+            read.append(not unread)
+        self.assertEqual(read[:3], [True, False, True])
+        ran = self.observe("--budget", "0.4MB", "--history", self.room / "history")
+        if "isn't read again" in ran.stdout:
+            self.assertRegex(ran.stdout, "(?m)^  'file 3' in .*: found with other bytes on 20.*, not read again since [(]StoreDiffers[)]$")
+        self.assertEqual(ran.returncode, 1, ran.stdout)
+        path.write_bytes(good)
+        os.utime(path, ns=(about.st_atime_ns, about.st_mtime_ns))
+        status, told = self.observed("--budget", "1GB", "--history", self.room / "history")
+        self.assertEqual((status, [one["name"] for one in told["since"]["mended"]["first"]]), (6, ["file 3"]))
+
     def test_it_goes_on(self):
         """Each look answers. A device that isn't there for a while is left out of some, which is told once, and so is that it is back."""
         log = self.room / "log of observe"

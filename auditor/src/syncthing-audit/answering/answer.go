@@ -40,7 +40,9 @@ func Tell(output, log io.Writer, asked commandline.Options, answer *finding.Answ
 	to := bufio.NewWriter(fault.Writer{To: output})
 	switch {
 	case asked.Lines:
-		report.Lines(to, answer, dangersOf(answer, told))
+		dangers := dangersOf(answer, told)
+		dangers.IsUnread = since.HasUnread()
+		report.Lines(to, answer, dangers)
 		report.Since(to, since)
 	case asked.JSON:
 		err = told.WriteJSON(to)
@@ -62,7 +64,10 @@ func Tell(output, log io.Writer, asked commandline.Options, answer *finding.Answ
 	if asked.Take != nil {
 		asked.Take(told)
 	}
-	if status := Status(answer); status != exit.Done || since == nil || !since.IsToLookAt() {
+	switch status := Status(answer); {
+	case since.HasUnread():
+		return exit.NotSettled, nil
+	case status != exit.Done || since == nil || !since.IsToLookAt():
 		return status, nil
 	}
 	return exit.Partial, nil

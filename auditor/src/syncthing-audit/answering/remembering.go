@@ -109,14 +109,16 @@ func (r *Remembering) keep(answer *finding.Answer, now time.Time) (*history.Sinc
 	for _, device := range answer.Devices {
 		audited.IDs[device.Number] = device.ID
 	}
-	audited.Names = func(folder, name string) bool {
+	isAsked := func(folder, name string) bool {
 		for _, told := range answer.Folders {
 			if told.ID == folder && !isOld[folder] && told.Asked().Has(folder, name) {
-				return r.watch.IsClear(folder, name)
+				return true
 			}
 		}
 		return false
 	}
+	audited.Names = func(folder, name string) bool { return isAsked(folder, name) && r.watch.IsClear(folder, name) }
+	audited.IsUnread = func(fault history.Fault) bool { return isAsked(fault.Folder, fault.Name) && r.watch.IsUnread(fault) }
 	since, err := r.History.Since(audited)
 	if isWithoutRoom(err) {
 		return history.NotKept(err), nil

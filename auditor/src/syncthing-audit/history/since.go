@@ -16,9 +16,10 @@ type Since struct {
 	Before  *time.Time `json:"audit_before,omitempty"` // when the audit before this one was kept
 	New     List       `json:"new"`                    // faults that the audit before didn't find
 	Lasting List       `json:"lasting"`
-	Mended  List       `json:"mended"`     // found before; the name was audited, and isn't at fault any more
-	Deleted List       `json:"deleted"`    // found before; nothing is there any more
-	Unasked List       `json:"not_looked"` // found before; the name wasn't audited now
+	Mended  List       `json:"mended"`         // found before; the name was audited, and isn't at fault any more
+	Deleted List       `json:"deleted"`        // found before; nothing is there any more
+	Unread  List       `json:"not_read_again"` // found before on a disk; its bytes weren't asked for now, so it counts as wrong
+	Unasked List       `json:"not_looked"`     // found before; the name wasn't audited now
 	Changed []Changed  `json:"bytes_changed_everywhere"`
 	Count   int64      `json:"bytes_changed_everywhere_count"`   // of all, also of those that aren't listed
 	Taken   []Changed  `json:"bytes_changed_and_recorded"`       // on these devices, and not on all that have the file
@@ -28,7 +29,8 @@ type Since struct {
 	Emptied []Emptied  `json:"emptied,omitempty"`
 	Unkept  string     `json:"not_kept,omitempty"` // why the history doesn't have all of this audit
 
-	Directory string `json:"-"` // of the history
+	Directory string           `json:"-"` // of the history
+	UnreadIn  map[string]int64 `json:"-"` // how many names weren't read again, by folders, at which nothing else is wrong
 
 	// Had gives the devices that aren't audited now and had these bytes of a file when it was read there last.
 	Had func(folder, name string, content part.Content) []Held `json:"-"`
@@ -47,6 +49,7 @@ type Told struct {
 	Device string     `json:"device,omitempty"` // its id; none where the fault is of the folder's devices together
 	Reason string     `json:"reason"`
 	First  time.Time  `json:"first"`
+	Last   time.Time  `json:"last"`
 	Audits int64      `json:"audits"`
 	Held   []Held     `json:"held,omitempty"` // of a name that is deleted since: who had which bytes
 }
@@ -76,7 +79,7 @@ type Read struct {
 // NotKept gives what is said where a history can't be opened or written: of what is new nothing is known.
 func NotKept(why error) *Since {
 	none := List{First: []Told{}}
-	return &Since{New: none, Lasting: none, Mended: none, Deleted: none, Unasked: none, Changed: []Changed{}, Taken: []Changed{}, Read: []Read{}, Unkept: why.Error()}
+	return &Since{New: none, Lasting: none, Mended: none, Deleted: none, Unread: none, Unasked: none, Changed: []Changed{}, Taken: []Changed{}, Read: []Read{}, Unkept: why.Error()}
 }
 
 // Audited is an audit that is to be kept.
@@ -86,9 +89,11 @@ type Audited struct {
 	Folders map[string][]uint64 // the devices of each folder that were audited
 	Sharing map[string][]uint64 // other devices that share these folders
 	Names   func(folder, name string) bool
-	IDs     map[uint64]string                             // of devices
-	IsThere func(folder, name string, device uint64) bool // of names at fault before
-	Stayed  map[string]int64                              // of each folder: how many files that were read before still stand
+	// Whether the bytes that a fault is of weren't asked for, where others of its device were looked at.
+	IsUnread func(Fault) bool
+	IDs      map[uint64]string                             // of devices
+	IsThere  func(folder, name string, device uint64) bool // of names at fault before
+	Stayed   map[string]int64                              // of each folder: how many files that were read before still stand
 }
 
 // Since keeps an audit, and says what the history has beside its answer.
@@ -113,10 +118,12 @@ func (h *History) Since(audit Audited) (*Since, error) {
 		return nil, err
 	}
 	mended, deleted := audit.split(news.Mended)
+	unread, unasked := splitUnread(news.Unasked, audit.IsUnread)
+	since.UnreadIn = namesIn(unread, audit.Found)
 	for _, kind := range []struct {
 		faults []Fault
 		to     *List
-	}{{news.New, &since.New}, {news.Lasting, &since.Lasting}, {mended, &since.Mended}, {deleted, &since.Deleted}, {news.Unasked, &since.Unasked}} {
+	}{{unread, &since.Unread}, {news.New, &since.New}, {news.Lasting, &since.Lasting}, {mended, &since.Mended}, {deleted, &since.Deleted}, {unasked, &since.Unasked}} {
 		if *kind.to, err = h.list(kind.faults, audit.IDs); err != nil {
 			return nil, err
 		}
@@ -211,7 +218,7 @@ func (h *History) list(faults []Fault, ids map[uint64]string) (List, error) {
 		if err != nil {
 			return List{}, err
 		}
-		told.First = append(told.First, Told{Folder: fault.Folder, Name: part.Bytes(fault.Name), Device: ids[fault.Device], Reason: fault.Cause, First: seen.First, Audits: seen.Audits})
+		told.First = append(told.First, Told{Folder: fault.Folder, Name: part.Bytes(fault.Name), Device: ids[fault.Device], Reason: fault.Cause, First: seen.First, Last: seen.Last, Audits: seen.Audits})
 	}
 	return told, nil
 }

@@ -64,6 +64,7 @@ func (t *Tee) End() error {
 type Watch struct {
 	mutex   sync.Mutex
 	unclear map[place]bool     // names that were at fault: whether a device leaves one out, or it moved there
+	unread  map[at]bool        // of these names those whose bytes weren't asked for
 	there   map[place][]uint64 // devices on which something stands at such a name, or is recorded
 }
 
@@ -72,7 +73,7 @@ type place struct{ folder, name string }
 
 // Watch gives a watch over all names that were at fault.
 func (h *History) Watch() (*Watch, error) {
-	watch := &Watch{unclear: map[place]bool{}, there: map[place][]uint64{}}
+	watch := &Watch{unclear: map[place]bool{}, unread: map[at]bool{}, there: map[place][]uint64{}}
 	err := h.each([]byte{ofFault}, func(key, _ []byte) error {
 		folder, name, _, _, err := readName(key)
 		watch.unclear[place{folder, name}] = false
@@ -95,15 +96,18 @@ func (w *Watch) take(folder string, line *part.Name, head *part.Head) {
 	}
 	w.mutex.Lock()
 	defer w.mutex.Unlock()
-	at := place{folder, string(line.Name)}
-	if _, is := w.unclear[at]; !is {
+	name := place{folder, string(line.Name)}
+	if _, is := w.unclear[name]; !is {
 		return
 	}
 	if len(line.Out) > 0 || len(line.Moved) > 0 || isUnclearOverWire(head, line) {
-		w.unclear[at] = true
+		w.unclear[name] = true
+		if isUnreadOverWire(head, line) {
+			w.unread[at{name, head.Number()}] = true
+		}
 	}
 	if line.Disk != nil || line.Own != nil && !line.Own.Deleted {
-		w.there[at] = append(w.there[at], head.Number())
+		w.there[name] = append(w.there[name], head.Number())
 	}
 }
 
@@ -113,6 +117,13 @@ func (w *Watch) IsThere(folder, name string, device uint64) bool {
 	defer w.mutex.Unlock()
 	at := w.there[place{folder, name}]
 	return slices.Contains(at, device) || device == 0 && len(at) > 0
+}
+
+// IsUnread says whether the bytes that a fault is of weren't asked for.
+func (w *Watch) IsUnread(fault Fault) bool {
+	w.mutex.Lock()
+	defer w.mutex.Unlock()
+	return w.unread[atOf(fault)]
 }
 
 // IsClear says whether no device left a name out or had it in motion.

@@ -34,3 +34,9 @@ func isUnclearOverWire(head *part.Head, line *part.Name) bool {
 	}
 	return disk == nil || disk.Size != own.Content.Size
 }
+
+// isUnreadOverWire says whether bytes are recorded under a name of such a part, and weren't asked for.
+func isUnreadOverWire(head *part.Head, line *part.Name) bool {
+	own := line.Own
+	return head.IsOverWireAlone() && (head.IsOfRecords() || line.NotRead) && own != nil && !own.Deleted && own.Content != nil
+}

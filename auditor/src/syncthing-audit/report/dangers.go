@@ -10,6 +10,7 @@ import (
 
 // Dangers are what a start, a scan or a revert may lose.
 type Dangers struct {
+	IsUnread     bool // whether an audit before found a fault of a disk that nobody read since
 	First        []First
 	Disks        []Disk
 	UnderOneTime []UnderOneTime

@@ -16,12 +16,14 @@ import (
 	"syncthing-audit/shell"
 )
 
-// Verdict gives the first line of an answer, in syncaudit's words.
-func Verdict(answer *finding.Answer) string {
+// Verdict gives the first line of an answer, in syncaudit's words. What an audit before found on a disk, and nobody read since, isn't settled.
+func Verdict(answer *finding.Answer, isUnread bool) string {
 	folder, first := answer.First()
 	switch {
 	case first != nil:
 		return "not settled: " + ask.Line(folder.ID, first)
+	case isUnread:
+		return "not settled, as found before and not read again"
 	case answer.IsPartial():
 		return "settled as far as audited"
 	}
@@ -30,7 +32,7 @@ func Verdict(answer *finding.Answer) string {
 
 // Lines prints the verdict, the counts of each folder, and all that was found, a line each, in syncaudit's words.
 func Lines(to io.Writer, answer *finding.Answer, dangers *Dangers) {
-	outside.Println(to, Verdict(answer))
+	outside.Println(to, Verdict(answer, dangers != nil && dangers.IsUnread))
 	for _, folder := range answer.Folders {
 		outside.Printf(to, "folder %s: %d names, %d deleted, %d devices\n", folder.ID, folder.Names, folder.Deleted, len(folder.Members))
 	}

@@ -64,8 +64,15 @@ func TestVerdicts(t *testing.T) {
 			"not settled: NotWinner pics z"},
 	}
 	for _, one := range cases {
-		if verdict := Verdict(&one.answer); verdict != one.verdict {
+		if verdict := Verdict(&one.answer, false); verdict != one.verdict {
 			t.Errorf("%s: %q, not %q", one.why, verdict, one.verdict)
+		}
+		due := one.verdict // what wasn't read again is no comfort, and what is wrong now comes first
+		if !strings.HasPrefix(due, "not settled: ") {
+			due = "not settled, as found before and not read again"
+		}
+		if verdict := Verdict(&one.answer, true); verdict != due {
+			t.Errorf("%s, not read again: %q, not %q", one.why, verdict, due)
 		}
 	}
 }
@@ -229,7 +236,7 @@ not heard of: docs on 2 of 1: 4 names
 		t.Errorf("%s\nnot\n%s", written.String(), expected)
 	}
 	folder.Live = &finding.Live{}
-	if verdict := Verdict(&finding.Answer{Folders: []*finding.Folder{folder}}); verdict != "settled" {
+	if verdict := Verdict(&finding.Answer{Folders: []*finding.Folder{folder}}, false); verdict != "settled" {
 		t.Errorf("all still: %s", verdict)
 	}
 }

@@ -37,6 +37,13 @@ func Since(to io.Writer, since *history.Since) {
 	if more := since.Takes - int64(len(since.Taken)); more > 0 {
 		outside.Printf(to, "changed and recorded: %d more\n", more)
 	}
+	for _, fault := range since.Unread.First {
+		outside.Printf(to, "not read again: %s %s %s%s since %s, found last %s\n", fault.Reason, fault.Folder, printed(string(fault.Name)), onDevice(fault.Device), fault.First.Format(time.RFC3339),
+			fault.Last.Format(time.RFC3339))
+	}
+	if more := since.Unread.Count - int64(len(since.Unread.First)); more > 0 {
+		outside.Printf(to, "not read again: %d more\n", more)
+	}
 	for _, kind := range []struct {
 		word string
 		list history.List

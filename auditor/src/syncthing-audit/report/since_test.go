@@ -23,11 +23,11 @@ func TestLinesOfAHistory(t *testing.T) {
 	list := func(count int64, reason string, devices ...string) history.List {
 		made := history.List{Count: count}
 		for _, device := range devices {
-			made.First = append(made.First, history.Told{Folder: "docs", Name: "a b", Device: device, Reason: reason, First: at(3)})
+			made.First = append(made.First, history.Told{Folder: "docs", Name: "a b", Device: device, Reason: reason, First: at(3), Last: at(4)})
 		}
 		return made
 	}
-	since := &history.Since{Before: &before, New: list(1, "StoreDiffers", one), Lasting: list(3, "NotWinner", "", two), Mended: list(4, "X"), Unasked: list(0, "X"), Deleted: list(2, "StoreDiffers", one),
+	since := &history.Since{Before: &before, New: list(1, "StoreDiffers", one), Lasting: list(3, "NotWinner", "", two), Mended: list(4, "X"), Unasked: list(0, "X"), Unread: list(3, "StoreUnclean", two), Deleted: list(2, "StoreDiffers", one),
 		Emptied: []history.Emptied{{Folder: "docs", Files: 7, Of: 9, Since: at(1), Found: at(2)}},
 		Changed: []history.Changed{{Folder: "docs", Name: "c", Devices: []string{one, two}, Before: at(4), Since: at(5)}}, Count: 3,
 		Taken: []history.Changed{{Folder: "docs", Name: "d", Devices: []string{one, two}, Before: at(6), Since: at(7)}}, Takes: 2,
@@ -41,6 +41,8 @@ changed everywhere: 2 more
 changed and recorded: docs d on ONE between 2026-11-29T06:00:00Z and 2026-11-29T07:00:00Z
 changed and recorded: docs d on TWO between 2026-11-29T06:00:00Z and 2026-11-29T07:00:00Z
 changed and recorded: 1 more
+not read again: StoreUnclean docs a\x20b on TWO since 2026-11-29T03:00:00Z, found last 2026-11-29T04:00:00Z
+not read again: 2 more
 new: StoreDiffers docs a\x20b on ONE since 2026-11-29T03:00:00Z
 lasts: NotWinner docs a\x20b since 2026-11-29T03:00:00Z
 lasts: NotWinner docs a\x20b on TWO since 2026-11-29T03:00:00Z
@@ -66,7 +68,7 @@ not kept in the history: no room
 			t.Errorf("%q", made)
 		}
 	}
-	since.Count, since.Takes, since.Lasting.Count, since.Deleted.Count = 1, 1, 2, 1 // all are listed
+	since.Count, since.Takes, since.Lasting.Count, since.Deleted.Count, since.Unread.Count = 1, 1, 2, 1, 1 // all are listed
 	if made := sinceOf(since); strings.Count(made, " more\n") != 1 {
 		t.Error(made)
 	}

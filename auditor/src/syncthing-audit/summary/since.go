@@ -14,14 +14,20 @@ import (
 // mostNews is how many names the text lists of each kind; --json has more.
 const mostNews = 5
 
-// Remember adds what a history says beside the answer. Where bytes changed under one time and are recorded so, that comes before all steps: these take it for
-// an edit.
+// Remember adds what a history says beside the answer. Names of which an audit before found other bytes, and which nobody read since, count as wrong. Where
+// bytes changed under one time and are recorded so, that comes before all steps: these take it for an edit.
 func (s *Summary) Remember(since *history.Since) {
 	s.Since = since
 	if since == nil {
 		return
 	}
 	s.rememberOff()
+	for _, folder := range s.Folders {
+		if folder.Unread = since.UnreadIn[folder.ID]; folder.Unread > 0 {
+			folder.Wrong += folder.Unread
+			folder.Verdict, s.Verdict = NotInStep, NotInStep
+		}
+	}
 	if since.Takes == 0 {
 		return
 	}
@@ -50,6 +56,7 @@ func (p *printer) history(s *Summary) {
 		return ", and are recorded there. If nobody changed it, first copy it elsewhere from a device that has the bytes before, or from a backup in DIR (" + find +
 			"), and take no step below that sends it from " + devices
 	})
+	p.unread(since)
 	switch {
 	case since.Before != nil:
 		p.news(s)
@@ -62,6 +69,19 @@ func (p *printer) history(s *Summary) {
 	if since.Unkept != "" {
 		p.Line("not kept in the history: %s", since.Unkept)
 	}
+}
+
+// unread tells of names of which an audit before found other bytes, and which nobody read since.
+func (p *printer) unread(since *history.Since) {
+	places := placesOf(since.Unread.First)
+	if len(places) == 0 {
+		return
+	}
+	p.Line("not read again: what stands on a disk was other than recorded when it was read last, so it counts as wrong until it is read and right. The next looks " +
+		"ask for it first, as far as --budget goes; one without --budget and --records reads all")
+	listed(p, mostNews, int64(len(places)), places, "--json has the first "+thousands(history.MostListed), func(place *history.Told) string {
+		return fmt.Sprintf("%s in %s%s: found with other bytes on %s, not read again since (%s)", shell.Quoted(string(place.Name)), place.Folder, p.onDevice(place.Device), p.day(place.Last), place.Reason)
+	})
 }
 
 // changed tells of files whose bytes changed under one time, and what to do if nobody changed them.
@@ -85,6 +105,9 @@ func (p *printer) news(s *Summary) {
 		counted(since.Lasting.Count, "lasts", "last")}
 	if since.Deleted.Count > 0 {
 		told = append(told, counted(since.Deleted.Count, "is of a name that is deleted since", "are of names that are deleted since"))
+	}
+	if since.Unread.Count > 0 {
+		told = append(told, counted(since.Unread.Count, "wasn't read again", "weren't read again"))
 	}
 	if since.Unasked.Count > 0 {
 		told = append(told, counted(since.Unasked.Count, "wasn't looked at", "weren't looked at"))

@@ -73,3 +73,32 @@ func TestWhatChangedAndIsRecordedComesFirst(t *testing.T) {
 		t.Errorf("%+v", summary)
 	}
 }
+
+// What an audit before found on a disk, and nobody read since, keeps its folder from being in step, and is told before what is new.
+func TestWhatIsNotReadAgainCountsAsWrong(t *testing.T) {
+	day := func(number int) time.Time { return time.Date(2026, 1, number, 3, 0, 0, 0, time.UTC) }
+	before := day(4)
+	unread := history.List{Count: 1, First: []history.Told{{Folder: "docs", Name: "a b", Device: "1", Reason: "StoreDiffers", First: day(2), Last: day(3)}}}
+	since := &history.Since{Before: &before, Unread: unread, UnreadIn: map[string]int64{"docs": 1}}
+	for _, row := range []struct {
+		wrong   int64
+		verdict string
+	}{{0, AsFar}, {0, InStep}, {2, NotInStep}} {
+		docs, pics := &Folder{ID: "docs", Verdict: row.verdict, Wrong: row.wrong}, &Folder{ID: "pics", Verdict: row.verdict, Wrong: row.wrong}
+		summary := &Summary{Verdict: row.verdict, Folders: []*Folder{docs, pics}}
+		summary.Remember(since)
+		if summary.Verdict != NotInStep || docs.Verdict != NotInStep || docs.Wrong != row.wrong+1 || docs.Unread != 1 || pics.Verdict != row.verdict || pics.Wrong != row.wrong || pics.Unread != 0 {
+			t.Errorf("%s: %+v, %+v", summary.Verdict, docs, pics)
+		}
+		if words := printerOf(&strings.Builder{}, nil).verdict(docs); !strings.HasPrefix(words, "NOT in step, ") || !strings.HasSuffix(words, " wrong, of which 1 was found so before and isn't read again") {
+			t.Error(words)
+		}
+	}
+	var told strings.Builder
+	printerOf(&told, map[string]string{"1": "laptop"}).history(&Summary{Since: since})
+	lines := strings.Split(told.String(), "\n")
+	if len(lines) != 4 || !strings.HasPrefix(lines[0], "not read again: ") || lines[1] != "  'a b' in docs on laptop: found with other bytes on 2026-01-03 03:00, not read again since (StoreDiffers)" ||
+		lines[2] != "since the audit of 2026-01-04 03:00: 0 faults are new, 0 are mended, 0 last, 1 wasn't read again" {
+		t.Errorf("%s", told.String())
+	}
+}

@@ -92,7 +92,8 @@ type Folder struct {
 	Going   int64              `json:"being_deleted"`
 	Bytes   int64              `json:"bytes_hashed"`
 	Devices []Member           `json:"devices"`
-	Wrong   int64              `json:"names_wrong"` // files, directories and symlinks that keep the folder from being in step
+	Wrong   int64              `json:"names_wrong"`                    // files, directories and symlinks that keep the folder from being in step
+	Unread  int64              `json:"names_not_read_again,omitempty"` // of these what a history alone has as wrong: nobody read it since
 	Files   []*File            `json:"files"`
 	Groups  []*Group           `json:"groups"`
 	Copies  []finding.Conflict `json:"conflict_copies"`

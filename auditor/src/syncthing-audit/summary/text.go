@@ -47,6 +47,9 @@ func (s *Summary) Print(to io.Writer, zone *time.Location, now time.Time) {
 func (p *printer) verdict(folder *Folder) string {
 	if folder.Verdict == NotInStep {
 		verdict := "NOT in step, " + counted(folder.Wrong, "name is wrong", "names are wrong")
+		if folder.Unread > 0 {
+			verdict += ", of which " + counted(folder.Unread, "was found so before and isn't read again", "were found so before and aren't read again")
+		}
 		if folder.modes > 0 {
 			verdict += ", and of " + thousands(folder.modes) + " more the permissions alone differ"
 		}
