@@ -25,7 +25,7 @@ type Entry struct {
 func ownEntry(entry protocol.FileInfo) Entry {
 	switch {
 	case entry.IsIgnored():
-		return leftOut(entry, part.Ignored, "it is ignored there by .stignore")
+		return leftOut(entry, part.Ignored, part.WhyIgnored)
 	case entry.IsUnsupported():
 		return leftOut(entry, part.OddRecord, "its kind isn't supported there")
 	case entry.LocalFlags&^protocol.LocalAllFlags != 0:

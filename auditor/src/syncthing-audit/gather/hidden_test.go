@@ -56,6 +56,52 @@ func TestIgnoredNamesAreHidden(t *testing.T) {
 	}
 }
 
+// formerly is a folder whose index has names as ignored, with patterns.
+type formerly struct {
+	patterned
+	names []string
+}
+
+func (f formerly) Own(_ choice.Names, take func(device.Entry) bool) error {
+	for _, name := range f.names {
+		take(device.Entry{Name: name, Out: &part.LeftOut{Kind: part.Ignored, Why: part.WhyIgnored}})
+	}
+	return nil
+}
+
+// Of a name that the index alone has as ignored, it isn't said that .stignore ignores it: the next scan takes it.
+func TestWhatStignoreIgnoresNoMore(t *testing.T) {
+	pool := disk.NewPool(1)
+	defer pool.Close()
+	for text, whys := range map[string][2]string{
+		"":                {part.WhyIgnoredBefore, part.WhyIgnoredBefore},
+		"*.log\n":         {part.WhyIgnored, part.WhyIgnored},
+		"gone.log\n":      {part.WhyIgnoredBefore, part.WhyIgnored},
+		"!a.log\n*.log\n": {part.WhyIgnoredBefore, part.WhyIgnored},
+	} {
+		read, told := &Device{Folders: []Folder{formerly{patterned{directory{aDirectory(t)}, text}, []string{"a.log", "gone.log"}}}, Pool: pool}, 0
+		err := read.Run(read.Head(), func(line part.Line) error {
+			if line.Name == nil || line.Name.Name != "a.log" && line.Name.Name != "gone.log" {
+				return nil
+			}
+			why := whys[told]
+			told++
+			for _, out := range line.Name.Out {
+				if out.Kind != part.Ignored || out.Why != why {
+					t.Errorf("%q: %s: %+v, not %s", text, line.Name.Name, out, why)
+				}
+			}
+			if len(line.Name.Out) == 0 || !line.Name.IsIgnored() {
+				t.Errorf("%q: %s: %+v", text, line.Name.Name, line.Name)
+			}
+			return nil
+		})
+		if err != nil || told != 2 {
+			t.Errorf("%q: %d, %v", text, told, err)
+		}
+	}
+}
+
 // patterned is a folder with patterns.
 type patterned struct {
 	directory

@@ -133,6 +133,9 @@ func (m *merge) put(name string) bool {
 	if m.device.Look != nil {
 		line.Receiving = m.walker.StampOf(fs.TempName(name))
 	}
+	if !m.patterns.Match(name).IsIgnored() {
+		notIgnoredNow(line)
+	}
 	switch {
 	case m.isIgnored(name, line.Own):
 		line.Out = append(line.Out, ignored(line))
@@ -146,6 +149,15 @@ func (m *merge) put(name string) bool {
 		m.toIgnore.TakeOther(name)
 	}
 	return m.send(line, recorded, stamp)
+}
+
+// notIgnoredNow says of a name that .stignore doesn't keep out what the index alone says.
+func notIgnoredNow(line *part.Name) {
+	for place := range line.Out {
+		if out := &line.Out[place]; out.Kind == part.Ignored && out.Why == part.WhyIgnored {
+			out.Why = part.WhyIgnoredBefore
+		}
+	}
 }
 
 // takeEntries adds what the index and the views have of a name. It gives the block hashes that the own record has.

@@ -97,11 +97,19 @@ func (n *Name) HasOtherBytes() bool {
 // WhyIgnored says why a name is left out that .stignore keeps out.
 const WhyIgnored = "it is ignored there by .stignore"
 
+// WhyIgnoredBefore says why a name is left out that the index has as ignored, and that .stignore doesn't keep out any more.
+const WhyIgnoredBefore = "its index has it as ignored, but .stignore doesn't ignore it now: the next scan takes what stands there"
+
 // WhyIgnoredElsewhere says why a name is left out of which another device, as this one knows it, tells neither size nor blocks.
 const WhyIgnoredElsewhere = "it knows that another device ignores it, or has still to scan it"
 
 // isElsewhere says whether something is left out that another device has, and not this one.
 func (l *LeftOut) isElsewhere() bool { return l.Kind == Ignored && l.Why == WhyIgnoredElsewhere }
+
+// IsIgnoredBefore says whether the index alone has a name as ignored at the device, so that the next scan takes it.
+func (n *Name) IsIgnoredBefore() bool {
+	return slices.IndexFunc(n.Out, func(out LeftOut) bool { return out.Why == WhyIgnoredBefore }) >= 0
+}
 
 // IsIgnored says whether .stignore keeps a name out of the folder at the device, whatever its file does.
 func (n *Name) IsIgnored() bool {

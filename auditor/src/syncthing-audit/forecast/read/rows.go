@@ -192,10 +192,10 @@ func hasOuts(row *join.Row) bool {
 	return false
 }
 
-// isOutside says whether all who have a name ignore it, and no index has it.
+// isOutside says whether all who have a name ignore it, also at the next scan, and no index has it.
 func isOutside(row *join.Row) bool {
 	for _, at := range row.At {
-		if at != nil && (at.Own != nil || len(at.Views) > 0 || !at.IsIgnored()) {
+		if at != nil && (at.Own != nil || len(at.Views) > 0 || !at.IsIgnored() || at.IsIgnoredBefore()) {
 			return false
 		}
 	}

@@ -386,6 +386,7 @@ func TestWhatIsOutside(t *testing.T) {
 		"one lacks it":        {func(row *join.Row) { row.At[0] = nil }, true},
 		"one records it":      {func(row *join.Row) { row.At[1].Own = told(nil) }, false},
 		"one has heard of it": {func(row *join.Row) { row.At[1].Views = []part.Seen{{Record: told(nil)}} }, false},
+		"one takes it soon":   {func(row *join.Row) { row.At[1].Out[0].Why = part.WhyIgnoredBefore }, false},
 		"unreadable for one":  {func(row *join.Row) { row.At[1].Out = []part.LeftOut{{Kind: part.Unreadable}} }, false},
 	} {
 		ignored := func() *part.Name { return &part.Name{Name: "a", Out: []part.LeftOut{{Kind: part.Ignored}}} }
