@@ -52,9 +52,9 @@ if nobody does anything in docs, and all devices scan, then run and reach one an
   1 name comes right by itself, and loses nothing but what a recorded change replaced
     if not, see whether a device or the folder is paused, whether they are connected, whether a disk is full, and whether Syncthing's page lists 'Failed Items'
   1 name is deleted on all devices, as is recorded
-  1 name takes a change that no scan has seen yet; what it replaces is on no device then
+  1 name takes a change that no scan has seen yet; what it replaces is in the folder on no device then
   1 name loses something that stands on a disk now:
-    'my budget': 5 bytes on laptop, phone (modified 2020-09-13 12:26:40 UTC); then on no device
+    'my budget': 5 bytes on laptop, phone (modified 2020-09-13 12:26:40 UTC); then in the folder on no device
   1 name comes to one of several ends, by the order of what happens; nothing is lost:
     b: 2 ends
   1 name stays wrong:
@@ -73,10 +73,10 @@ if nobody does anything in docs, and all devices scan, then run and reach one an
   2,004 names come right by themselves, and lose nothing but what a recorded change replaced
     if not, see whether a device or the folder is paused, whether they are connected, whether a disk is full, and whether Syncthing's page lists 'Failed Items'
   2 names are deleted on all devices, as is recorded
-  2 names take a change that no scan has seen yet; what it replaces is on no device then
+  2 names take a change that no scan has seen yet; what it replaces is in the folder on no device then
   7 names lose something that stands on a disk now:
-    l: the symlink to 'a b' on laptop; then on no device, in some order
-    l: the directory on server; then on no device, in some order
+    l: the symlink to 'a b' on laptop; then in the folder on no device, in some order
+    l: the directory on server; then in the folder on no device, in some order
     and 6 more names (--json has them)
   2 names come to one of several ends, by the order of what happens; nothing is lost:
     and 2 more names (--json has them)
