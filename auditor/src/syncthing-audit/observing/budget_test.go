@@ -70,31 +70,27 @@ func TestLooksByTurns(t *testing.T) {
 // What a look found on a disk isn't forgotten by the next ones, which don't read it: it counts as wrong until it is read and right.
 func TestRotThatIsNotReadAgain(t *testing.T) {
 	here := newWorld(t, 2, map[string]string{"a": strings.Repeat("a", 1000), "b": strings.Repeat("b", 1000), "c": strings.Repeat("c", 1000)})
-	here.devices[1].Change(func(state *stranger.State) { state.Disk["docs/b"] = "rot" + strings.Repeat("b", 997) })
-	here.asked.Budget = 1 << 20
-	here.expect("all is read", exit.NotSettled, "NOT in step, 1 name is wrong;", "other bytes on the disk")
-	if here.asksFor() != "a b c" {
-		t.Error("not all was asked for")
-	}
-	here.asked.Budget = 2000 // as much as the name takes: it comes in its turn
-	for _, due := range []string{"a", "b", "c", "a", "b"} {
-		words := []string{"NOT in step, 1 name is wrong, of which 1 was found so before and isn't read again;", "  b in docs on device b: found with other bytes on 20", "1 wasn't read again\n"}
-		if due == "b" {
-			words = []string{"NOT in step, 1 name is wrong;", "other bytes on the disk", "  lasts: b in docs on device b (StoreDiffers"}
+	here.devices[1].Change(func(state *stranger.State) { state.Disk["docs/c"] = "rot" + strings.Repeat("c", 997) })
+	readAll := func(words ...string) {
+		here.asked.Budget = 1 << 20
+		if here.expect("all is read", exit.NotSettled, append(words, "NOT in step, 1 name is wrong;", "other bytes on the disk")...); here.asksFor() != "a b c" {
+			t.Error("not all was asked for")
 		}
-		if here.expect(due, exit.NotSettled, words...); here.asksFor() != due {
-			t.Errorf("another one than %s was asked for", due)
-		}
+		here.asked.Budget = 2000 // as much as the name takes: it comes in its turn, which is the last one
 	}
-	here.devices[1].Change(func(state *stranger.State) { state.Disk["docs/b"] = strings.Repeat("b", 1000) })
+	readAll()
+	here.expect("not read", exit.NotSettled, "NOT in step, 1 name is wrong, of which 1 was found so before and isn't read again;", "  c in docs on device b: found with other bytes on 20", "1 wasn't read again\n")
 	here.asked.Lines = true
-	here.expect("lines", exit.NotSettled, "not settled, as found before and not read again\n", "\nnot read again: StoreDiffers docs b on ")
-	here.asked.Lines, here.asked.JSON = false, true
-	here.expect("JSON", exit.NotSettled, `"verdict":"not-in-step"`, `"names_wrong":1,"names_not_read_again":1`, `"not_read_again":{"count":1,"first":[{"folder":"docs","name":"b"`)
+	here.expect("lines", exit.NotSettled, "not settled, as found before and not read again\n", "\nnot read again: StoreDiffers docs c on ")
+	here.asked.Lines = false
+	readAll("  lasts: c in docs on device b (StoreDiffers")
+	here.devices[1].Change(func(state *stranger.State) { state.Disk["docs/c"] = strings.Repeat("c", 1000) })
+	here.asked.JSON = true
+	here.expect("JSON", exit.NotSettled, `"verdict":"not-in-step"`, `"names_wrong":1,"names_not_read_again":1`, `"not_read_again":{"count":1,"first":[{"folder":"docs","name":"c"`)
 	here.asked.JSON, here.asked.Records, here.asked.Budget, here.asked.History = false, true, 0, filepath.Join(here.asked.Homes[0], nameOfHistory)
 	here.expect("records alone", exit.NotSettled, "isn't read again")
-	here.asked.Records, here.asked.Budget = false, 4001 // more than it takes, so that it comes first
-	here.expect("it is read", exit.Partial, inStep, "  mended: b in docs on device b (StoreDiffers")
+	here.asked.Records, here.asked.Budget = false, 4001 // more than twice what it takes, so that it comes first
+	here.expect("it is read", exit.Partial, inStep, "  mended: c in docs on device b (StoreDiffers")
 }
 
 // deaf takes what is written to it until it comes to some words.
