@@ -53,11 +53,16 @@ func (s *state) needsSomething(i int) bool {
 
 func (s *state) areAllOn() bool { return s.on == s.may }
 
-// outcomes gives the states behind a step, one for each way that what is drawn in it may go.
-func (s *state) outcomes(act action) []*state {
-	var states []*state
+// mostOutcomes is how many ways of one step are tried at most.
+const mostOutcomes = 1000
+
+// outcomes gives the states behind a step, one for each way that what is drawn in it may go, and says whether these are all.
+func (s *state) outcomes(act action) (states []*state, all bool) {
 	scripts := [][]int{nil}
 	for len(scripts) > 0 {
+		if len(states) == mostOutcomes {
+			return states, false
+		}
 		script := scripts[len(scripts)-1]
 		scripts = scripts[:len(scripts)-1]
 		next := s.copied()
@@ -79,7 +84,7 @@ func (s *state) outcomes(act action) []*state {
 		}
 		states = append(states, next)
 	}
-	return states
+	return states, true
 }
 
 // A search tries all orders.
@@ -87,6 +92,7 @@ type search struct {
 	seen map[string]bool
 	todo []*state
 	most int
+	left bool // whether a step may go more ways than were tried
 }
 
 func (x *search) add(s *state) {
@@ -103,7 +109,7 @@ func explore(starts []*state, most int) (ends []*state, states int, all bool) {
 		x.add(state)
 	}
 	for len(x.todo) > 0 {
-		if len(x.seen) > most {
+		if len(x.seen) > most || x.left {
 			return nil, len(x.seen), false
 		}
 		s := x.todo[len(x.todo)-1]
@@ -112,6 +118,9 @@ func explore(starts []*state, most int) (ends []*state, states int, all bool) {
 			ends = append(ends, s)
 		}
 	}
+	if x.left {
+		return nil, len(x.seen), false
+	}
 	return ends, len(x.seen), true
 }
 
@@ -119,7 +128,9 @@ func explore(starts []*state, most int) (ends []*state, states int, all bool) {
 func (x *search) step(s *state, actions []action) bool {
 	moved := false
 	for _, act := range actions {
-		for _, next := range s.outcomes(act) {
+		outcomes, all := s.outcomes(act)
+		x.left = x.left || !all
+		for _, next := range outcomes {
 			if next.rankPresent(); !next.isSame(s) {
 				moved = true
 				x.add(next)

@@ -1,5 +1,7 @@
 package forecast
 
+import "syncthing-audit/lists"
+
 // takeFiles takes the files that are to be renamed or fetched, in the order of the queue. That may be any, so where the order matters it is
 // drawn.
 func (p *pull) takeFiles(queue []int) {
@@ -12,15 +14,64 @@ func (p *pull) takeFiles(queue []int) {
 			p.note(n, p.takeFile(n))
 		}
 	}
+	for _, group := range p.groupsOfOrder(last) {
+		p.takeInAnyOrder(group)
+	}
+}
+
+// takeInAnyOrder takes files of which one may take what another would.
+func (p *pull) takeInAnyOrder(last []int) {
 	for len(last) > 0 {
 		place := 0
 		if len(last) > 1 {
+			p.noteDrawn(last...)
 			place = p.draw(len(last))
 		}
 		n := last[place]
 		last = append(last[:place:place], last[place+1:]...)
 		p.note(n, p.takeFile(n))
 	}
+}
+
+// noteDrawn notes that something is drawn for names.
+func (p *pull) noteDrawn(names ...int) {
+	for _, n := range names {
+		p.drawn[n] = true
+	}
+}
+
+// groupsOfOrder gives files of which the order matters group by group: those that would be renamed from the same files, and those below one another, or below which
+// the others would be renamed from. Which of two groups comes first doesn't matter.
+func (p *pull) groupsOfOrder(last []int) [][]int {
+	joined, places, first := newGroups(len(last)), map[int]int{}, map[int32]int{}
+	for place, n := range last {
+		places[n] = place
+	}
+	joinAbove := func(place, n int) {
+		for above := p.names[n].parent; above >= 0; above = p.names[above].parent {
+			if other, is := places[above]; is {
+				joined.join(place, other)
+			}
+		}
+	}
+	for place, n := range last {
+		joinAbove(place, n)
+		content := p.wanted(n).content
+		if other, is := first[content]; is {
+			joined.join(place, other)
+			continue
+		}
+		first[content] = place
+		for _, from := range p.buckets[content] {
+			joinAbove(place, from)
+		}
+	}
+	var groups lists.Grouped[int, []int]
+	for place, n := range last {
+		group := groups.Of(joined.root(place))
+		*group = append(*group, n)
+	}
+	return lists.Each(groups.All(), func(group *[]int) []int { return *group })
 }
 
 // dependOnOrder gives the files of a queue of which one may take what another would be renamed from, or one is below the other.
@@ -103,6 +154,7 @@ func (p *pull) fetch(n int) bool {
 	for len(sources) > 0 {
 		place := 0
 		if good && bad && len(sources) > 1 {
+			p.noteDrawn(n)
 			place = p.draw(len(sources))
 		}
 		j := sources[place]

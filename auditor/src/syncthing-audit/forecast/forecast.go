@@ -4,6 +4,8 @@ import (
 	"fmt"
 	"math/rand"
 	"sort"
+
+	"syncthing-audit/lists"
 )
 
 // Budget says how long a forecast may try.
@@ -79,6 +81,7 @@ type result struct {
 	orders  int
 	endless int
 	states  int
+	drawn   []int // names for which something was drawn
 }
 
 // New gives a forecaster.
@@ -102,6 +105,12 @@ func (w World) Groups() []World {
 	return worlds
 }
 
+// MostTogether is of how many names that hang together, and aren't alike, something is foretold at most.
+const MostTogether = 400
+
+// mostPlaces is how many places of names on disks all ends of an answer have at most.
+const mostPlaces = 1000000
+
 // OfGroup gives an answer for names that are taken to hang together. With commands, these are given one after another at each end, and what is told is
 // what comes of that: of Revert and Override.
 func (f *Forecaster) OfGroup(devices []Device, names []Name, commands ...Command) Answer {
@@ -109,13 +118,36 @@ func (f *Forecaster) OfGroup(devices []Device, names []Name, commands ...Command
 	if untried := untriedOf(devices); untried != nil {
 		return Answer{Names: textsOf(names), Untried: untried}
 	}
+	if len(names) <= fewNames {
+		answer, _ := f.ofEach(devices, names, commands)
+		return answer
+	}
+	sieve := newSieve(devices, names)
+	for {
+		left := sieve.sifted(names)
+		if len(left) > MostTogether {
+			return Answer{Names: textsOf(names), IsOver: true}
+		}
+		answer, drawn := f.ofEach(devices, left, commands)
+		switch {
+		case sieve.separates(drawn):
+		case len(answer.Ends)*len(names)*len(devices) > mostPlaces:
+			return Answer{Names: textsOf(names), IsOver: true}
+		default:
+			return sieve.spread(answer, names)
+		}
+	}
+}
+
+// ofEach gives an answer for names of which each is looked at, and the names for which something is drawn.
+func (f *Forecaster) ofEach(devices []Device, names []Name, commands []Command) (Answer, []string) {
 	l := newLoader(devices, names)
 	first := l.start(names)
 	shape := l.shape(first) + fmt.Sprint(commands)
 	found, is := f.known[shape]
 	if !is {
 		if f.budget.Most > 0 && f.done >= f.budget.Most {
-			return Answer{Names: textsOf(names), IsOver: true}
+			return Answer{Names: textsOf(names), IsOver: true}, nil
 		}
 		found = f.find(first, len(names), commands)
 		f.known[shape] = found
@@ -124,7 +156,7 @@ func (f *Forecaster) OfGroup(devices []Device, names []Name, commands ...Command
 	for place := range found.ends {
 		answer.Ends = append(answer.Ends, l.end(&found.ends[place], names))
 	}
-	return answer
+	return answer, lists.Each(found.drawn, func(n int) string { return names[n].Name })
 }
 
 // Shape gives a text that two groups of names share if they are alike: what becomes of one becomes of the other, by the places of their names.
@@ -164,9 +196,13 @@ func (f *Forecaster) find(first *state, count int, commands []Command) *result {
 	for _, command := range commands {
 		var after []*state
 		for _, end := range ends {
-			after = append(after, end.outcomes(command.on)...)
+			outcomes, all := end.outcomes(command.on)
+			after, found.isAll = append(after, outcomes...), found.isAll && all
 		}
 		ends = f.search(after, count, found)
+	}
+	for n := range first.drawn {
+		found.drawn = append(found.drawn, first.rootAmong(n, count))
 	}
 	seen := map[string]bool{}
 	for _, end := range ends {

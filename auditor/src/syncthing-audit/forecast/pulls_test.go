@@ -40,7 +40,7 @@ func TestWaysOfAPull(t *testing.T) {
 		}
 		l, s := running(name)
 		texts := map[string]bool{}
-		ways := s.outcomes(func(s *state) { s.pullOn(0) })
+		ways, _ := s.outcomes(func(s *state) { s.pullOn(0) })
 		for _, way := range ways {
 			texts[l.content[way.at(0, 0).content].Hash+" "+l.content[way.own(1, 0).content].Hash+" "+l.content[way.own(2, 0).content].Hash] = true
 		}
@@ -142,7 +142,7 @@ func TestAnEndTellsWhatIsNeeded(t *testing.T) {
 	_, s := running(file, newOn(0, "x", "moved"), newOn(0, "y", "moved"))
 	s.scan(0, everything)
 	s.send(0, 1)
-	if ways := s.outcomes(func(s *state) { s.pullOn(1) }); len(ways) != 2 {
+	if ways, _ := s.outcomes(func(s *state) { s.pullOn(1) }); len(ways) != 2 {
 		t.Errorf("there are %d orders", len(ways))
 	}
 	end, needed := s.numberedEnd(3), map[int]int{}
