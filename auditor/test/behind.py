@@ -158,6 +158,33 @@ class BehindAndOnlySends(Behind):
         self.stop()
 
 
+class BehindALargeRename(Exporting):
+    """The first device renamed a directory while the second one was off, and two files below it have the same bytes."""
+
+    files = 450
+
+    def test_what_is_told_comes_so(self):
+        names = [f"{number:03}" for number in range(self.files)]
+        (self.one.files / "was").mkdir()
+        for name in names:
+            (self.one.files / "was" / name).write_text(f"text {max(int(name), 1)}")
+        self.start()
+        self.scan_and_wait()
+        self.two.stop()
+        (self.one.files / "was").rename(self.one.files / "is")
+        self.one.scan()
+        self.one.stop()
+        fates = self.foretold()
+        self.assertEqual({fates[name]["fate"] for name in ("was", *(f"was/{name}" for name in names))}, {"deleted"})
+        self.assertEqual({fates[name]["fate"] for name in ("is", *(f"is/{name}" for name in names))}, {"right"})
+        self.start()
+        wait_until("the old directory is gone", lambda: not (self.two.files / "was").exists())
+        wait_until_in_step(self.one, self.two)
+        self.stop()
+        self.assert_came(fates, "was", "is", *(f"{above}/{name}" for above in ("was", "is") for name in names))
+        self.assertEqual(self.verdict(), "settled")
+
+
 class BehindWithoutCopies(Exporting):
     """A folder whose 'Max Conflicts' is 0."""
 

@@ -34,7 +34,7 @@ func TestWhyThereIsNoAnswer(t *testing.T) {
 	}
 }
 
-// Of names that hang together it isn't known what comes of them by the first reason of any, or where they are too many.
+// Of names that hang together it isn't known what comes of them by the first reason of any.
 func TestWhyAGroupIsUnknown(t *testing.T) {
 	teller := newTeller()
 	teller.rows.Unknown["b"], teller.rows.Unknown["c"] = read.Moving, read.Damaged
@@ -54,8 +54,6 @@ func TestWhyAGroupIsUnknown(t *testing.T) {
 		due   read.Why
 	}{
 		{group("a"), ""}, {group("a", "b"), read.Moving}, {group("c", "a"), read.Damaged}, {group("b", "c"), first}, {group("c", "b"), first},
-		{group(make([]string, MostTogether)...), ""}, {group(make([]string, MostTogether+1)...), read.Budget},
-		{group(append(make([]string, MostTogether), "b")...), read.Moving},
 	} {
 		if why := teller.whyUnknown(row.group); why != row.due {
 			t.Errorf("%d: %q, not %q", place, why, row.due)

@@ -186,14 +186,8 @@ func (t *teller) whyUnknown(group *forecast.World) read.Why {
 			found = why
 		}
 	}
-	if found == "" && len(group.Names) > MostTogether {
-		return read.Budget
-	}
 	return found
 }
-
-// MostTogether is of how many names that hang together something is foretold at most.
-const MostTogether = 400
 
 // whyNoAnswer gives why an answer doesn't say what becomes of these names.
 func (t *teller) whyNoAnswer(group *forecast.World, answer *forecast.Answer) read.Why {

@@ -86,7 +86,7 @@ func (r *repair) find() {
 		isHarmed, next := false, hand{place: place, goal: advice.Goal{Name: name.Name, Node: due}}
 		for member := range name.Disk {
 			isHarmed = isHarmed || r.isHarmed(name, member, name.Disk[member], &r.told[place])
-			if what := r.world.At(member, name.Name); member != from && r.isHarmed(name, member, what, &r.told[place]) && r.hasDirectoryAbove(member, name.Name) {
+			if what := r.world.Names[place].Disk[member]; member != from && r.isHarmed(name, member, what, &r.told[place]) && r.hasDirectoryAbove(member, name.Name) {
 				next.steps = append(next.steps, r.copyTo(name.Name, member, from, what, due)...)
 			}
 		}
@@ -217,7 +217,10 @@ func (r *repair) holderOf(name *forecast.Name, record *forecast.Record) (*foreca
 		if what == nil || !isOf(record, thingOf(what)) {
 			continue
 		}
-		others, count := r.countBelow(member, name.Name)
+		others, count := 0, 0
+		if what.Type == forecast.Directory {
+			others, count = r.countBelow(member, name.Name)
+		}
 		if from < 0 || others < least || others == least && count > most {
 			due, from, least, most = what, member, others, count
 		}
