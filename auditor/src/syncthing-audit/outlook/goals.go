@@ -69,7 +69,7 @@ func comesTo(name *forecast.Name, told *Name) *forecast.Node {
 }
 
 // lastRecorded gives that of some things which is recorded, and after which none of the others was. It gives nothing where a later change was recorded
-// whose bytes are on no disk, or that looks harmed: nobody can tell what is right.
+// whose bytes are on no disk, or that looks harmed: nobody can tell what is right. Neither can anybody where a change beside it stays: what is lost is saved then.
 func lastRecorded(name *forecast.Name, things []Thing) *forecast.Node {
 	var found *forecast.Record
 	var node *forecast.Node
@@ -81,13 +81,20 @@ func lastRecorded(name *forecast.Name, things []Thing) *forecast.Node {
 		}
 	}
 	for _, own := range name.Own {
-		if found != nil && isValid(own) && !own.Deleted && found.IsBelow(own) &&
-			(nodeOf(name, thingOfRecord(own)) == nil || looksHarmed(own, thingOf(node), found)) {
+		if found == nil || !isValid(own) || own.Deleted {
+			continue
+		}
+		there, isHarmed := nodeOf(name, thingOfRecord(own)), looksHarmed(own, thingOf(node), found)
+		isKept := there != nil && !isHarmed && !isAmong(things, thingOf(there))
+		if found.IsBelow(own) && (there == nil || isHarmed) || isKept && isBeside(own, found) {
 			return nil
 		}
 	}
 	return node
 }
+
+// isBeside says whether of two changes neither knew the other.
+func isBeside(one, other *forecast.Record) bool { return !one.IsAtMost(other) && !other.IsAtMost(one) }
 
 func nodeOf(name *forecast.Name, thing Thing) *forecast.Node {
 	return nodeWhere(name, func(what *forecast.Node) bool { return thing.IsSame(thingOf(what)) })

@@ -171,3 +171,27 @@ func TestWhatGoesFromSomeDevicesIsSaved(t *testing.T) {
 		}
 	}
 }
+
+// Of two changes that don't know each other, of which no copy is kept, the one that goes is saved, whatever its age: it isn't sent over the other one.
+func TestTheChangeThatGoesIsSaved(t *testing.T) {
+	for _, older := range []int{0, 1} {
+		folder, row := folderOf("send-receive", "send-receive", "send-receive"), calm("a", 3, 1)
+		for _, member := range folder.Members {
+			member.About.Options.MaxConflicts = 0
+		}
+		changedAt(row, 0, 7, false)
+		changedAt(row, 1, 8, false)
+		row.At[older].Own.ModifiedS, row.At[older].Disk.ModifiedS = 250, 250
+		for other, at := range row.At {
+			for view := range at.Views {
+				if viewOf(other, view) == older {
+					at.Views[view].Record.ModifiedS = 250
+				}
+			}
+		}
+		told := outlookOf(folder, []*join.Row{row})
+		if told.Lost != 1 || len(told.Plans) != 1 || !told.Plans[0].isOf([]Step{{Act: Save, Device: idOf(older)}}, nil) {
+			t.Errorf("%d is older: %+v, %+v", older, countsOf(told), told.Plans)
+		}
+	}
+}
