@@ -2,6 +2,7 @@ package observing
 
 import (
 	"os"
+	"path/filepath"
 	"strings"
 	"testing"
 	"time"
@@ -129,6 +130,19 @@ func TestALiarOfWhichThereIsNoPart(t *testing.T) {
 	} {
 		lie(change)
 		here.expect(why, exit.Partial, "docs: in step as far as seen over the wire", "on device a")
+	}
+}
+
+// Parts of some devices alone have the status of a part.
+func TestPartsOfSomeDevices(t *testing.T) {
+	here := newWorld(t, 2, map[string]string{"a": "text"})
+	here.asked.Into = filepath.Join(t.TempDir(), "both")
+	here.expect("both", exit.Done)
+	here.asked.Into = filepath.Join(t.TempDir(), "one")
+	here.devices[1].Change(func(state *stranger.State) { state.IndexID = 0 })
+	here.expect("one", exit.Partial)
+	if parts, err := os.ReadDir(here.asked.Into); err != nil || len(parts) != 1 {
+		t.Errorf("%v, %v", parts, err)
 	}
 }
 

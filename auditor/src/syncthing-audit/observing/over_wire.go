@@ -177,8 +177,11 @@ func lookOverWire(asked commandline.Options, observer *wire.Observer, program as
 		return 0, err
 	}
 	status := exit.Done
-	if asked.Into == "" {
+	switch {
+	case asked.Into == "":
 		status, err = observing.answer(program, files, output)
+	case len(observing.failed) > 0:
+		status = exit.Partial
 	}
 	for _, keep := range []func() error{observing.finish, func() error { return observing.keepAddresses(kept) }} { // also where no answer came
 		if kept := keep(); err == nil {
