@@ -17,8 +17,8 @@ func readChange(value []byte) (*Change, error) {
 	return &Change{readingIn(value[:lengthOfReading]), readingIn(value[lengthOfReading:])}, nil
 }
 
-// changeAt gives the change that a key has; nothing if there is none.
-func changeAt(db *leveldb.DB, key []byte) (*Change, error) {
+// valueAt gives the value that a key has; nothing if there is none.
+func valueAt[Value any](db *leveldb.DB, key []byte, read func([]byte) (*Value, error)) (*Value, error) {
 	value, err := db.Get(key, nil)
 	if err == leveldb.ErrNotFound {
 		return nil, nil
@@ -26,7 +26,12 @@ func changeAt(db *leveldb.DB, key []byte) (*Change, error) {
 	if err != nil {
 		return nil, err
 	}
-	return readChange(value)
+	return read(value)
+}
+
+// changeAt gives the change that a key has; nothing if there is none.
+func changeAt(db *leveldb.DB, key []byte) (*Change, error) {
+	return valueAt(db, key, readChange)
 }
 
 // Spread is a file whose bytes changed under one time on each device that has it, so that all have the same ones now. No comparison of devices shows
@@ -106,16 +111,12 @@ func (h *History) taken(spread *Spread) ([]uint64, error) {
 func (h *History) isSpread(spread *Spread, devices []uint64) (bool, error) {
 	var first *Reading
 	for _, device := range devices {
-		value, err := h.db.Get(keyOfReading(spread.Folder, device, spread.Name), nil)
-		if err == leveldb.ErrNotFound {
+		reading, err := h.readingAt(spread.Folder, device, spread.Name)
+		if err != nil {
+			return false, err
+		}
+		if reading == nil {
 			continue
-		}
-		if err != nil {
-			return false, err
-		}
-		reading, err := readReading(value)
-		if err != nil {
-			return false, err
 		}
 		if first != nil && first.Content != reading.Content || !slices.Contains(spread.Devices, device) {
 			return false, nil

@@ -123,14 +123,7 @@ func (h *History) Last() (time.Time, error) {
 
 // Seen says since when a fault is found; nothing if it isn't.
 func (h *History) Seen(fault Fault) (*Seen, error) {
-	value, err := h.db.Get(keyOfFault(fault), nil)
-	if err == leveldb.ErrNotFound {
-		return nil, nil
-	}
-	if err != nil {
-		return nil, err
-	}
-	return readSeen(value)
+	return valueAt(h.db, keyOfFault(fault), readSeen)
 }
 
 func (s *Seen) bytes() []byte {

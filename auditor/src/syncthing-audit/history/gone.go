@@ -3,7 +3,6 @@ package history
 import (
 	"time"
 
-	"github.com/syndtr/goleveldb/leveldb"
 	"github.com/syndtr/goleveldb/leveldb/util"
 	"syncthing-audit/lists"
 	"syncthing-audit/part"
@@ -37,26 +36,12 @@ type Held struct {
 
 // readingAt gives what was read last of a file at a device; nothing if nothing was, or it is gone there.
 func (h *History) readingAt(folder string, device uint64, name string) (*Reading, error) {
-	value, err := h.db.Get(keyOfReading(folder, device, name), nil)
-	if err == leveldb.ErrNotFound {
-		return nil, nil
-	}
-	if err != nil {
-		return nil, err
-	}
-	return readReading(value)
+	return valueAt(h.db, keyOfReading(folder, device, name), readReading)
 }
 
 // goneAt gives what was read last of a file that is gone at a device; nothing if it isn't.
 func (h *History) goneAt(folder, name string, device uint64) (*gone, error) {
-	value, err := h.db.Get(keyOfGone(folder, name, device), nil)
-	if err == leveldb.ErrNotFound {
-		return nil, nil
-	}
-	if err != nil {
-		return nil, err
-	}
-	return readGone(value)
+	return valueAt(h.db, keyOfGone(folder, name, device), readGone)
 }
 
 // held says which devices of a folder had a file when they were read last, and with which bytes.
