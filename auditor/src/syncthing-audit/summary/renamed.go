@@ -91,12 +91,8 @@ func (g going) add(file *File) {
 
 // of gives where the bytes of a name stand that no audited device has as recorded: what it was renamed from, say.
 func (g going) of(file *File) *elsewhere {
-	if file.isWithoutCopy() {
-		for _, fault := range file.Faults {
-			if file.isHarmOfDue(fault) && fault.due != nil && fault.due.Content != nil {
-				return g[*fault.due.Content]
-			}
-		}
+	if content := file.dueContent(); content != nil && file.isWithoutCopy() {
+		return g[*content]
 	}
 	return nil
 }
