@@ -3,6 +3,7 @@
 package configured
 
 import (
+	"encoding/xml"
 	"fmt"
 
 	"golang.org/x/exp/slices"
@@ -25,6 +26,29 @@ type Folder struct {
 	SyncXattrs    bool     `xml:"syncXattrs" json:"syncXattrs"`
 	SendXattrs    bool     `xml:"sendXattrs" json:"sendXattrs"`
 	Sharing       []Device `xml:"device" json:"devices"`
+
+	Versioning struct {
+		Type   string `xml:"type,attr" json:"type"`
+		Path   string `xml:"fsPath" json:"fsPath"`
+		Params Params `xml:"param" json:"params"`
+	} `xml:"versioning" json:"versioning"`
+}
+
+// Params are of how old versions are kept, by their keys.
+type Params map[string]string
+
+// UnmarshalXML adds one of them: config.xml has an element for each.
+func (p *Params) UnmarshalXML(decoder *xml.Decoder, start xml.StartElement) error {
+	one := struct {
+		Key   string `xml:"key,attr"`
+		Value string `xml:"val,attr"`
+	}{}
+	if *p == nil {
+		*p = Params{}
+	}
+	err := decoder.DecodeElement(&one, &start)
+	(*p)[one.Key] = one.Value
+	return err
 }
 
 // Device is another device, or this one: of a folder that is shared with it its id alone.
@@ -46,7 +70,8 @@ func (f *Folder) Tell(of *part.Folder, devices []Device) error {
 		return fmt.Errorf("the folder is of type %s, which this program doesn't read", shell.Quoted(f.Type))
 	}
 	of.Kind, of.IgnoresPermissions = kind, f.IgnorePerms
-	of.Options = &part.Options{MaxConflicts: *f.MaxConflicts, IgnoresDeletions: f.IgnoreDelete}
+	of.Options = &part.Options{MaxConflicts: *f.MaxConflicts, IgnoresDeletions: f.IgnoreDelete,
+		Versions: part.VersionsOf(f.Versioning.Type, f.Versioning.Path, f.Versioning.Params)}
 	of.ScansAttributes = f.SyncOwnership || f.SendOwnership || f.SyncXattrs || f.SendXattrs
 	if f.TimeWindow > 0 && f.TimeWindow < 1<<31 {
 		of.TimeWindow = f.TimeWindow

@@ -12,9 +12,11 @@ import (
 // The configuration of a folder says the same as config.xml and as the REST API have it.
 func TestBothForms(t *testing.T) {
 	const text = `<folder id="docs" path="/docs" type="receiveonly" ignorePerms="true"><paused>true</paused><ignoreDelete>true</ignoreDelete><maxConflicts>-1</maxConflicts>` +
+		`<versioning type="simple"><param key="keep" val="3"></param><param key="cleanoutDays" val="9"></param><fsPath>old</fsPath></versioning>` +
 		`<modTimeWindowS>2</modTimeWindowS><syncOwnership>true</syncOwnership><sendOwnership>true</sendOwnership><syncXattrs>true</syncXattrs><sendXattrs>true</sendXattrs>` +
 		`<device id="one"></device><device id="two"></device></folder>`
 	const said = `{"id":"docs","path":"/docs","type":"receiveonly","ignorePerms":true,"paused":true,"ignoreDelete":true,"maxConflicts":-1,"modTimeWindowS":2,"syncOwnership":true,` +
+		`"versioning":{"type":"simple","params":{"keep":"3","cleanoutDays":"9"},"cleanupIntervalS":3600,"fsPath":"old","fsType":"basic"},` +
 		`"sendOwnership":true,"syncXattrs":true,"sendXattrs":true,"devices":[{"deviceID":"one","introducedBy":""},{"deviceID":"two"}]}`
 	var written, told Folder
 	if err := xml.Unmarshal([]byte(text), &written); err != nil {
@@ -24,7 +26,9 @@ func TestBothForms(t *testing.T) {
 		t.Fatal(err)
 	}
 	all := -1
-	due := Folder{"docs", "/docs", "receiveonly", true, true, true, &all, 2, true, true, true, true, []Device{{ID: "one"}, {ID: "two"}}}
+	due := Folder{ID: "docs", Path: "/docs", Type: "receiveonly", IgnorePerms: true, Paused: true, IgnoreDelete: true, MaxConflicts: &all, TimeWindow: 2, SyncOwnership: true,
+		SendOwnership: true, SyncXattrs: true, SendXattrs: true, Sharing: []Device{{ID: "one"}, {ID: "two"}}}
+	due.Versioning.Type, due.Versioning.Path, due.Versioning.Params = "simple", "old", Params{"keep": "3", "cleanoutDays": "9"}
 	if !reflect.DeepEqual(written, due) || !reflect.DeepEqual(told, due) {
 		t.Errorf("%+v\n%+v", written, told)
 	}
@@ -49,11 +53,15 @@ func TestWhatAPartIsTold(t *testing.T) {
 		"sends owners":       {func(f *Folder) { f.SendOwnership = true }, part.Folder{Kind: "send-receive", ScansAttributes: true}},
 		"syncs attributes":   {func(f *Folder) { f.SyncXattrs = true }, part.Folder{Kind: "send-receive", ScansAttributes: true}},
 		"sends attributes":   {func(f *Folder) { f.SendXattrs = true }, part.Folder{Kind: "send-receive", ScansAttributes: true}},
+		"old versions":       {func(f *Folder) { f.Versioning.Type, f.Versioning.Path = "staggered", "old" }, part.Folder{Kind: "send-receive"}},
 		"shared with two":    {func(f *Folder) { f.Sharing = []Device{{ID: "two"}, {ID: "one"}} }, part.Folder{Kind: "send-receive", PausedDevices: []string{"two"}}},
 	} {
 		folder := &Folder{ID: "docs", Type: "sendreceive", MaxConflicts: &kept}
 		row.change(folder)
-		row.due.Options = &part.Options{MaxConflicts: 3}
+		row.due.Options = &part.Options{MaxConflicts: 3, Versions: &part.Versions{Kind: part.VersionsNone}}
+		if folder.Versioning.Type != "" {
+			row.due.Options.Versions = &part.Versions{Kind: part.VersionsStaggered, Place: "old"}
+		}
 		told := part.Folder{}
 		if err := folder.Tell(&told, []Device{{ID: "one"}, {ID: "two", Paused: true}, {ID: "three", Paused: true}}); err != nil || !reflect.DeepEqual(told, row.due) {
 			t.Errorf("%s: %+v, %v", why, told, err)

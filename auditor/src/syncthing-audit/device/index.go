@@ -175,7 +175,7 @@ func (i *Index) Folder() part.Folder {
 		Directory: i.directory, IndexID: uint64(i.files.IndexID(protocol.LocalDeviceID)), Max: i.Max(),
 		IgnoresPermissions: i.Config.IgnorePerms, TimeWindow: timeWindowOf(i.Config), ScansAttributes: i.home.attributes[i.Config.ID], Sharing: i.home.Sharing(i.Config), Views: []part.View{},
 		Paused: i.Config.Paused, PausedDevices: i.home.pausedOf(i.Config), Writers: i.home.writersOf(i.Config.ID),
-		Indexed: i.names(), Options: &part.Options{MaxConflicts: i.Config.MaxConflicts, IgnoresDeletions: i.Config.IgnoreDelete}}
+		Indexed: i.names(), Options: i.home.optionsOf(i.Config)}
 	for _, other := range i.Config.Devices {
 		if other.DeviceID == i.home.ID {
 			continue
@@ -186,6 +186,12 @@ func (i *Index) Folder() part.Folder {
 		}
 	}
 	return folder
+}
+
+// optionsOf gives what else of a folder's configuration decides to which end its names come.
+func (h *Home) optionsOf(folder config.FolderConfiguration) *part.Options {
+	return &part.Options{MaxConflicts: folder.MaxConflicts, IgnoresDeletions: folder.IgnoreDelete,
+		Versions: part.VersionsOf(folder.Versioning.Type, h.placeOfVersions(folder), folder.Versioning.Params)}
 }
 
 // timeWindowOf gives by how many seconds less the times of a file may differ that Syncthing takes for one.

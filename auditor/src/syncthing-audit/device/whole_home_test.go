@@ -85,7 +85,7 @@ func TestWhatIsToldOfAHome(t *testing.T) {
 		folder := index.Folder()
 		expected := part.Folder{ID: "docs", Label: "Documents", Kind: "receive-only", Path: docs, Directory: folder.Directory, IndexID: folder.IndexID, Max: 2, IgnoresPermissions: true,
 			TimeWindow: 2, ScansAttributes: true, Sharing: []part.Sharing{{Device: other, Name: "server", Encrypted: true}, {Device: protocol.DeviceID{3}.String(), Name: "nas"}},
-			Views: []part.View{{Device: other, IndexID: 7, Max: 1}}, PausedDevices: []string{other}, Indexed: 2, Options: &part.Options{MaxConflicts: 3, IgnoresDeletions: true}}
+			Views: []part.View{{Device: other, IndexID: 7, Max: 1}}, PausedDevices: []string{other}, Indexed: 2, Options: &part.Options{MaxConflicts: 3, IgnoresDeletions: true, Versions: &part.Versions{Kind: part.VersionsNone}}}
 		if folder.IndexID == 0 || folder.Directory == "" || !reflect.DeepEqual(folder, expected) {
 			t.Errorf("%+v, not %+v", folder, expected)
 		}

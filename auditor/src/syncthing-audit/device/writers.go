@@ -119,21 +119,28 @@ func (p *places) words() map[string][]string {
 }
 
 // versionsOf gives where a folder's old versions are kept and cleaned, where it isn't their usual place; nothing where that isn't so. A
-// command that keeps them cleans nothing by itself. 1.19 takes a tilde for a name.
+// command that keeps them cleans nothing by itself.
 func (h *Home) versionsOf(folder config.FolderConfiguration) string {
-	path := folder.Versioning.FSPath
+	path := h.placeOfVersions(folder)
 	switch {
 	case folder.Versioning.Type == "" || folder.Versioning.Type == "external" || path == "":
 		return ""
-	case strings.HasPrefix(path, "~") && !strings.HasPrefix(h.Syncthing, "v1.19."):
-		if expanded, err := fs.ExpandTilde(path); err == nil {
-			path = expanded
-		}
-	}
-	if filepath.IsAbs(path) {
+	case filepath.IsAbs(path):
 		return path
 	}
 	return filepath.Join(adapt.Filesystem(folder.Filesystem, nil).URI(), path)
+}
+
+// placeOfVersions gives the place that is configured for a folder's old versions, from the folder's directory; nothing where none is. 1.19 takes a tilde for
+// a name.
+func (h *Home) placeOfVersions(folder config.FolderConfiguration) string {
+	path := folder.Versioning.FSPath
+	if strings.HasPrefix(path, "~") && !strings.HasPrefix(h.Syncthing, "v1.19.") {
+		if expanded, err := fs.ExpandTilde(path); err == nil {
+			return expanded
+		}
+	}
+	return path
 }
 
 // realPath gives a path without symlinks, as far as what it leads to is there.

@@ -209,7 +209,7 @@ func TestFoldersOfAConfiguration(t *testing.T) {
 	if err != nil {
 		t.Fatal(err)
 	}
-	if head, err := headBy(t, path, room); err != nil || head.Folders[0].Kind != "receive-only" {
+	if head, err := headBy(t, path, room, false); err != nil || head.Folders[0].Kind != "receive-only" {
 		t.Errorf("%v, %v", head, err)
 	}
 	read, err := readConfiguration(path)

@@ -9,6 +9,7 @@ import (
 	"net/http/httptest"
 	"os"
 	"path/filepath"
+	"reflect"
 	"strings"
 	"testing"
 
@@ -20,7 +21,7 @@ import (
 func configWith(t *testing.T, directory, kind, address string, isTLS bool) string {
 	t.Helper()
 	path := filepath.Join(t.TempDir(), "config.xml")
-	text := fmt.Sprintf(`<configuration version="50"><folder id="docs" path="%s" type="%s" ignorePerms="true"><maxConflicts>-1</maxConflicts>`+
+	text := fmt.Sprintf(`<configuration version="50"><folder id="docs" path="%s" type="%s" ignorePerms="true"><maxConflicts>-1</maxConflicts><versioning type="simple"><fsPath>/srv/old</fsPath></versioning>`+
 		`<modTimeWindowS>2</modTimeWindowS><ignoreDelete>true</ignoreDelete><sendOwnership>true</sendOwnership><device id="one"></device></folder>`+
 		`<device id="one"><paused>true</paused></device><device id="two"><paused>true</paused></device>`+
 		`<gui enabled="true" tls="%v"><address>%s</address><apikey>secret</apikey></gui></configuration>`, directory, kind, isTLS, address)
@@ -31,11 +32,11 @@ func configWith(t *testing.T, directory, kind, address string, isTLS bool) strin
 }
 
 // headBy gives the head of a part for which a config.xml is read.
-func headBy(t *testing.T, config, room string) (*part.Head, error) {
+func headBy(t *testing.T, config, room string, areTold bool) (*part.Head, error) {
 	pool := disk.NewPool(1)
 	defer pool.Close()
 	asked := askedFor(room)
-	asked.Config = config
+	asked.Config, asked.Paths = config, areTold
 	var text bytes.Buffer
 	if _, err := Write(&text, asked, pool); err != nil {
 		return nil, err
@@ -70,12 +71,17 @@ func TestWhatIsConfigured(t *testing.T) {
 		configWith(t, room, "receiveonly", "192.0.2.1:8384", false): {State: part.RestUnasked, Why: "its page has no address of this machine"},
 		configWith(t, room, "receiveonly", "/run/page", false):      {State: part.RestUnasked, Why: "its page has no address of this machine"},
 	} {
-		head, err := headBy(t, config, room)
+		areTold := config == certified
+		head, err := headBy(t, config, room, areTold)
 		if err != nil {
 			t.Fatal(err)
 		}
-		folder := head.Folders[0]
-		if folder.Kind != "receive-only" || !folder.IgnoresPermissions || folder.TimeWindow != 2 || !folder.ScansAttributes || *folder.Options != (part.Options{MaxConflicts: -1, IgnoresDeletions: true}) ||
+		folder, versions := head.Folders[0], &part.Versions{Kind: part.VersionsSimple}
+		if areTold {
+			versions.Place = "/srv/old"
+		}
+		options := part.Options{MaxConflicts: -1, IgnoresDeletions: true, Versions: versions}
+		if folder.Kind != "receive-only" || !folder.IgnoresPermissions || folder.TimeWindow != 2 || !folder.ScansAttributes || !reflect.DeepEqual(*folder.Options, options) ||
 			len(folder.PausedDevices) != 1 || folder.PausedDevices[0] != "one" || *folder.Rest != due {
 			t.Errorf("%+v, %+v, %+v", folder, folder.Options, folder.Rest)
 		}
@@ -94,7 +100,7 @@ func TestWhatIsNoConfiguration(t *testing.T) {
 	}
 	for config, told := range map[string]string{configWith(t, other, "sendreceive", "", false): "another one is walked", none: "is no config.xml",
 		configWith(t, room, "receiveencrypted", "", false): "which this program doesn't read", filepath.Join(other, "missing.xml"): "no such file"} {
-		if _, err := headBy(t, config, room); err == nil || !strings.Contains(err.Error(), told) {
+		if _, err := headBy(t, config, room, false); err == nil || !strings.Contains(err.Error(), told) {
 			t.Errorf("%s: %v", told, err)
 		}
 	}

@@ -126,6 +126,9 @@ func (m *maker) open(asked Folder) (*folder, error) {
 			return nil, err
 		}
 	}
+	if !m.asked.Paths {
+		opened.about.Options = opened.about.Options.WithoutPath()
+	}
 	opened.readPatterns()
 	if opened.patterns == nil {
 		m.told.Unknown = append(m.told.Unknown, "folder "+asked.ID+": "+opened.about.Ignores.Unknown)

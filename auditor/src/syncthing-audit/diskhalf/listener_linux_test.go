@@ -52,7 +52,7 @@ func TestNoOtherUserGetsTheKey(t *testing.T) {
 		if err := os.Chown(config, row.owner, -1); err != nil {
 			t.Fatal(err)
 		}
-		head, err := headBy(t, config, room)
+		head, err := headBy(t, config, room, false)
 		server.Close()
 		if err != nil {
 			t.Fatal(err)

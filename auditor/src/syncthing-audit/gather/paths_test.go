@@ -21,9 +21,10 @@ func TestPathsAreHidden(t *testing.T) {
 		t.Errorf("%v, %v", line.Disk, line.Out)
 	}
 	newer := &part.Newer{Path: "/srv/index"}
-	head := &part.Head{Folders: []part.Folder{{ID: "docs", Path: "/srv/my docs"}}, Newer: newer}
+	options := &part.Options{Versions: &part.Versions{Kind: part.VersionsSimple, Place: "/srv/old"}}
+	head := &part.Head{Folders: []part.Folder{{ID: "docs", Path: "/srv/my docs", Options: options}}, Newer: newer}
 	hidePaths(head)
-	if text, err := json.Marshal(head); err != nil || strings.Contains(string(text), "/srv") || newer.Path == "" {
+	if text, err := json.Marshal(head); err != nil || strings.Contains(string(text), "/srv") || newer.Path == "" || options.Versions.Place == "" {
 		t.Errorf("%v: %s, %s", err, text, newer.Path)
 	}
 }

@@ -144,6 +144,7 @@ func (o *observing) askOf(at int, remote *rest.Remote, folder string) error {
 	if err := said.Configured.Tell(about, said.Devices); err != nil {
 		return err
 	}
+	about.Options = about.Options.WithoutPath()
 	o.asking.mutex.Lock()
 	defer o.asking.mutex.Unlock()
 	if o.asking.told[at] == nil {

@@ -122,6 +122,9 @@ func checkHalfFolder(folder *Folder) error {
 	case !slices.Contains([]string{"send-receive", "send-only", "receive-only"}, folder.Kind):
 		return fmt.Errorf("its kind is %q", folder.Kind)
 	}
+	if err := checkOptions(folder.Options); err != nil {
+		return err
+	}
 	return checkRest(folder.Rest)
 }
 

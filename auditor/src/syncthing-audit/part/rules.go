@@ -85,6 +85,9 @@ func checkFolder(folder *Folder, isOverWire bool) error {
 	if err := checkRest(folder.Rest); err != nil {
 		return err
 	}
+	if err := checkOptions(folder.Options); err != nil {
+		return err
+	}
 	seen := map[string]bool{}
 	for _, of := range folder.Views {
 		if Number(of.Device) == 0 || seen[of.Device] || of.Max < 0 || of.Heard < 0 || of.Heard != 0 && !isOverWire {

@@ -144,8 +144,9 @@ type Folder struct {
 
 // Options are what else of a folder's configuration decides to which end its names come.
 type Options struct {
-	MaxConflicts     int  `json:"max_conflicts"` // how many conflict copies of a name are kept: below 0 all
-	IgnoresDeletions bool `json:"ignores_deletions,omitempty"`
+	MaxConflicts     int       `json:"max_conflicts"` // how many conflict copies of a name are kept: below 0 all
+	IgnoresDeletions bool      `json:"ignores_deletions,omitempty"`
+	Versions         *Versions `json:"old_versions,omitempty"` // nothing where an older program made it
 }
 
 // Sharing is another device that the folder is shared with, by the device's own configuration.

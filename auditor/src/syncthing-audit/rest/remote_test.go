@@ -86,7 +86,7 @@ func TestWhatARemoteSays(t *testing.T) {
 		}
 		folder := &part.Folder{}
 		if err := said.Configured.Tell(folder, said.Devices); err != nil || folder.Kind != "receive-only" || folder.TimeWindow != 2 ||
-			*folder.Options != (part.Options{MaxConflicts: -1, IgnoresDeletions: true}) || !reflect.DeepEqual(folder.PausedDevices, []string{"one"}) {
+			!reflect.DeepEqual(*folder.Options, part.Options{MaxConflicts: -1, IgnoresDeletions: true, Versions: &part.Versions{Kind: part.VersionsNone}}) || !reflect.DeepEqual(folder.PausedDevices, []string{"one"}) {
 			t.Errorf("%+v, %v", folder, err)
 		}
 		if err := remote.Scan("a/b"); err != nil {
