@@ -40,7 +40,7 @@ class Answers:
         self.assertEqual([line for line in lines if line.startswith("text")], [f"text  (in {FOLDER}, 5 bytes)"])
         for told in (f"  {self.label(self.two)}: other bytes on the disk; size and time are as recorded",
                      "    block 0 differs (1 of 1 block of 128 KiB; the first is block 0)", f"  as recorded on: {self.label(self.one)}",
-                     f"({self.label(self.two)}: it has other", "to do: the steps for it above, behind 'to do in'.\n"):
+                     f"({self.label(self.two)}: it has other", "to do: take the steps for it above, under 'to do in'.\n"):
             self.assertIn(told, text)
 
     def test_a_person_reads_of_a_rename(self):

@@ -58,8 +58,8 @@ class OnlyCopies(LateRot):
         write(path, rotten, path.stat())
         text = self.told("missing")
         three = self.label(self.three)
-        self.assertIn(f" to do: look among old versions and backups: no audited device has what is recorded. Some of its blocks are on {three}. to do: the steps for it above, "
-                      "behind 'to do in', which save what is to stay.", text)
+        self.assertIn(f" to do: look among old versions and backups: no audited device has what is recorded. Some of its blocks are on {three}. to do: take the steps for it above, "
+                      "under 'to do in', which save what is to stay.", text)
         self.assertRegex(self.answer()[1], rf"for missing:\n +1\. on {three}: copy it elsewhere, if it is to stay: the start may take it away")
         shutil.copy(path, self.room / "saved")
         self.start()

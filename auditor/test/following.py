@@ -302,7 +302,7 @@ ADVICE = [
     (r"look among old versions and backups: no audited device has what is recorded", nothing),
     (r"before Syncthing starts on any of these devices, copy (\S+) of (\w{7}) elsewhere: it has what is recorded here, and is to be deleted\. "
      r"Then copy that to (" + NEEDED + r") under this name", put_from_elsewhere),
-    (r"the steps for (?:it|them) above, behind 'to do in'", nothing),
+    (r"take the steps for (?:it|them) above, under 'to do in'", nothing),
     (r"choose for the whole folder what stands above", nothing),
     (r"leave (?:it|them) so, or choose something for the whole folder, as another audit says", nothing),
     (r"nothing, if (?:it|they) may go\. If not, copy (?:it|them) elsewhere", save_all),

@@ -96,7 +96,7 @@ class Emptied(LateRot):
         self.assertIn(f"6 names in docs: 90 bytes {two}: looks damaged: 90 bytes recorded, 0 bytes on the disk: EMPTY the first: emptied0", text)
         self.assertIn(f"{two}: looks damaged: 10 bytes recorded, 3 bytes on the disk: cut short under the recorded time (modified", text)
         self.assertIn(f"{two}: looks damaged: all of it is ZEROS (modified", text)
-        self.assertEqual(text.count("the steps for it above, behind 'to do in'.") + text.count("the steps for them above, behind 'to do in'."), 3)
+        self.assertEqual(text.count("take the steps for it above, under 'to do in'.") + text.count("take the steps for them above, under 'to do in'."), 3)
         for name in (*self.emptied, "cut", "zeroed"):
             self.mend(name, "--preserve=timestamps")
         self.assertEqual(self.verdict(), "settled")

@@ -20,7 +20,7 @@ func (p *Person) choices(folder string, o *outlook.Outlook) {
 		last = choice.Device
 		p.Line("  %s", wordsOfChoice[choice.Act])
 		p.Line("    %s", ofChoice(choice))
-		p.losses(choice.Loses, choice.Lost, "something that stands on a disk now")
+		p.losses(choice.Loses, choice.Lost, "something that a disk has now")
 		p.losses(choice.Goes, choice.Gone, "what a recorded change or deletion then replaces")
 		if choice.Unknown > 0 {
 			p.Line("    of %s it isn't known what this does: save %s first", Counted(choice.Unknown, "name", "names"), itOrThem(choice.Unknown))

@@ -30,7 +30,7 @@ func (p *Person) plans(folder string, o *outlook.Outlook) {
 		p.Line("  %s. audit again, once they are idle. What may be chosen for the whole folder (%s) is told then: these steps change what it does", Thousands(number+2), p.choosers(o))
 	}
 	if lists.Has(o.Plans, func(plan *outlook.Plan) bool { return plan.Goal != nil }) {
-		p.Line("  what these steps put right needs nothing that the entries below say to do")
+		p.Line("  names that these steps put right need nothing of what the entries below say to do")
 	}
 }
 

@@ -49,7 +49,7 @@ func (p *Person) right(o *outlook.Outlook) {
 		p.Line("    if not, see whether a device or the folder is paused, whether they are connected, whether a disk is full, and whether Syncthing's page lists 'Failed Items'")
 	}
 	p.count(o.Deleted, "name is", "names are", "deleted on all devices, as is recorded")
-	p.count(o.Changed, "name takes", "names take", "a change that no scan has seen yet; what it replaces is in the folder on no device then")
+	p.count(o.Changed, "name takes", "names take", "a change that no scan has seen yet; then no device's folder has what it replaces")
 }
 
 // count says of how many names something is so, if of any.
@@ -62,10 +62,10 @@ func (p *Person) count(count int64, one, many, what string) bool {
 
 // lost tells of names that lose something, the first ones by name.
 func (p *Person) lost(o *outlook.Outlook) {
-	p.count(o.Lost, "name loses", "names lose", "something that stands on a disk now:")
+	p.count(o.Lost, "name loses", "names lose", "something that a disk has now:")
 	p.named(o, outlook.Lost, o.Lost, func(name *outlook.Name) {
 		for _, thing := range name.Loses {
-			p.Line("    %s: %s; then in the folder on no device%s", shell.Path(string(name.Name)), p.where(thing), some(name))
+			p.Line("    %s: %s; then no device's folder has it%s", shell.Path(string(name.Name)), p.where(thing), some(name))
 		}
 	})
 }

@@ -52,9 +52,9 @@ if nobody does anything in docs, and all devices scan, then run and reach one an
   1 name comes right by itself, and loses nothing but what a recorded change replaced
     if not, see whether a device or the folder is paused, whether they are connected, whether a disk is full, and whether Syncthing's page lists 'Failed Items'
   1 name is deleted on all devices, as is recorded
-  1 name takes a change that no scan has seen yet; what it replaces is in the folder on no device then
-  1 name loses something that stands on a disk now:
-    'my budget': 5 bytes on laptop, phone (modified 2020-09-13 12:26:40 UTC); then in the folder on no device
+  1 name takes a change that no scan has seen yet; then no device's folder has what it replaces
+  1 name loses something that a disk has now:
+    'my budget': 5 bytes on laptop, phone (modified 2020-09-13 12:26:40 UTC); then no device's folder has it
   1 name comes to one of several ends, by the order of what happens; nothing is lost:
     b: 2 ends
   1 name stays wrong:
@@ -73,10 +73,10 @@ if nobody does anything in docs, and all devices scan, then run and reach one an
   2,004 names come right by themselves, and lose nothing but what a recorded change replaced
     if not, see whether a device or the folder is paused, whether they are connected, whether a disk is full, and whether Syncthing's page lists 'Failed Items'
   2 names are deleted on all devices, as is recorded
-  2 names take a change that no scan has seen yet; what it replaces is in the folder on no device then
-  7 names lose something that stands on a disk now:
-    l: the symlink to 'a b' on laptop; then in the folder on no device, in some order
-    l: the directory on server; then in the folder on no device, in some order
+  2 names take a change that no scan has seen yet; then no device's folder has what it replaces
+  7 names lose something that a disk has now:
+    l: the symlink to 'a b' on laptop; then no device's folder has it, in some order
+    l: the directory on server; then no device's folder has it, in some order
     and 6 more names (--json has them)
   2 names come to one of several ends, by the order of what happens; nothing is lost:
     and 2 more names (--json has them)
@@ -112,7 +112,7 @@ to do in docs, from the top, while Syncthing is stopped on all its devices:
   for z:
     5. on server: copy it elsewhere, if it is to stay: the start may take it away
   6. start Syncthing on all its devices; of 1 name it isn't known what that does: see to it first
-  what these steps put right needs nothing that the entries below say to do
+  names that these steps put right need nothing of what the entries below say to do
 ` {
 		t.Error(told)
 	}
@@ -133,7 +133,7 @@ func TestChoices(t *testing.T) {
 to choose in docs on server, for the whole folder, once all that is to stay is saved; or neither:
   'Revert Local Changes', once Syncthing has scanned and taken what the others have:
     8 names come to another end, and all devices then have one thing of each
-    7 names lose something that stands on a disk now: copy that elsewhere before Syncthing starts, if it is to stay
+    7 names lose something that a disk has now: copy that elsewhere before Syncthing starts, if it is to stay
       'a b': 5 bytes on server (modified 2020-09-13 12:26:40 UTC)
       b: 5 bytes on server (modified 2020-09-13 12:26:40 UTC)
       c: 5 bytes on server (modified 2020-09-13 12:26:40 UTC)
@@ -147,7 +147,7 @@ to choose in docs on server, for the whole folder, once all that is to stay is s
 to choose in docs on phone, for the whole folder, once all that is to stay is saved; or neither:
   'Override Changes', once Syncthing has scanned and heard what the others have:
     1 name comes to another end, and all devices then have one thing of it
-    1 name loses something that stands on a disk now: copy it elsewhere before Syncthing starts, if it is to stay
+    1 name loses something that a disk has now: copy it elsewhere before Syncthing starts, if it is to stay
       a: 5 bytes on server (modified 2020-09-13 12:26:40 UTC)
   the folder made 'Send & Receive' there, before Syncthing scans:
     changes nothing that is known
@@ -233,7 +233,7 @@ to do in docs, from the top, while Syncthing is stopped on all its devices:
     then all devices have what laptop, phone have now
   3. do what the entries below say to do before Syncthing starts or scans, for 7 names that no step here puts right: a 'b c' d e f and 2 more names
   4. start Syncthing on all its devices
-  what these steps put right needs nothing that the entries below say to do
+  names that these steps put right need nothing of what the entries below say to do
 ` {
 		t.Error(told)
 	}

@@ -36,9 +36,9 @@ func (f *File) beforeStart(named print.Names) []string {
 	it := f.say("it", "them")
 	switch plan := f.foretold.plan; {
 	case plan != nil && plan.Goal != nil:
-		return []string{"the steps for " + it + " above, behind 'to do in'"}
+		return []string{"take the steps for " + it + " above, under 'to do in'"}
 	case plan != nil:
-		return []string{"the steps for " + it + " above, behind 'to do in', which save what is to stay"}
+		return []string{"take the steps for " + it + " above, under 'to do in', which save what is to stay"}
 	case !f.foretold.isKnown():
 		return f.toSave(named)
 	case f.foretold.is(outlook.Lost) || f.looksDamaged():

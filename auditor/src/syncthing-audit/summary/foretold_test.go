@@ -78,7 +78,7 @@ var foretoldSo = []struct {
 	hasnt   string
 }{
 	{"missing", []*part.Name{file(1, 1), with(file(1, 1), absent)}, []string{"StoreDiffers 2"}, "send-receive",
-		[]string{"if nothing is done: no device has it then; what laptop has now goes.", "then all devices have what laptop has now", "to do: the steps for it above, behind 'to do in'. not"}, "isn't known"},
+		[]string{"if nothing is done: no device has it then; what laptop has now goes.", "then all devices have what laptop has now", "to do: take the steps for it above, under 'to do in'. not"}, "isn't known"},
 	{"missing everywhere", []*part.Name{with(file(1, 1), absent), with(file(1, 1), absent)}, []string{"StoreDiffers 1", "StoreDiffers 2"}, "send-receive",
 		[]string{"1 name takes a change that no scan has seen yet", "if nothing is done: no device has it then.", "to do: look among old versions and backups: no audited device has what is recorded. not"}, "let Syncthing run"},
 	{"rot", []*part.Name{file(1, 1), with(file(1, 1), rotten)}, []string{"StoreDiffers 2"}, "send-receive",
@@ -87,12 +87,12 @@ var foretoldSo = []struct {
 		[]string{"if nothing is done: all devices then have what server has now; what laptop has now goes.", "to do: nothing, if the change is wanted.",
 			"to have again what server recorded, copy elsewhere what stands there, if it may be right, and copy it from laptop to server with its time alone"}, "isn't known"},
 	{"emptied", []*part.Name{file(1, 1), with(file(1, 1), afterwards(emptied))}, []string{"StoreDiffers 2"}, "send-receive",
-		[]string{"looks damaged", "if nothing is done: all devices then have what server has now", "to do: the steps for it above, behind 'to do in'. not"}, "if the change is wanted"},
+		[]string{"looks damaged", "if nothing is done: all devices then have what server has now", "to do: take the steps for it above, under 'to do in'. not"}, "if the change is wanted"},
 	{"behind", []*part.Name{file(2, 2), with(file(1, 1), minuteBefore)}, []string{"RecordDiffers 2", "StoreDiffers 2"}, "send-receive",
 		[]string{"if nothing is done: all devices then have what laptop has now; what server has now goes.", "to do: nothing: let Syncthing run on all of these devices until it is idle",
 			"if not, see whether a device or the folder is paused"}, "isn't known"},
 	{"behind with other bytes under the time of its own", []*part.Name{file(2, 2), file(1, 1)}, []string{"RecordDiffers 2", "StoreDiffers 2"}, "send-receive",
-		[]string{"1 name loses something that stands on a disk now", "1. on server: copy it elsewhere, if it is to stay", "to do: the steps for it above, behind 'to do in', which save what is to stay. to do: to have again what server has now: put"},
+		[]string{"1 name loses something that a disk has now", "1. on server: copy it elsewhere, if it is to stay", "to do: take the steps for it above, under 'to do in', which save what is to stay. to do: to have again what server has now: put"},
 		"let Syncthing run"},
 	{"deleted", []*part.Name{with(with(file(2, 2), again), absent), file(1, 1)}, []string{"RecordDiffers 2", "StoreDiffers 2"}, "send-receive",
 		[]string{"to do: nothing, if it may go. If not, copy it elsewhere before Syncthing starts on any of these devices"}, "isn't known"},

@@ -25,7 +25,7 @@ func voicesOf(advice []string) string {
 	switch {
 	case first(saysNothing) >= 0 && len(advice) > 1:
 		return "nothing is to be done, and something is"
-	case first(putsBack) >= 0 && slices.IndexFunc(advice, func(told string) bool { return strings.HasSuffix(told, "behind 'to do in'") }) >= 0:
+	case first(putsBack) >= 0 && slices.IndexFunc(advice, func(told string) bool { return strings.HasSuffix(told, "under 'to do in'") }) >= 0:
 		return "something is put back beside the steps that do it"
 	}
 	return ""
