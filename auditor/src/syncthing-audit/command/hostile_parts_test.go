@@ -18,7 +18,8 @@ func headOfHostile(device byte) *part.Head {
 		Newer: &part.Newer{Path: "/srv/data", Read: time.Unix(1, 0), Written: time.Unix(2, 0)},
 		Folders: []part.Folder{{ID: "docs", Label: "Documents", Kind: "send-receive", Path: "/srv/docs", Directory: idOf(device) + "docs", IndexID: uint64(device), Max: 99,
 			Sharing: []part.Sharing{{Device: other, Name: "server"}}, Views: []part.View{{Device: other, IndexID: uint64(3 - device), Max: 99}},
-			Paused: true, PausedDevices: []string{other}, Writers: []string{"versions of pics"}}},
+			Paused: true, PausedDevices: []string{other}, Writers: []string{"versions of pics"},
+			Options: &part.Options{MaxConflicts: 10, Versions: &part.Versions{Kind: part.VersionsStaggered, Place: "/srv/old"}}}},
 		Others: []part.Other{{ID: "music", Label: "Music", Devices: []string{other}, Away: "it is paused"}}}
 }
 
