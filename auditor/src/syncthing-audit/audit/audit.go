@@ -147,7 +147,7 @@ func (c *collector) checkSomething() error {
 
 // folder goes through the names of a folder.
 func (c *collector) folder(folder *join.Folder) error {
-	next := &names{collector: c, folder: folder, found: &finding.Folder{ID: folder.ID, Label: folder.Label, Own: folder.Own, Members: folder.Members,
+	next := &names{collector: c, folder: folder, found: &finding.Folder{ID: folder.ID, Label: folder.Label, Own: folder.Own, IsOut: folder.IsOut, Members: folder.Members,
 		Live: liveOf(folder), Rows: map[string]*join.Row{}}, filled: c.filled(folder)}
 	foretold := read.NewRows(folder)
 	c.answer.Folders = append(c.answer.Folders, next.found)

@@ -55,6 +55,7 @@ type Unasked struct {
 type Folder struct {
 	ID, Label   string
 	Own         string                  `json:",omitempty"` // the one device, where that shares its folder with nobody: others may have theirs of this id
+	IsOut       bool                    `json:",omitempty"` // whether its one device is left out of what is compared, as join.Folder has it
 	Members     []join.Member           // their numbers rising; the rows' places are theirs
 	Names       int64                   // known ones, those without a winner included
 	Deleted     int64                   // of these what no device holds
@@ -194,7 +195,7 @@ func IsBefore(failure, other *Failure, order []string) bool {
 // share it with one another.
 func (a *Answer) IsApart(folder *Folder) bool {
 	for _, other := range a.Folders {
-		if folder.Own != "" && folder.ID != join.ByChance && other.ID == folder.ID && other.Own != folder.Own {
+		if folder.Own != "" && folder.ID != join.ByChance && other.ID == folder.ID && other.Own != folder.Own && !folder.IsOut && !other.IsOut {
 			return true
 		}
 	}
@@ -213,7 +214,7 @@ func (a *Answer) IsWhole(folder *Folder) bool { return !a.lacksSome(folder) && f
 
 // lacksSome says whether a name or a device of the folder was left out, or a name was in motion.
 func (a *Answer) lacksSome(folder *Folder) bool {
-	if len(folder.LeftOut) > 0 || (len(folder.Members) < 2 && folder.Own == "") || folder.Live.isMoving() {
+	if len(folder.LeftOut) > 0 || (len(folder.Members) < 2 && folder.Own == "") || folder.IsOut || folder.Live.isMoving() {
 		return true
 	}
 	isOf := func(refusal Refusal) bool { return refusal.Folder == folder.ID }

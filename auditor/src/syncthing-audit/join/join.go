@@ -45,7 +45,8 @@ type Folder struct {
 	ID      string
 	Label   string
 	Members []Member
-	Own     string // the id of the one device, where that shares its folder with nobody
+	Own     string // the id of the one device, where that shares its folder with nobody, or is out
+	IsOut   bool   // whether its device is left out of what is compared: of that one its own index and disk are compared
 
 	isEarlier         map[string]bool // the devices of whose indexes others know later changes
 	isEarlierThanWire map[string]bool // those of which others know so that are asked over the wire

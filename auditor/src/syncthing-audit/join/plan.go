@@ -58,9 +58,7 @@ func NewPlanWithout(unreached map[string]string, devices []*Device, wanted []str
 	for _, id := range ids {
 		for _, folder := range plan.foldersOf(id) {
 			plan.checkOwn(folder)
-			if plan.check(folder) {
-				plan.Folders = append(plan.Folders, folder)
-			}
+			plan.Folders = append(plan.Folders, plan.check(folder)...)
 		}
 	}
 	has := plan.places()
@@ -137,22 +135,23 @@ func (p *Plan) foldersOf(id string) []*Folder {
 	return folder.split()
 }
 
-// check leaves out what can't be audited of a folder, and says whether something of it is audited.
-func (p *Plan) check(folder *Folder) bool {
-	before := len(p.Refusals)
+// check leaves out what can't be audited of a folder, and gives what is: the devices that are compared, and by itself each one that is out.
+func (p *Plan) check(folder *Folder) []*Folder {
+	before, members, audited := len(p.Refusals), folder.Members, []*Folder{}
 	p.checkWhole(folder)
 	if len(p.Refusals) > before {
-		return false
+		return audited
 	}
-	encrypted := p.takeOutEncrypted(folder)
-	if len(folder.Members) == 0 {
-		return false
+	if encrypted := p.takeOutEncrypted(folder); len(folder.Members) > 0 {
+		p.checkApart(folder)
+		p.checkSharing(folder, encrypted)
+		p.partBy(part.Moment, folder, outOfOrder)
+		p.checkMoments(folder)
 	}
-	p.checkApart(folder)
-	p.checkSharing(folder, encrypted)
-	p.partBy(part.Moment, folder, outOfOrder)
-	p.checkMoments(folder)
-	return len(folder.Members) > 0
+	if len(folder.Members) > 0 {
+		audited = append(audited, folder)
+	}
+	return append(audited, folder.outOf(members)...)
 }
 
 // refuse adds a refusal.

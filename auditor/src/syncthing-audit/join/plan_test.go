@@ -110,13 +110,39 @@ func TestSharing(t *testing.T) {
 		if err != nil {
 			t.Fatal(one.why, err)
 		}
-		members := 0
+		members, out := 0, map[string]bool{}
 		for _, folder := range plan.Folders {
-			members += len(folder.Members)
+			if !folder.IsOut {
+				members += len(folder.Members)
+			} else if out[folder.Own] = true; len(folder.Members) != 1 || folder.Members[0].Head.Device != folder.Own {
+				t.Errorf("%s: of one that is out %d devices are compared", one.why, len(folder.Members))
+			}
+		}
+		for _, device := range plan.Devices {
+			isIn := false
+			for _, folder := range plan.Folders {
+				isIn = isIn || !folder.IsOut && folder.Member(device.Head.Device) >= 0
+			}
+			isDue := !isIn && one.refused != part.OddName && device.Head.Folders[0].Kind != part.KindEncrypted
+			if is := out[device.Head.Device]; is != isDue {
+				t.Errorf("%s: device %s is compared with its own index: %v", one.why, device.From, is)
+			}
 		}
 		if refused(plan) != one.refused || members != one.members {
 			t.Errorf("%s: %q, %d devices", one.why, refused(plan), members)
 		}
+	}
+}
+
+// A device that says that it shares the folder with itself isn't linked to more of the others by that.
+func TestNobodyIsLinkedToItself(t *testing.T) {
+	plan, err := NewPlan(sharing(map[byte]string{1: "12", 2: "2"}, func(device byte, folder *part.Folder) {
+		if device == 2 {
+			folder.Sharing = append(folder.Sharing, part.Sharing{Device: deviceID(2)})
+		}
+	}), nil)
+	if err != nil || refused(plan) != part.Unshared || plan.Refusals[0].Device != deviceID(2) {
+		t.Errorf("%v, %+v", err, plan.Refusals)
 	}
 }
 
@@ -147,6 +173,9 @@ func TestFoldersThatAreSharedWithNobody(t *testing.T) {
 		}
 		own := []string{}
 		for _, folder := range plan.Folders {
+			if folder.IsOut {
+				continue
+			}
 			if folder.Own == "" {
 				own = append(own, "-")
 				continue

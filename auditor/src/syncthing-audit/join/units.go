@@ -16,6 +16,19 @@ func (f *Folder) takeOut(is func(member Member) bool) {
 	f.Members = kept
 }
 
+// outOf gives a folder for each member that was taken out: what others say takes a device out, and hides not what its own index and disk say. One that
+// says of itself that the folder is encrypted there isn't read, nor is a folder that no document has.
+func (f *Folder) outOf(members []Member) []*Folder {
+	all := []*Folder{}
+	for _, member := range members {
+		id := member.Head.Device
+		if f.Member(id) < 0 && member.About.Kind != part.KindEncrypted {
+			all = append(all, &Folder{ID: f.ID, Label: member.About.Label, Members: []Member{member}, Own: id, IsOut: true})
+		}
+	}
+	return all
+}
+
 // odds are two members that can't both be audited, by the one's fault as it seems.
 type odds struct {
 	one, other       string // their ids
@@ -53,7 +66,7 @@ func (p *Plan) partBy(kind string, folder *Folder, oddsOf func(*Folder) []odds) 
 func (f *Folder) links(device string) int {
 	count, at := 0, f.Member(device)
 	for _, other := range f.Members {
-		if sharesWith(f.Members[at].About, other.Head.Device) && sharesWith(other.About, device) {
+		if other.Head.Device != device && sharesWith(f.Members[at].About, other.Head.Device) && sharesWith(other.About, device) {
 			count++
 		}
 	}

@@ -79,7 +79,7 @@ func TestAFolderThatWasOpened(t *testing.T) {
 		one.Head.Folders[0].Sharing[0].Encrypted = true
 		two.Head.Folders[0].IsOpened = isOpened
 		plan, err := NewPlan([]*Device{one, two}, nil)
-		if err != nil || len(plan.Folders) != 1 || (len(plan.Folders[0].Members) == 2) != isOpened || (len(plan.Refusals) == 0) != isOpened {
+		if err != nil || (len(plan.Folders) == 1) != isOpened || (len(plan.Folders[0].Members) == 2) != isOpened || (len(plan.Refusals) == 0) != isOpened {
 			t.Errorf("opened %v: %v, %+v", isOpened, err, plan)
 		}
 	}

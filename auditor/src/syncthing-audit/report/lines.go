@@ -134,6 +134,8 @@ func own(to io.Writer, answer *finding.Answer, folder *finding.Folder) {
 	switch {
 	case answer.IsApart(folder):
 		outside.Printf(to, "not shared with one another: folder %s on %d\n", folder.ID, folder.Members[0].Number)
+	case folder.IsOut:
+		outside.Printf(to, "by itself: folder %s on %d\n", folder.ID, folder.Members[0].Number)
 	case folder.Own != "":
 		outside.Printf(to, "not shared: folder %s on %d\n", folder.ID, folder.Members[0].Number)
 	}

@@ -19,7 +19,9 @@ func (p *printer) rest(s *Summary) {
 		p.unsure(folder)
 		p.copies(folder)
 		p.leftOut(folder)
-		if len(folder.Devices) < 2 && !folder.Own {
+		if folder.IsOut {
+			p.Line("by itself: %s on %s, which is left out of what is compared: what stands on its disk was compared with its own index alone", folder.ID, p.Called.All(devicesIn(folder)))
+		} else if len(folder.Devices) < 2 && !folder.Own {
 			p.Line("alone: %s is audited on one device, so there is nothing to compare it with", folder.ID)
 		}
 	}

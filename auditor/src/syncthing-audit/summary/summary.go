@@ -101,7 +101,8 @@ type Folder struct {
 	MoreOut Count              `json:"left_out_unlisted"`
 	More    Count              `json:"conflict_copies_unlisted"`
 	Ignored Count              `json:"ignored"`
-	Own     bool               `json:"not_shared,omitempty"` // its one device shares it with nobody: it was compared with that one's own index
+	Own     bool               `json:"not_shared,omitempty"`      // its one device shares it with nobody: it was compared with that one's own index
+	IsOut   bool               `json:"left_out_device,omitempty"` // its one device is left out of what is compared: it was compared with that one's own index
 	off     []part.Sharing     // devices that share it and aren't audited in it
 	modes   int64              // names of which the permissions alone differ, which don't count for the verdict
 	isApart bool               // whether other devices have theirs of this id, which they share with nobody, too
@@ -244,7 +245,7 @@ func verdictOf(hasFailures, isPartial bool) string {
 
 // folderOf gives the summary of a folder, but for what is told of its names, which it puts there.
 func folderOf(answer *finding.Answer, from *finding.Folder, all *folding) *Folder {
-	folder := &Folder{Outlook: &outlook.Outlook{}, ID: from.ID, Label: from.Label, Own: from.Own != "", isApart: answer.IsApart(from), off: all.off, Verdict: verdictOf(from.HasFailures(), answer.IsPart(from)), Names: from.Names, Deleted: from.Deleted, Going: from.Deleting, Bytes: from.Bytes,
+	folder := &Folder{Outlook: &outlook.Outlook{}, ID: from.ID, Label: from.Label, Own: from.Own != "" && !from.IsOut, IsOut: from.IsOut, isApart: answer.IsApart(from), off: all.off, Verdict: verdictOf(from.HasFailures(), answer.IsPart(from)), Names: from.Names, Deleted: from.Deleted, Going: from.Deleting, Bytes: from.Bytes,
 		Devices: lists.Each(from.Members, memberOf), Files: []*File{}, Groups: []*Group{}, Copies: append([]finding.Conflict{}, from.Conflicts...), LeftOut: append([]*finding.LeftOut{}, from.LeftOut...), Ignored: from.Outside, MoreOut: from.Unlisted.LeftOut, More: from.Unlisted.Conflicts}
 	if from.Outlook != nil {
 		*folder.Outlook = *from.Outlook
