@@ -230,6 +230,29 @@ func TestObserversAreTakenOutEverywhere(t *testing.T) {
 	}
 }
 
+// A part makes no observer of a device that has a part itself, or of which another one has records: its absence is told, and it is compared.
+func TestAPartMakesNoObserverOfADeviceThatKeepsFiles(t *testing.T) {
+	third := deviceID(7)
+	for _, row := range []struct {
+		observer string
+		heard    int64 // of the third device, which has no part
+		known    []string
+		refused  string
+	}{
+		{observerID, 9, nil, part.Absent}, {ids[1], 9, nil, "absent absent"}, {third, 9, nil, "absent absent"}, {third, 0, nil, part.Absent}, {observerID, 9, []string{third}, ""}, {third, 9, []string{third}, part.Absent},
+	} {
+		one, two := partOf(0, true, false, 5, 5), partOf(1, false, false, 5, 5)
+		one.Head.Wire.Observer = row.observer
+		folder := &two.Head.Folders[0]
+		folder.Sharing = append(folder.Sharing, part.Sharing{Device: third})
+		folder.Views = append(folder.Views, part.View{Device: third, IndexID: 3, Max: row.heard})
+		plan, err := NewPlan([]*Device{one, two}, nil, row.known...)
+		if err != nil || refused(plan) != row.refused || len(plan.Folders) != 1 || len(plan.Folders[0].Members) != 2 {
+			t.Errorf("%+v: %v, %s, %+v", row, err, refused(plan), plan.Folders)
+		}
+	}
+}
+
 // A name moves if anything of it changed at a member. Nobody is unheard of a name that a member hasn't, nor of its own.
 func TestWhatMovesAndWhatIsNotHeardOf(t *testing.T) {
 	for isMoving, at := range map[bool][]*part.Name{false: {nil, {}, {Out: []part.LeftOut{{}}}}, true: {nil, {}, {Moved: []string{part.MovedDisk}}}} {

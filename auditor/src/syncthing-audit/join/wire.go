@@ -139,18 +139,34 @@ func (d *Device) whyUnseen(folder string) string {
 	return "it doesn't share the folder with the observer"
 }
 
-// observers gives the devices that made parts over the wire. They share the folders, and keep none of their files.
+// observers gives the devices that made parts over the wire. They share the folders, and keep none of their files. A part's word makes no observer of a
+// device that is seen to keep files: nobody would miss that one's part.
 func observers(devices []*Device, known []string) map[string]bool {
 	ids := map[string]bool{}
 	for _, id := range known {
 		ids[id] = true
 	}
 	for _, device := range devices {
-		if device.Head.Wire != nil {
-			ids[device.Head.Wire.Observer] = true
+		if wire := device.Head.Wire; wire != nil && !keepsFiles(devices, wire.Observer) {
+			ids[wire.Observer] = true
 		}
 	}
 	return ids
+}
+
+// keepsFiles says whether a device has a part, or another one has records of it. An observer has none, and sends none.
+func keepsFiles(devices []*Device, id string) bool {
+	for _, device := range devices {
+		if device.Head.Device == id {
+			return true
+		}
+		for _, folder := range device.Head.Folders {
+			if slices.IndexFunc(folder.Views, func(view part.View) bool { return view.Device == id && view.Max > 0 }) >= 0 {
+				return true
+			}
+		}
+	}
+	return false
 }
 
 // Observer is a device that shares a folder and keeps no files of it.
