@@ -86,7 +86,7 @@ func directly(one, other *part.Name) *part.Name {
 				moved = append(moved, why)
 			}
 		}
-		if len(one.Out) == 0 && one.Disk.Mark() == other.Disk.Mark() && !one.IsAsRecorded(0) {
+		if len(one.Out) == 0 && one.Disk.Mark() == other.Disk.Mark() && !isRecorded {
 			moved = append(moved, part.MovedUnscanned)
 		}
 	}

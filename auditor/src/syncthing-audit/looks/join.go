@@ -190,7 +190,7 @@ func (s *Stream) both(name, other *part.Name) *part.Name {
 		add(!reflect.DeepEqual(s.first.viewsOf(name, s.head.Folders[s.folder].ID), s.second.viewsOf(other, s.head.Folders[s.folder].ID)), part.MovedViews)
 		add(name.Receiving != other.Receiving, part.MovedReceiving)
 		add(!sameDisk || !isOutAlike(name, other), part.MovedDisk)
-		add(len(name.Out) == 0 && sameDisk && !name.IsAsRecorded(s.head.Folders[s.folder].Window()), part.MovedUnscanned)
+		add(len(name.Out) == 0 && sameDisk && !s.atLast(name, other).IsAsRecorded(s.head.Folders[s.folder].Window()), part.MovedUnscanned)
 	}
 	if len(moved) > 0 {
 		return &part.Name{Name: name.Name, Moved: moved, Waits: s.waiting(name, other)}
@@ -200,12 +200,18 @@ func (s *Stream) both(name, other *part.Name) *part.Name {
 
 // waiting gives the record and the disk of a name whose disk is the same at both looks, and isn't as the last record says. It gives nothing of others.
 func (s *Stream) waiting(name, other *part.Name) *part.Name {
-	told := s.still(&part.Name{Name: name.Name, Own: other.Own, Disk: name.Disk})
+	told := s.atLast(name, other)
 	isKnown := len(name.Moved)+len(other.Moved)+len(name.Out)+len(other.Out) == 0 && name.Disk.Mark() == other.Disk.Mark()
 	if !isKnown || told.IsAsRecorded(s.head.Folders[s.folder].Window()) {
 		return nil
 	}
 	return told
+}
+
+// atLast gives what stands on the disk at both looks beside the last record. A pull puts a file in its place, and records it a moment later: between the two a look sees
+// a disk that isn't as recorded, and yet no scan has to see it.
+func (s *Stream) atLast(name, other *part.Name) *part.Name {
+	return s.still(&part.Name{Name: name.Name, Own: other.Own, Disk: name.Disk})
 }
 
 // still gives a name of the first look as both looks have it.
