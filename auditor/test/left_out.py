@@ -55,7 +55,7 @@ class LeftOut(Exporting):
         self.assertTrue([line for line in lines if line.startswith(f"{OTHER} ({LABEL}): NOT in step, 1 name is wrong;")], lines)
         self.assertTrue([line for line in lines if line.startswith(f"{FOLDER}: {IN_STEP} as far as audited") and line.endswith("; in motion: 2")], lines)
         for name in ("late", "text"):
-            self.assertIn(f"  {name}: {self.one.id[:7]}: it changed after this part was made", lines)
+            self.assertIn(f"  {name}: {self.one.id[:7]}: another device knows of a later change of it", lines)
         earlier, = [line for line in lines if line.startswith("of another moment: ")]
         self.assertTrue(earlier.startswith(f"of another moment: {FOLDER} of {self.one.id}: it is of an earlier moment than {parts[1]}, which knows of its change "), earlier)
         with rot(self.two.files / "folder" / "large", 1000):

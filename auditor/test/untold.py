@@ -5,6 +5,7 @@ one has heard of a change, and can't take it.
     auditor/test/untold.py
 """
 
+import json
 import shutil
 import subprocess
 import time
@@ -30,17 +31,17 @@ class WithEntries(Exporting):
         return {entry.split("  (in ")[0]: " ".join(entry.split()) for entry in self.text().split("\n\n")}["text"]
 
 
-class ChangesThatNobodyTells(WithEntries):
-    """The first device gives sequences anew that the second one has heard already."""
+class WentBack(WithEntries):
+    """Devices of which the first one is put back to an earlier moment."""
 
     def keep(self):
         """What the first device has at this moment."""
         for name in ("home", "files"):
             shutil.copytree(self.one.home.parent / name, self.room / "kept" / name, symlinks=True)
 
-    def go_back(self):
-        """Puts the first device back to that moment."""
-        for name in ("home", "files"):
+    def go_back(self, *names):
+        """Puts these of the first device back to that moment."""
+        for name in names:
             shutil.rmtree(self.one.home.parent / name)
             (self.room / "kept" / name).rename(self.one.home.parent / name)
 
@@ -51,6 +52,10 @@ class ChangesThatNobodyTells(WithEntries):
                                               env=device.environment(), stdout=log, stderr=log)
         wait_until("it answers", device.answers)
 
+
+class ChangesThatNobodyTells(WentBack):
+    """The first device gives sequences anew that the second one has heard already."""
+
     def test_the_change_stays_untold_until_the_index_is_sent_anew(self):
         """Real devices show 'Up to Date' with two contents, and do what the answer says."""
         self.keep()
@@ -59,7 +64,7 @@ class ChangesThatNobodyTells(WithEntries):
             (self.one.files / name).write_text(name)
         self.scan_and_wait()
         self.stop()
-        self.go_back()
+        self.go_back("home", "files")
         self.one.start()
         for name in ("text", "d", "e", "f"):
             (self.one.files / name).write_text("changed on one")
@@ -78,6 +83,38 @@ class ChangesThatNobodyTells(WithEntries):
         wait_until_in_step(self.one, self.two)
         self.stop()
         self.assertEqual(self.verdict(), "settled")
+
+
+class AnOlderHome(WentBack):
+    """The first device gets an older home, as from a backup, and has its present files. That was read no earlier than the second one's home."""
+
+    def told(self, *words):
+        """What a person or a program reads, with the status."""
+        ran = self.on_homes("check", [device.home for device in self.devices], "--syncaudit", self.auditor, *words)
+        return ran.returncode, ran.stdout
+
+    def test_a_start_as_the_answer_says_has_all_told(self):
+        """No part that is made anew helps, so nobody is told to make one. Once the index is sent anew, nothing is left that is never told."""
+        self.keep()
+        self.start()
+        (self.one.files / "text").write_text("changed on one")
+        (self.one.files / "empty").unlink()
+        self.scan_and_wait()
+        self.stop()
+        self.go_back("home")
+        status, text = self.told()
+        self.assertEqual(status, 6, text)
+        self.assertIn(f"first, on {self.one.id[:7]}: its index is older than what others know of it", text)
+        self.assertIn("not audited: do what stands above behind 'first'", text)
+        self.assertNotIn("make the part", text)
+        self.start_with_reset(self.one)
+        self.two.start()
+        wait_until_in_step(self.one, self.two)
+        self.stop()
+        status, text = self.told("--json")
+        folder, = json.loads(text)["folders"]
+        self.assertEqual((status, folder["verdict"], folder["outlook"]["why_not_known"]), (0, "in-step", []), text)
+        self.assertEqual([(device.files / "text").read_text() for device in self.devices], ["changed on one"] * 2)
 
 
 class AChangeThatIsHeardAndNotTaken(WithEntries):

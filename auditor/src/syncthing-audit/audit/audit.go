@@ -80,7 +80,7 @@ func (c *collector) refusePlan() {
 
 // refusalOf says why something of a plan isn't audited, as it is told.
 func refusalOf(refusal join.Refusal) finding.Refusal {
-	return finding.Refusal{Kind: refusal.Kind, Folder: refusal.Folder, Label: refusal.Label, Device: label(refusal), ID: refusal.Device, Why: refusal.Why}
+	return finding.Refusal{Kind: refusal.Kind, Folder: refusal.Folder, Label: refusal.Label, Device: label(refusal), ID: refusal.Device, Why: refusal.Why, WentBack: refusal.WentBack}
 }
 
 // label names the device of a refusal for a person.

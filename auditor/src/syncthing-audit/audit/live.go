@@ -18,6 +18,7 @@ func liveOf(folder *join.Folder) *finding.Live {
 		return nil
 	}
 	live := finding.NewLive()
+	live.WentBack = folder.HasGoneBack()
 	if !folder.IsLive() {
 		live.OfParts = true
 	} else if spent, err := folder.Still(); err == nil {

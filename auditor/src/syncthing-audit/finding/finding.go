@@ -156,6 +156,8 @@ type Refusal struct {
 	Kind   string `json:"kind"` // that --leave-out names; none where it can't be left out
 	Why    string `json:"why"`
 
+	WentBack bool `json:"went_back,omitempty"` // whether the device's index is older than what another one knows of it, and was read no earlier
+
 	ID string `json:"-"` // of the device; nothing where it isn't known, or where this was read from an export
 }
 

@@ -8,13 +8,14 @@ import (
 
 // Live is what two looks at running devices say of a folder beside what is still. Of parts of different moments it says which names changed between.
 type Live struct {
-	OfParts bool                `json:"of_parts,omitempty"` // whether the devices were stopped, and no look was made
-	Seconds *float64            `json:"still_seconds"`      // between the last first look and the first second one; none where clocks differ by more
-	Moving  int64               `json:"names_in_motion"`    // that changed between the looks at a device, and aren't audited
-	Names   []Moving            `json:"in_motion"`          // the first MostListed
-	Unheard []Unheard           `json:"not_heard_of"`
-	Waits   int64               `json:"names_waiting,omitempty"` // of all names in motion, those that wait for a scan
-	Waiting map[string]*Waiting `json:"waiting,omitempty"`       // by device: what waits for a scan there, of all these names
+	OfParts  bool                `json:"of_parts,omitempty"` // whether the devices were stopped, and no look was made
+	WentBack bool                `json:"-"`                  // whether the index of a device went back, so that no later audit of it by itself has the names at rest
+	Seconds  *float64            `json:"still_seconds"`      // between the last first look and the first second one; none where clocks differ by more
+	Moving   int64               `json:"names_in_motion"`    // that changed between the looks at a device, and aren't audited
+	Names    []Moving            `json:"in_motion"`          // the first MostListed
+	Unheard  []Unheard           `json:"not_heard_of"`
+	Waits    int64               `json:"names_waiting,omitempty"` // of all names in motion, those that wait for a scan
+	Waiting  map[string]*Waiting `json:"waiting,omitempty"`       // by device: what waits for a scan there, of all these names
 }
 
 // Moving is a name that changed at a device while it was looked at, or waits there.

@@ -158,7 +158,9 @@ func (i *Inputs) addHome(asked commandline.Options, home *device.Home, maps devi
 	}
 	stream := read.Stream()
 	i.closers = append(i.closers, stream.Close)
-	i.Devices = append(i.Devices, join.NewDevice(stream, home.Dir))
+	of := join.NewDevice(stream, home.Dir)
+	of.IsHome = true
+	i.Devices = append(i.Devices, of)
 	return nil
 }
 

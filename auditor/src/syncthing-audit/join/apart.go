@@ -25,8 +25,8 @@ const ByChance = "default"
 func (p *Plan) checkOwn(folder *Folder) {
 	for _, device := range p.Devices {
 		if folder.Own != "" && device.Head.Folder(folder.ID) == nil && device.mayShare(folder.ID) && !p.IsLeftOut(folder.ID, device.Head.Device) {
-			p.leaveOut(Refusal{part.Unshared, folder.ID, folder.Label, device.Head.Device, device.Head.Name,
-				device.whyWithout(folder.ID) + "; " + folder.Members[0].Label() + " shares it with nobody"})
+			p.leaveOut(Refusal{Kind: part.Unshared, Folder: folder.ID, Label: folder.Label, Device: device.Head.Device, Name: device.Head.Name,
+				Why: device.whyWithout(folder.ID) + "; " + folder.Members[0].Label() + " shares it with nobody"})
 		}
 	}
 }
@@ -68,8 +68,8 @@ func (p *Plan) checkApart(folder *Folder) {
 		switch {
 		case together[member.Head.Device]:
 		case len(member.About.Sharing) == 0:
-			p.leaveOut(Refusal{part.Unshared, folder.ID, folder.Label, member.Head.Device, member.Head.Name,
-				"it shares its folder of this id with nobody: it is another folder than that of " + kept[0].Label()})
+			p.leaveOut(Refusal{Kind: part.Unshared, Folder: folder.ID, Label: folder.Label, Device: member.Head.Device, Name: member.Head.Name,
+				Why: "it shares its folder of this id with nobody: it is another folder than that of " + kept[0].Label()})
 		default:
 			p.refuse(part.Unshared, folder, member.Head.Device, member.Head.Name, "it doesn't share the folder with "+kept[0].Label()+
 				", not even by way of others: its own is another folder of the same id")

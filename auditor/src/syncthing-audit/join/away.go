@@ -18,7 +18,7 @@ func (p *Plan) leaveOutAway(wanted []string) {
 				if other.IsStopped || other.Apart != "" {
 					to = &p.Refusals
 				}
-				*to = append(*to, Refusal{kindOfAway(other), other.ID, other.Label, device.Head.Device, device.Head.Name, WhyAway(other)})
+				*to = append(*to, Refusal{Kind: kindOfAway(other), Folder: other.ID, Label: other.Label, Device: device.Head.Device, Name: device.Head.Name, Why: WhyAway(other)})
 			}
 		}
 	}

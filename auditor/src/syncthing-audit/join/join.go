@@ -18,6 +18,7 @@ type Device struct {
 	From   string // the home or the file, for messages
 
 	IsUnsigned bool      // whether it was read from a part whose signature nobody checked
+	IsHome     bool      // whether its home is read now, and no part that was made before
 	line       part.Line // the next one, if it is there
 	isLine     bool
 }
@@ -50,6 +51,7 @@ type Folder struct {
 
 	isEarlier         map[string]bool // the devices of whose indexes others know later changes
 	isEarlierThanWire map[string]bool // those of which others know so that are asked over the wire
+	hasGoneBack       bool            // whether one of these was read no earlier than what knows so
 }
 
 // Called names the folder for a person.

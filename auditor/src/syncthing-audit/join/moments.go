@@ -25,7 +25,8 @@ func (p *Plan) checkMomentsOf(folder *Folder, knower *Member) {
 			continue
 		}
 		other := folder.Members[at]
-		found := Refusal{part.Moment, folder.ID, folder.Label, other.Head.Device, other.Head.Name, fmt.Sprintf(whyEarlier(other.Head), knower.From, view.Max, other.About.Max)}
+		found := Refusal{Kind: part.Moment, Folder: folder.ID, Label: folder.Label, Device: other.Head.Device, Name: other.Head.Name, WentBack: wentBack(other.Device, knower.Device)}
+		found.Why = fmt.Sprintf(whyEarlier(&other, found.WentBack), knower.From, view.Max, other.About.Max)
 		if knower.Head.IsOverWire() {
 			if !folder.isEarlierThanWire[other.Head.Device] {
 				p.Refusals = append(p.Refusals, found)
@@ -35,6 +36,7 @@ func (p *Plan) checkMomentsOf(folder *Folder, knower *Member) {
 		}
 		p.Earlier = append(p.Earlier, found)
 		folder.isEarlier = with(folder.isEarlier, other.Head.Device)
+		folder.hasGoneBack = folder.hasGoneBack || found.WentBack
 		knower.clip(place, other.About.Max)
 	}
 }
@@ -56,20 +58,31 @@ func (m *Member) clip(place int, most int64) {
 	m.About = &about
 }
 
+// wentBack says whether a device's index went back since another device heard of it, as far as the times of both tell. A home is read now, and so no
+// earlier than anything else.
+func wentBack(device, knower *Device) bool {
+	return device.Head.Look != nil || device.IsHome || !device.Head.Made.Before(knower.Head.Made)
+}
+
 // whyEarlier says why a part can't be of the moment of another one.
-func whyEarlier(head *part.Head) string {
-	if head.IsOverWire() {
+func whyEarlier(of *Member, wentBack bool) string {
+	switch {
+	case of.Head.IsOverWire():
 		return "%s says that it knows of its change %d, and over the wire it says later itself that its last one is %d. Either that isn't so, or its index went back, as " +
-			"after an older home was put in its place there. Then Syncthing doesn't tell such changes again by itself: stop it there, and start it once by " +
-			"'syncthing serve --reset-deltas'"
-	}
-	if head.Look != nil {
+			"after an older home was put in its place there. Then Syncthing doesn't tell such changes again by itself: stop it there, and " + part.ResetDeltas
+	case of.Head.Look != nil:
 		return "%s knew of its change %d at its first look, and at this one's second look, which came later, its last one is %d: " +
 			"was an older home put in its place, or a copy looked at?"
+	case wentBack:
+		return "%s knows of its change %d, and here, where it was read no earlier, its last one is %d: its index went back, as after an older home was put in its place, " +
+			"or a copy of an older one was read"
 	}
 	return "it is of an earlier moment than %s, which knows of its change %d, and here its last one is %d. To compare all names, stop both devices, and make " +
 		"the part of this one anew"
 }
+
+// HasGoneBack says whether the index of a device went back: it isn't only that its part was made first.
+func (f *Folder) HasGoneBack() bool { return f.hasGoneBack }
 
 // IsOfOneMoment says whether no device knows more of another one than that one's part has.
 func (f *Folder) IsOfOneMoment() bool { return len(f.isEarlier) == 0 }

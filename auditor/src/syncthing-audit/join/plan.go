@@ -17,6 +17,8 @@ type Refusal struct {
 	Device string // its id, or nothing
 	Name   string // what the device is called by those who know it
 	Why    string
+
+	WentBack bool // whether the device's index is older than what was read before of another one, which knows of later changes
 }
 
 // Plan is what is audited: folders, rising by id, with their devices.
@@ -156,7 +158,7 @@ func (p *Plan) check(folder *Folder) []*Folder {
 
 // refuse adds a refusal.
 func (p *Plan) refuse(kind string, folder *Folder, device, name, why string) {
-	p.Refusals = append(p.Refusals, Refusal{kind, folder.ID, folder.Label, device, name, why})
+	p.Refusals = append(p.Refusals, Refusal{Kind: kind, Folder: folder.ID, Label: folder.Label, Device: device, Name: name, Why: why})
 }
 
 // checkWhole refuses a folder that no row has.

@@ -33,9 +33,12 @@ func named(with map[byte]string, change func(devices []*Device)) []*Device {
 func TestEachRefusalOfAPlanIsToldWhole(t *testing.T) {
 	one, two, three := deviceID(1), deviceID(2), deviceID(3)
 	of := func(kind, device, name, why string) Refusal {
-		return Refusal{kind, "docs", "Documents", device, name, why}
+		return Refusal{Kind: kind, Folder: "docs", Label: "Documents", Device: device, Name: name, Why: why}
 	}
 	first := func(devices []*Device) *part.Folder { return &devices[0].Head.Folders[0] }
+	wentBack := of(part.Moment, one, "own 0", "2 knows of its change 6, and here, where it was read no earlier, its last one is 5: its index went back, as after an older home "+
+		"was put in its place, or a copy of an older one was read")
+	wentBack.WentBack = true
 	for _, row := range []struct {
 		why      string
 		with     map[byte]string
@@ -61,12 +64,21 @@ func TestEachRefusalOfAPlanIsToldWhole(t *testing.T) {
 			[]Refusal{of(part.Encrypted, two, "own 1", "the folder is shared encrypted with it by device own 0 (AAAAAAA), by that one's word, and isn't encrypted there by its own: which of the two is right isn't known")}, nil},
 		{"an earlier moment", map[byte]string{1: "2", 2: "1"}, func(devices []*Device) {
 			first(devices).Views = []part.View{{Device: deviceID(9), IndexID: 2, Max: 99}, {Device: two, IndexID: 7, Max: 99}, {Device: two, IndexID: 2, Max: 6}}
+			devices[0].Head.Made = devices[1].Head.Made.Add(time.Second)
 		}, nil, []Refusal{of(part.Moment, two, "own 1", "it is of an earlier moment than 1, which knows of its change 6, and here its last one is 5. To compare all "+
 			"names, stop both devices, and make the part of this one anew")}},
 		{"an earlier moment of the first one", map[byte]string{1: "2", 2: "1"}, func(devices []*Device) {
 			devices[1].Head.Folders[0].Views = []part.View{{Device: one, IndexID: 1, Max: 6}}
+			devices[1].Head.Made = devices[0].Head.Made.Add(time.Second)
 		}, nil, []Refusal{of(part.Moment, one, "own 0", "it is of an earlier moment than 2, which knows of its change 6, and here its last one is 5. To compare all "+
 			"names, stop both devices, and make the part of this one anew")}},
+		{"an index that went back: its part isn't the earlier one", map[byte]string{1: "2", 2: "1"}, func(devices []*Device) {
+			devices[1].Head.Folders[0].Views = []part.View{{Device: one, IndexID: 1, Max: 6}}
+		}, nil, []Refusal{wentBack}},
+		{"an index that went back: its home is read now", map[byte]string{1: "2", 2: "1"}, func(devices []*Device) {
+			devices[1].Head.Folders[0].Views = []part.View{{Device: one, IndexID: 1, Max: 6}}
+			devices[1].Head.Made, devices[0].IsHome = devices[0].Head.Made.Add(time.Hour), true
+		}, nil, []Refusal{wentBack}},
 		{"a folder of another id by chance", map[byte]string{1: "2", 2: "1", 3: ""}, func([]*Device) {}, nil,
 			[]Refusal{of(part.Unshared, three, "own 2", "it shares its folder of this id with nobody: it is another folder than that of device own 0 (AAAAAAA)")}},
 		{"two groups", map[byte]string{1: "2", 2: "1", 3: "4", 4: "3", 5: "4"}, func([]*Device) {}, []Refusal{
@@ -75,11 +87,11 @@ func TestEachRefusalOfAPlanIsToldWhole(t *testing.T) {
 			of(part.Unshared, deviceID(5), "own 4", "it shares the folder with device own 3 (AAAAAAA), which doesn't share it with this one")}, nil},
 		{"no id", map[byte]string{1: "2", 2: "1"}, func(devices []*Device) {
 			first(devices).ID, devices[1].Head.Folders[0].ID = "a b", "a b"
-		}, []Refusal{{part.OddName, "a b", "Documents", "", "", "its id isn't 1 to 64 ASCII letters, digits, '-' and '_'"}}, nil},
+		}, []Refusal{{Kind: part.OddName, Folder: "a b", Label: "Documents", Why: "its id isn't 1 to 64 ASCII letters, digits, '-' and '_'"}}, nil},
 	} {
 		plan, err := NewPlan(named(row.with, row.change), nil)
 		if err != nil || !reflect.DeepEqual(plan.Refusals, row.refusals) || !reflect.DeepEqual(append(plan.LeftOut, plan.Earlier...), row.leftOut) {
-			t.Errorf("%s: %v\n%q\n%q, %q", row.why, err, plan.Refusals, plan.LeftOut, plan.Earlier)
+			t.Errorf("%s: %v\n%+v\n%+v, %+v", row.why, err, plan.Refusals, plan.LeftOut, plan.Earlier)
 		}
 	}
 	for count := limits.MostDevices; count <= limits.MostDevices+1; count++ {

@@ -237,6 +237,11 @@ func (t *teller) end() *Outlook {
 				group.Devices = lists.Each(all.Members, func(member int) string { return t.devices[member].ID })
 			}
 		}
+		for member := range t.devices {
+			if why == read.NeverTold && t.rows.Silent.Has(member) {
+				group.Devices = append(group.Devices, t.devices[member].ID)
+			}
+		}
 		outlook.Unknown = append(outlook.Unknown, group)
 	}
 	for kept, count := range t.kept {

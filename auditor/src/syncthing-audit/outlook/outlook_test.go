@@ -316,6 +316,21 @@ func turn(folder *join.Folder, all []*join.Row) (*join.Folder, []*join.Row) {
 	return turned, rows
 }
 
+// Where it isn't known what comes of a name since a device may never tell it, that device is named.
+func TestWhoMayNeverTellANameIsNamed(t *testing.T) {
+	folder := folderOf("send-receive", "send-receive")
+	folder.Members[0].About.Views[0].Max = 99 // heard, and of the name's record it isn't so
+	drawn := rows{rand.New(rand.NewSource(1)), 2}
+	row := drawn.row("a")
+	row.At[1].Own.Version = [][2]uint64{{2, 7}, {9, 1}}
+	made := read.NewRows(folder)
+	made.Take(row)
+	told := NewForeteller(forecast.Budget{}, 0).Of(made)
+	if len(told.Unknown) != 1 || told.Unknown[0].Why != string(read.NeverTold) || !reflect.DeepEqual(told.Unknown[0].Devices, []string{idOf(1)}) {
+		t.Errorf("%+v", told.Unknown)
+	}
+}
+
 // A file that is rotten on the one device that has it never comes right: no scan sees it.
 func TestRotOnOneDeviceStays(t *testing.T) {
 	own := &part.Record{ModifiedS: 100, ModifiedBy: 1, Version: [][2]uint64{{9, 1}}, Sequence: 1, Content: &part.Content{Size: 3, BlockSize: protocol.MinBlockSize, Hash: part.Hash{1}}}

@@ -117,6 +117,9 @@ func (o *Other) WhatToDo() string {
 	return "mount its disk, and audit again"
 }
 
+// ResetDeltas has a device and the others tell each other all changes anew.
+const ResetDeltas = "start it there once by 'syncthing serve --reset-deltas', as the same user and with the same --home, --config and --data as ever"
+
 // Folder is a folder at the device.
 type Folder struct {
 	ID                 string    `json:"id"`

@@ -76,7 +76,7 @@ func TestWhoSharesWithADeviceThatIsNotAudited(t *testing.T) {
 
 // Why a name isn't known is told by its own reason or, of one that isn't listed, by the first one: with all devices of that, and what makes it known.
 func TestWhyANameIsNotKnown(t *testing.T) {
-	of := &outlook.Outlook{Unknown: []outlook.Group{{Why: "paused", Devices: at(2, 0)}, {Why: "budget"}, {Why: "damaged", Devices: at(1)}}}
+	of := &outlook.Outlook{Unknown: []outlook.Group{{Why: "paused", Devices: at(2, 0)}, {Why: "budget"}, {Why: "damaged", Devices: at(1)}, {Why: string(read.NeverTold), Devices: at(1)}}}
 	paused := unknowns["paused"].why + " (laptop, phone); to know it, " + unknowns["paused"].toKnow
 	for _, row := range []struct {
 		name *outlook.Name
@@ -84,10 +84,14 @@ func TestWhyANameIsNotKnown(t *testing.T) {
 	}{
 		{nil, paused}, {&outlook.Name{Why: "paused"}, paused}, {&outlook.Name{Why: "budget"}, unknowns["budget"].why},
 		{&outlook.Name{Why: read.Why("damaged")}, unknowns["damaged"].why + " (server); to know it, " + unknowns["damaged"].toKnow},
+		{&outlook.Name{Why: read.NeverTold}, "a device may never tell a change of it (server); to know it, once what is to stay is saved, stop Syncthing there, and " + part.ResetDeltas + "; then let all finish, and audit again"},
 	} {
 		if told := WhyUnknown(of, row.name, strings.ToLower); told != row.told {
 			t.Errorf("%+v: %s, not %s", row.name, told, row.told)
 		}
+	}
+	if told := WhyUnknown(&outlook.Outlook{Unknown: []outlook.Group{{Why: string(read.NeverTold)}}}, nil, strings.ToLower); told != unknowns[string(read.NeverTold)].why {
+		t.Error("a device is to be reset, and none is known:", told)
 	}
 	if told := WhyUnknown(&outlook.Outlook{}, nil, strings.ToLower); told != "more names differ than are listed" {
 		t.Error(told)

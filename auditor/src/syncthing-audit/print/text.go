@@ -8,6 +8,7 @@ import (
 	"syncthing-audit/forecast/read"
 	"syncthing-audit/outlook"
 	"syncthing-audit/outside"
+	"syncthing-audit/part"
 	"syncthing-audit/shell"
 )
 
@@ -175,7 +176,7 @@ func whyUnknown(of *outlook.Group, devices string) string {
 	case devices != "":
 		told += " (" + devices + ")"
 	}
-	if toKnow := unknowns[of.Why].toKnow; toKnow != "" {
+	if toKnow := unknowns[of.Why].toKnow; toKnow != "" && (devices != "" || of.Why != string(read.NeverTold)) {
 		told += "; to know it, " + toKnow
 	}
 	return told
@@ -197,7 +198,7 @@ var unknowns = map[string]struct{ why, toKnow string }{
 	"in-motion":        {"it changed while it was looked at, or between two parts, or waits for a scan", "audit again once it is at rest"},
 	"odd-name":         {"the name isn't in Unicode's form NFC, in which Syncthing has names", "rename it, and audit again"},
 	"damaged":          {"a disk fails to give what it has", "see what the disk still gives, and audit again"},
-	"never-told":       {"a device may never tell a change of it", ""},
+	"never-told":       {"a device may never tell a change of it", "once what is to stay is saved, stop Syncthing there, and " + part.ResetDeltas + "; then let all finish, and audit again"},
 	"conflict-copies":  {"it may come to have more conflict copies than are kept", ""},
 	"same-bytes":       {"a device may take its bytes from another name that has the same", ""},
 	"too-many":         {"more names differ than are looked at", "audit some of the names alone (--names), or mend the first ones and audit again"},

@@ -5,6 +5,7 @@ import (
 	"syncthing-audit/damage"
 	"syncthing-audit/lists"
 	"syncthing-audit/outlook"
+	"syncthing-audit/part"
 	"syncthing-audit/print"
 )
 
@@ -160,15 +161,12 @@ func (f *File) adviceOfFault(fault *Fault, named print.Names) string {
 	case fault.Cause == NotScanned && f.isOdd:
 		return "rename " + f.say("it", "them") + " on " + at + ": " + f.say("its name isn't", "their names aren't") + " in Unicode's form NFC, in which Syncthing has names"
 	case fault.isUntold:
-		return at + " has heard of later changes of those who have " + f.say("it, and not of this one", "them, and not of these") + ": stop Syncthing on " + at + ", and " + resetDeltas
+		return at + " has heard of later changes of those who have " + f.say("it, and not of this one", "them, and not of these") + ": stop Syncthing on " + at + ", and " + part.ResetDeltas
 	case len(fault.sources) > 0 && (fault.isHarm() || fault.Cause == Changed) && !fault.Damage.MayBeOfRecord() && !f.foretold.hasGoal() && (!f.foretold.isKnown() || f.foretold.is(outlook.Changed) || fault.Damage != damage.None):
 		return f.putBack(fault, named)
 	}
 	return ""
 }
-
-// resetDeltas has a device and the others tell each other all changes anew.
-const resetDeltas = "start it there once by 'syncthing serve --reset-deltas', as the same user and with the same --home, --config and --data as ever"
 
 // asItIs is how something is copied whole, with its attributes.
 const asItIs = " (cp -a, or rsync -aIX, as the user who runs Syncthing there)"

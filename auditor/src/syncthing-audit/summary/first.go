@@ -18,6 +18,7 @@ type First struct {
 
 // Why something comes first, in the order in which it is told.
 const (
+	isOlder     = "went-back"      // a device's index is older than what others know of it
 	isChanged   = "bytes-changed"  // files that a history saw with other bytes under one time are recorded so, and steps send them
 	isUnscanned = "not-scanned"    // names wait for a scan, which sends what stands there
 	isScanned   = "scan-under-way" // what a scan found may wait in Syncthing's memory
@@ -30,7 +31,7 @@ const (
 
 // firstOf gives what comes before all entries.
 func (s *Summary) firstOf(named print.Names) []First {
-	lines := append([]First{}, s.firstScans(named)...)
+	lines := append(s.firstOlder(named), s.firstScans(named)...)
 	for _, device := range s.Devices {
 		lines = append(lines, s.firstWaiting(device.ID, named)...)
 	}
@@ -55,6 +56,22 @@ func (f *First) words() string {
 		return counted(f.Names, "file looks", "files look") + " damaged, not edited. Do what is said of that below before Syncthing starts or scans there"
 	}
 	return "see that the disk of " + strings.Join(f.folders, ", ") + " is mounted before Syncthing starts or scans there: " + counted(f.Names, "name is", "names are") + " missing"
+}
+
+// firstOlder tells on which devices the index went back. A plain start there gives sequences anew, and what changes under these nobody hears of.
+func (s *Summary) firstOlder(named print.Names) []First {
+	on, lines := []string{}, []First{}
+	for _, earlier := range s.Earlier {
+		if earlier.WentBack && earlier.ID != "" {
+			on = print.AddOnce(on, earlier.ID)
+		}
+	}
+	for _, device := range on {
+		lines = append(lines, First{Why: isOlder, Devices: []string{device}, Text: "first, on " + named(device) + ": its index is older than what others know of it, as after " +
+			"an older home was put in its place. After a plain start Syncthing may never tell some of its changes. So stop it there, save what is to stay, and " + part.ResetDeltas +
+			". Once all are idle, audit again. If a copy of the home was read, make it anew in place of that"})
+	}
+	return lines
 }
 
 // firstScans tells on which devices a scan or a pull was under way: no later step keeps back what a scan found already.
@@ -106,7 +123,7 @@ func (p *printer) first(s *Summary) {
 		p.Line("")
 	}
 	for _, first := range s.First {
-		if first.Why == isUnscanned || first.Why == isScanned {
+		if first.Why == isUnscanned || first.Why == isScanned || first.Why == isOlder {
 			line, text, _ := strings.Cut(first.Text, " ")
 			p.running(line, text)
 		} else {

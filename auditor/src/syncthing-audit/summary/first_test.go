@@ -180,3 +180,29 @@ func TestWhatComesFirstInJSON(t *testing.T) {
 		t.Error(document.String())
 	}
 }
+
+// A device whose index went back comes first, once, with what a plain start there may do. One whose part was only made earlier doesn't.
+func TestAnIndexThatWentBackComesFirst(t *testing.T) {
+	earlier := func(wentBack bool, folder string) LeftOut {
+		return LeftOut{Kind: part.Moment, Folder: folder, Device: "laptop", ID: laptop, Why: "change 9", WentBack: wentBack}
+	}
+	for why, row := range map[string]struct {
+		earlier []LeftOut
+		told    int
+	}{
+		"two folders went back": {[]LeftOut{earlier(true, "docs"), earlier(true, "pics")}, 1},
+		"an earlier part":       {[]LeftOut{earlier(false, "docs")}, 0},
+	} {
+		answer := answerOf(2, func(folder *finding.Folder) {
+			folder.Live = &finding.Live{OfParts: true, WentBack: row.told > 0, Moving: 1, Names: inMotion(1)}
+		})
+		answer.Earlier = row.earlier
+		text := strings.Join(strings.Fields(printed(answer)), " ")
+		if strings.Count(text, "first, on laptop: its index is older than what others know of it") != row.told || strings.Count(text, "start it there once by 'syncthing serve --reset-deltas'") != row.told {
+			t.Errorf("%s: %s", why, text)
+		}
+		if next := map[bool]string{true: "not audited: do what stands above behind 'first'", false: "not audited: make the parts anew, and audit again"}[row.told > 0]; !strings.Contains(text, next) {
+			t.Errorf("%s: %q isn't in %s", why, next, text)
+		}
+	}
+}

@@ -48,7 +48,7 @@ var wordsOfMoved = map[string]string{
 	part.MovedViews:     "what it knows of others' records changed",
 	part.MovedDisk:      "what stands on the disk changed",
 	part.MovedReceiving: "it is being received",
-	part.MovedLater:     "it changed after this part was made",
+	part.MovedLater:     "another device knows of a later change of it",
 	part.MovedUnscanned: "the disk isn't as recorded: it waits for a scan by Syncthing",
 }
 
@@ -57,7 +57,10 @@ const beforeScan = "it may delete on all devices what is missing, and send to al
 
 // advice says what brings names in motion to rest. What waits for a scan waits on where none comes, however often one audits.
 func toRest(live *finding.Live) string {
-	if live.OfParts {
+	switch {
+	case live.WentBack:
+		return "do what stands above behind 'first'"
+	case live.OfParts:
 		return "make the parts anew, and audit again"
 	}
 	switch live.Waits {

@@ -8,6 +8,7 @@ import (
 	"syncthing-audit/finding"
 	"syncthing-audit/join"
 	"syncthing-audit/lists"
+	"syncthing-audit/part"
 	"syncthing-audit/print"
 	"syncthing-audit/shell"
 )
@@ -105,7 +106,7 @@ func (p *printer) wentBack(s *Summary) {
 			p.Line("went back: the index of %s on %s: an earlier look had its change %d, and its last one is %d now, as after an older home was put in its "+
 				"place there. Syncthing doesn't tell the others such changes again by itself", folder.ID, p.Called(member.Device), member.OverWire.WentBackFrom,
 				member.OverWire.highest)
-			p.advice([]string{"the others may not hear of such changes: stop Syncthing on " + p.Called(member.Device) + ", and " + resetDeltas})
+			p.advice([]string{"the others may not hear of such changes: stop Syncthing on " + p.Called(member.Device) + ", and " + part.ResetDeltas})
 		}
 	})
 }

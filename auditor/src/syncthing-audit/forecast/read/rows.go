@@ -29,6 +29,7 @@ type Rows struct {
 	copies  map[string]int  // conflict copies that are at rest, by what they are copies of
 	bytes   filter          // of names that are at rest
 	out     map[string]bool // names that aren't told as a whole
+	Silent  forecast.Places // devices that may never tell a change of some name
 }
 
 // NewRows begins with a folder.

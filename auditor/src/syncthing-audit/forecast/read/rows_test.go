@@ -188,6 +188,17 @@ func TestWhatIsNotKnownOfAName(t *testing.T) {
 	}
 }
 
+// The device whose change may never be told is known. Of what it marks as invalid nobody can make it tell more.
+func TestWhoNeverTells(t *testing.T) {
+	for at, silent := range map[int]forecast.Places{len(unknownNames) - 2: 1 << 1, len(unknownNames) - 1: 0} {
+		rows := NewRows(folderOf(2))
+		rows.Take(calm("a", unknownNames[at].change))
+		if rows.Unknown["a"] != NeverTold || rows.Silent != silent {
+			t.Errorf("%d: %v, %b", at, rows.Unknown, rows.Silent)
+		}
+	}
+}
+
 // What a scan does with a name that isn't in Unicode's form NFC isn't foretold; one at rest isn't told.
 func TestAnOddNameIsNotKnown(t *testing.T) {
 	const odd = "mu\u0308ll"

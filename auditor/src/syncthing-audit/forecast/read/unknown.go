@@ -123,7 +123,7 @@ func seesOtherIndex(members []join.Member, member int) bool {
 	return false
 }
 
-// unknownAt gives why it isn't known what comes of a name, if there is a reason in what its devices have.
+// unknownAt gives why it isn't known what comes of a name, if there is a reason in what its devices have. It notes who may never tell the name.
 func (r *Rows) unknownAt(row *join.Row) Why {
 	if isBelow(r.out, row.Name) {
 		return LeftOut
@@ -145,12 +145,19 @@ func (r *Rows) unknownAt(row *join.Row) Why {
 			return Moving
 		}
 	}
+	why := Why("")
 	for member, at := range row.At { // of what is in motion or left out no view is there
-		if at != nil && (at.Own != nil && at.Own.Invalid && at.Own.Local == nil || r.isNeverTold(member, row)) {
-			return NeverTold
+		if at == nil {
+			continue
+		}
+		if at.Own != nil && at.Own.Invalid && at.Own.Local == nil {
+			why = NeverTold
+		} else if r.isNeverTold(member, row) {
+			r.Silent |= 1 << member
+			why = NeverTold
 		}
 	}
-	return ""
+	return why
 }
 
 // isNeverTold says whether another device has heard of later changes of a device's index, and not of its record of a name. Syncthing sends
