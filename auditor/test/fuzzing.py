@@ -22,7 +22,7 @@ SECONDS_OF_PROCESSOR = 60
 SECONDS = 600
 SECONDS_OF_GRACE = 10
 PACKAGES = {"FuzzParts": "audit", "FuzzPackedParts": "part", "FuzzJoins": "audit", "FuzzLooks": "audit", "FuzzReplies": "ask", "FuzzStreams": "ask",
-            "FuzzRecord": "wire"}
+            "FuzzRecord": "wire", "FuzzPatterns": "stignore"}
 
 
 def targets():
@@ -56,7 +56,7 @@ def said_by(words, room, seconds=SECONDS):
 
 
 class Fuzzing(unittest.TestCase):
-    """Parts, joins, looks, replies and records that are changed at random: refused with a reason or audited, without a crash and without a hang."""
+    """Parts, joins, looks, replies, records and patterns that are changed at random: refused with a reason or audited, without a crash and without a hang."""
 
     @classmethod
     def setUpClass(cls):
@@ -104,6 +104,9 @@ class Fuzzing(unittest.TestCase):
 
     def test_records(self):
         self.fuzz("FuzzRecord")
+
+    def test_patterns(self):
+        self.fuzz("FuzzPatterns")
 
     def test_each_target_has_a_case(self):
         self.assertEqual(targets(), PACKAGES)
