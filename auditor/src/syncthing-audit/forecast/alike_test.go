@@ -124,10 +124,17 @@ func sortedEnds(answer Answer) []string {
 	return texts
 }
 
+func risingTo(count int64) (all []int64) {
+	for number := int64(0); number < count; number++ {
+		all = append(all, number)
+	}
+	return all
+}
+
 // Of many names that hang together, most of which are alike, one stands for all that are: what is foretold of all is what is foretold where each is looked at.
 func TestOneStandsForAllThatAreAlike(t *testing.T) {
 	compared, saved, several := 0, 0, 0
-	for seed := int64(0); seed < 60; seed++ {
+	for _, seed := range append(risingTo(60), 2204, 8018) { // the last ones have files below what is no directory
 		random := rand.New(rand.NewSource(seed))
 		world := manyAlike(random)
 		commands := randomCommands(world.Devices, random)

@@ -15,7 +15,7 @@ func (l *loader) start(names []Name) *state {
 					s.set(s.viewCell(i, j, n), l.recordOf(view))
 				}
 			}
-			if what := names[n].Disk[i]; what != nil {
+			if what := names[n].Disk[i]; what != nil && s.place(i, n) == belowDirectories { // nothing stands below what is no directory
 				s.set(s.diskCell(i, n), l.nodeOf(what))
 			}
 		}
