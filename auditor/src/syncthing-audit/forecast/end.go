@@ -123,17 +123,35 @@ func (p *placed) isBefore(other *placed) bool {
 	return p.what.time < other.what.time
 }
 
-// key gives a text that two ends share if the same stands on all disks: kinds, bytes, targets and copies, whatever their times and modes.
+// key gives a text that two ends share if nothing that is told of them differs: kinds, bytes, targets, copies and files' times on all disks, and what devices
+// don't take or keep, and why. Two orders may come to the same bytes with other times or for other reasons, and neither is the one that is true.
 func (n *numbered) key() string {
 	var text []byte
-	for _, disk := range n.disks {
-		text = append(text, '|')
-		for _, placed := range disk {
-			text = binary.AppendVarint(text, int64(placed.root))
-			text = binary.AppendVarint(text, int64(placed.what.content))
-			text = binary.AppendVarint(text, int64(placed.what.target))
-			text = append(text, byte(placed.what.kind), byte(truth(placed.isCopy)))
+	put := func(numbers ...int64) {
+		for _, number := range numbers {
+			text = binary.AppendVarint(text, number)
 		}
+	}
+	note := func(device, n int, why Why) {
+		put(int64(device), int64(n))
+		text = append(append(text, why...), '|')
+	}
+	for _, disk := range n.disks {
+		put(int64(len(disk)))
+		for _, placed := range disk {
+			what := placed.what
+			put(int64(placed.root), truth(placed.isCopy), int64(what.kind), int64(what.content), int64(what.target))
+			if what.kind == File {
+				put(what.time)
+			}
+		}
+	}
+	put(int64(len(n.stuck)))
+	for at, stuck := range n.stuck {
+		note(stuck.Device, n.names[at], stuck.Why)
+	}
+	for _, apart := range n.apart {
+		note(apart.device, apart.n, apart.why)
 	}
 	return string(text)
 }

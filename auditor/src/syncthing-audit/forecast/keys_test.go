@@ -2,7 +2,7 @@ package forecast
 
 import "testing"
 
-// Ends have one key where the same stands on the same disks, whatever the times and modes are.
+// Ends have one key where the same stands on the same disks with the same notes, whatever the modes are, and the times of what is no file.
 func TestKeysOfEnds(t *testing.T) {
 	file := placed{root: 1, what: node{kind: File, time: 5, content: 1, target: 1, mode: 0o644}}
 	changed := func(change func(*placed)) placed {
@@ -11,6 +11,17 @@ func TestKeysOfEnds(t *testing.T) {
 		return other
 	}
 	keys := map[string]bool{}
+	noted := func(device, n int, why Why) []noted { return []noted{{device, n, why}} }
+	ends := map[string]numbered{
+		"kept":                   {disks: [][]placed{{file}, nil}, apart: noted(0, 1, NotSeen)},
+		"kept elsewhere":         {disks: [][]placed{{file}, nil}, apart: noted(1, 1, NotSeen)},
+		"another one kept":       {disks: [][]placed{{file}, nil}, apart: noted(0, 2, NotSeen)},
+		"kept for another cause": {disks: [][]placed{{file}, nil}, apart: noted(0, 1, KeepsLocalChange)},
+		"two kept":               {disks: [][]placed{{file}, nil}, apart: append(noted(0, 1, NotSeen), noted(1, 1, NotSeen)...)},
+		"stuck":                  {disks: [][]placed{{file}, nil}, stuck: []Stuck{{Device: 0, Why: NotSeen}}, names: []int{1}},
+		"another one stuck":      {disks: [][]placed{{file}, nil}, stuck: []Stuck{{Device: 0, Why: NotSeen}}, names: []int{2}},
+		"stuck and kept":         {disks: [][]placed{{file}, nil}, stuck: []Stuck{{Device: 0, Why: NotSeen}}, names: []int{1}, apart: noted(1, 1, NotSeen)},
+	}
 	for why, disks := range map[string][][]placed{
 		"nothing":         {nil, nil},
 		"on the first":    {{file}, nil},
@@ -23,17 +34,25 @@ func TestKeysOfEnds(t *testing.T) {
 		"other bytes":     {{changed(func(p *placed) { p.what.content = 2 })}, nil},
 		"another target":  {{changed(func(p *placed) { p.what.target = 2 })}, nil},
 		"something else":  {{changed(func(p *placed) { p.what.kind = Symlink })}, nil},
+		"another time":    {{changed(func(p *placed) { p.what.time = 6 })}, nil},
 		"both swapped":    {{changed(func(p *placed) { p.root, p.what.content = 2, 2 })}, nil},
 		"others together": {{file, changed(func(p *placed) { p.root = 2 })}, nil},
 	} {
-		key := (&numbered{disks: disks}).key()
-		if keys[key] {
-			t.Errorf("%s has the key of another end", why)
-		}
-		keys[key] = true
+		ends[why] = numbered{disks: disks}
 	}
-	for why, other := range map[string]placed{"another time": changed(func(p *placed) { p.what.time = 6 }), "another mode": changed(func(p *placed) { p.what.mode = 0o600 })} {
-		if key := (&numbered{disks: [][]placed{{other}, nil}}).key(); key != (&numbered{disks: [][]placed{{file}, nil}}).key() {
+	for why, end := range ends {
+		if key := end.key(); keys[key] {
+			t.Errorf("%s has the key of another end", why)
+		} else {
+			keys[key] = true
+		}
+	}
+	directory := changed(func(p *placed) { p.what.kind = Directory })
+	later := directory
+	later.what.time = 6
+	for why, pair := range map[string][2]placed{"another mode": {file, changed(func(p *placed) { p.what.mode = 0o600 })}, "another time of a directory": {directory, later}} {
+		one, other := numbered{disks: [][]placed{{pair[0]}, nil}}, numbered{disks: [][]placed{{pair[1]}, nil}}
+		if one.key() != other.key() {
 			t.Errorf("%s makes another key", why)
 		}
 	}

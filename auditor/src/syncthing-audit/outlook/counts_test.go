@@ -70,7 +70,7 @@ func TestWhatAnOutlookCounts(t *testing.T) {
 		for count := random.Intn(12); count > 0; count-- {
 			name := Name{Name: part.Bytes(fmt.Sprint(random.Intn(5))), Fate: Fates[random.Intn(len(Fates))], IsAll: random.Intn(2) == 0}
 			for member := random.Intn(3); member > 0; member-- {
-				name.Kept = append(name.Kept, Kept{idOf(member), forecast.OnlySends, member})
+				name.Kept = append(name.Kept, Kept{Device: idOf(member), Why: forecast.OnlySends, member: member})
 			}
 			for loses := random.Intn(3); loses > 0; loses-- {
 				name.Loses = append(name.Loses, Thing{Devices: at(0), Content: smallContents[2+random.Intn(3)]})

@@ -22,7 +22,7 @@ func TestWhatTheOthersComeTo(t *testing.T) {
 		for member := 0; member < devices; member++ {
 			if s.Intn(4) == 0 {
 				keeps[member] = true
-				told.Kept = append(told.Kept, Kept{idOf(member), forecast.NotSeen, member})
+				told.Kept = append(told.Kept, Kept{Device: idOf(member), Why: forecast.NotSeen, member: member})
 			}
 		}
 		due, most := "", 0

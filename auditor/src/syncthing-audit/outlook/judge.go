@@ -2,6 +2,7 @@ package outlook
 
 import (
 	"fmt"
+	"sort"
 
 	"golang.org/x/exp/maps"
 	"golang.org/x/exp/slices"
@@ -71,18 +72,20 @@ func (j *judge) name(name *forecast.Name) Name {
 	return told
 }
 
-// endsOf gives the different ends of a name.
+// endsOf gives the different ends of a name. A time that isn't the same each time a name comes to an end isn't told.
 func (j *judge) endsOf(name *forecast.Name) [][]Thing {
 	var ends [][]Thing
-	seen := map[string]bool{}
+	seen := map[string]int{}
 	for _, end := range j.ends {
 		for _, things := range withMeetings(end[name.Name]) {
 			key := ""
 			for _, thing := range things {
 				key += fmt.Sprint(thing.Devices, thing.Type, thing.Content, thing.Target, thing.IsCopy, ";")
 			}
-			if !seen[key] {
-				seen[key] = true
+			if at, is := seen[key]; is {
+				dropOtherTimes(ends[at], things)
+			} else {
+				seen[key] = len(ends)
 				ends = append(ends, append([]Thing{}, things...))
 			}
 		}
@@ -90,34 +93,49 @@ func (j *judge) endsOf(name *forecast.Name) [][]Thing {
 	return ends
 }
 
-// keptOf gives why devices keep a name otherwise than others, at some end: where they end with one thing all of it is well, unless these are other bytes
-// than recorded, and no scan sees it.
+// dropOtherTimes takes away the times that aren't those of the same things.
+func dropOtherTimes(things, same []Thing) {
+	for at := range things {
+		if one, other := things[at].Modified, same[at].Modified; one == nil || other == nil || !one.Equal(*other) {
+			things[at].Modified = nil
+		}
+	}
+}
+
+// keptOf gives why devices keep a name otherwise than others: all reasons that there are at some end.
 func (j *judge) keptOf(name *forecast.Name) []Kept {
-	found := map[int]forecast.Why{}
-	for place, end := range j.ends {
-		kept := j.kept[place][name.Name]
-		if isOne(end[name.Name], len(name.Disk)) && !isStuck(&j.answer.Ends[place], name.Name) && !slices.Contains(maps.Values(kept), forecast.NotSeen) {
-			continue
-		}
-		for member, why := range kept {
-			found[member] = why
-		}
-		if len(kept) == 0 {
-			for _, member := range j.minority(end[name.Name]) {
-				found[member] = forecast.NoReason
-			}
+	found := map[Kept]int{}
+	for place := range j.ends {
+		for member, why := range j.keptAt(place, name) {
+			found[Kept{Device: j.group.Devices[member].ID, Why: why, member: member}]++
 		}
 	}
 	var all []Kept
-	for member := range name.Disk {
-		if why, is := found[member]; is {
-			if why == forecast.NoReason {
-				why = Differs
-			}
-			all = append(all, Kept{j.group.Devices[member].ID, why, member})
-		}
+	for kept, ends := range found {
+		kept.InSome = ends < len(j.ends)
+		all = append(all, kept)
 	}
+	sort.Slice(all, func(a, b int) bool {
+		return all[a].member < all[b].member || all[a].member == all[b].member && all[a].Why < all[b].Why
+	})
 	return all
+}
+
+// keptAt gives why devices keep a name otherwise than others at an end: where they end with one thing all of it is well, unless these are other bytes
+// than recorded, and no scan sees it.
+func (j *judge) keptAt(place int, name *forecast.Name) map[int]forecast.Why {
+	things, kept := j.ends[place][name.Name], j.kept[place][name.Name]
+	if isOne(things, len(name.Disk)) && !isStuck(&j.answer.Ends[place], name.Name) && !slices.Contains(maps.Values(kept), forecast.NotSeen) {
+		return nil
+	}
+	if len(kept) > 0 {
+		return kept
+	}
+	differing := map[int]forecast.Why{}
+	for _, member := range j.minority(things) {
+		differing[member] = Differs
+	}
+	return differing
 }
 
 // isOne says whether one thing stands at a name on all devices, or nothing on each.

@@ -71,6 +71,7 @@ type Group struct {
 	Why     string   `json:"why"` // of read, or of forecast
 	Devices []string `json:"devices,omitempty"`
 	Names   int64    `json:"names"`
+	InSome  bool     `json:"in_some_orders,omitempty"`
 	first   int      // the place of the first device
 }
 
@@ -94,6 +95,7 @@ type Name struct {
 type Kept struct {
 	Device string       `json:"device"`
 	Why    forecast.Why `json:"why"`
+	InSome bool         `json:"in_some_orders,omitempty"` // at some ends, and not at all of them
 	member int
 }
 
@@ -245,7 +247,7 @@ func (t *teller) end() *Outlook {
 		outlook.Unknown = append(outlook.Unknown, group)
 	}
 	for kept, count := range t.kept {
-		outlook.Kept = append(outlook.Kept, Group{string(kept.Why), []string{kept.Device}, count, kept.member})
+		outlook.Kept = append(outlook.Kept, Group{string(kept.Why), []string{kept.Device}, count, kept.InSome, kept.member})
 	}
 	for _, groups := range [][]Group{outlook.Unknown, outlook.Kept} {
 		sort.Slice(groups, func(a, b int) bool { return groups[a].isBefore(&groups[b]) })

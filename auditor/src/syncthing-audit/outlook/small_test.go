@@ -210,12 +210,19 @@ func TestWhoHasNotWhatMostHave(t *testing.T) {
 	}
 }
 
-// Devices keep a name otherwise than others by the reasons of the ends, a later one before an earlier one; without any, those that haven't what most have do.
+// Devices keep a name otherwise than others by all reasons of all ends; at an end without any, those that haven't what most have do. Each reason says whether it
+// is one at some ends alone.
 func TestWhyDevicesKeepAName(t *testing.T) {
-	reasons := map[forecast.Why]int{}
+	reasons, inSome := map[forecast.Why]int{}, 0
 	for seed := int64(0); seed < 2000; seed++ {
 		_, group, answer := drawn(seed)
-		judge, due := newJudge(group, answer, nil), map[int]forecast.Why{}
+		judge, due := newJudge(group, answer, nil), map[int]map[forecast.Why]int{}
+		add := func(member int, why forecast.Why) {
+			if due[member] == nil {
+				due[member] = map[forecast.Why]int{}
+			}
+			due[member][why]++
+		}
 		for place := range answer.Ends {
 			end, of, isUnseen, stuck := &answer.Ends[place], map[int]forecast.Why{}, false, 0
 			for at, kept := range append(append([]forecast.Stuck{}, end.Apart...), end.Stuck...) {
@@ -234,29 +241,39 @@ func TestWhyDevicesKeepAName(t *testing.T) {
 				continue
 			}
 			for member, why := range of {
-				due[member] = why
+				add(member, why)
 			}
 			if len(of) == 0 {
 				for _, member := range judge.minority(things) {
-					due[member] = forecast.NoReason
+					add(member, Differs)
 				}
 			}
 		}
+		all := 0
+		for _, whys := range due {
+			all += len(whys)
+		}
 		told := judge.keptOf(&group.Names[0])
 		for at, kept := range told {
-			if why, is := due[kept.member]; !is || why != kept.Why && !(why == forecast.NoReason && kept.Why == Differs) || kept.Device != idOf(kept.member) || at > 0 && told[at-1].member >= kept.member {
+			ends, isFirst := due[kept.member][kept.Why], at == 0
+			isBehind := isFirst || told[at-1].member < kept.member || told[at-1].member == kept.member && told[at-1].Why < kept.Why
+			if ends == 0 || kept.InSome != (ends < len(answer.Ends)) || kept.Device != idOf(kept.member) || !isBehind {
 				t.Fatalf("%d: %+v, not %v", seed, told, due)
 			}
-			reasons[due[kept.member]]++
+			reasons[kept.Why]++
+			inSome += count(kept.InSome)
 		}
-		if len(told) != len(due) {
+		if len(told) != all {
 			t.Fatalf("%d: %+v, not %v", seed, told, due)
 		}
 	}
-	for _, why := range []forecast.Why{forecast.NoReason, forecast.OnlySends, forecast.NotSeen, forecast.NoSource} {
+	for _, why := range []forecast.Why{Differs, forecast.OnlySends, forecast.NotSeen, forecast.NoSource} {
 		if reasons[why] == 0 {
 			t.Errorf("no name was drawn that is kept by %v", why)
 		}
+	}
+	if inSome == 0 {
+		t.Error("no reason was drawn that is one at some ends alone")
 	}
 }
 

@@ -102,7 +102,7 @@ func (f *fate) find(thing outlook.Thing) *outlook.Thing {
 func (f *fate) reasons() string {
 	reasons := Places{}
 	for _, kept := range f.Kept {
-		reasons.Add(wordsOfKept[kept.Why], kept.Device)
+		reasons.Add(wordsOfKept[kept.Why]+inSome(kept.InSome), kept.Device)
 	}
 	return reasons.Joined(f.called, func(why, devices string) string { return devices + ": " + why })
 }

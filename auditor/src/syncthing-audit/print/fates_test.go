@@ -59,6 +59,9 @@ func TestWhatBecomesOfAName(t *testing.T) {
 		{outlook.Name{Now: now, Ends: ends(things(file(5, "aa", 0), file(7, "bb", 1))), IsAll: true,
 			Kept: []outlook.Kept{{Device: "SERVER", Why: forecast.NotSeen}, {Device: "PHONE", Why: forecast.OnlySends}, {Device: "LAPTOP", Why: forecast.NotSeen}}}, false,
 			"laptop keeps what it has; server keeps what it has; phone then has nothing there (laptop, server: " + wordsOfKept[forecast.NotSeen] + "; phone: " + wordsOfKept[forecast.OnlySends] + ")"},
+		{outlook.Name{Now: now, Ends: ends(things(file(5, "aa", 0), file(7, "bb", 1))), IsAll: true,
+			Kept: []outlook.Kept{{Device: "PHONE", Why: forecast.NoSource, InSome: true}, {Device: "PHONE", Why: forecast.OnlySends}}}, false,
+			"laptop keeps what it has; server keeps what it has; phone then has nothing there (phone: " + wordsOfKept[forecast.NoSource] + ", in some order; phone: " + wordsOfKept[forecast.OnlySends] + ")"},
 	} {
 		if told := Foretold(&row.name, devices, strings.ToLower, row.isMany); told != row.told {
 			t.Errorf("%s\nnot\n%s", told, row.told)

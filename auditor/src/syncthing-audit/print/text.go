@@ -66,14 +66,14 @@ func (p *Person) lost(o *outlook.Outlook) {
 	p.count(o.Lost, "name loses", "names lose", "something that a disk has now:")
 	p.named(o, outlook.Lost, o.Lost, func(name *outlook.Name) {
 		for _, thing := range name.Loses {
-			p.Line("    %s: %s; then no device's folder has it%s", shell.Path(string(name.Name)), p.where(thing), some(name))
+			p.Line("    %s: %s; then no device's folder has it%s", shell.Path(string(name.Name)), p.where(thing), inSome(len(name.Ends) > 1))
 		}
 	})
 }
 
-// some says whether something happens in some orders alone.
-func some(name *outlook.Name) string {
-	if len(name.Ends) > 1 {
+// inSome says whether something is so in some orders alone.
+func inSome(is bool) string {
+	if is {
 		return ", in some order"
 	}
 	return ""
@@ -133,7 +133,7 @@ func (p *Person) several(o *outlook.Outlook) {
 func (p *Person) stays(o *outlook.Outlook) {
 	p.count(o.Stays, "name stays", "names stay", "wrong:")
 	for _, why := range o.Kept {
-		p.Line("    %s on %s: %s", Counted(why.Names, "name", "names"), p.Called.AsTheyStand(why.Devices), wordsOfKept[forecast.Why(why.Why)])
+		p.Line("    %s on %s: %s", Counted(why.Names, "name", "names"), p.Called.AsTheyStand(why.Devices), wordsOfKept[forecast.Why(why.Why)]+inSome(why.InSome))
 	}
 }
 

@@ -65,7 +65,7 @@ if nobody does anything in docs, and all devices scan, then run and reach one an
 `},
 	{"several of each", outlook.Outlook{Names: 2021, Walked: 2,
 		Lost: 7, NotKnown: 2, Depends: 2, Changed: 2, Deleted: 2, Stays: 2, Right: 2004,
-		Unknown: []outlook.Group{{Why: string(read.Untried), Devices: at(0, 2), Names: 2}}, Kept: []outlook.Group{{Why: "not-seen", Devices: at(0), Names: 2}},
+		Unknown: []outlook.Group{{Why: string(read.Untried), Devices: at(0, 2), Names: 2}}, Kept: []outlook.Group{{Why: "not-seen", Devices: at(0), Names: 2, InSome: true}},
 		Listed: []outlook.Name{{Name: "l", Fate: outlook.Lost, Loses: []outlook.Thing{{Devices: at(0), Type: forecast.Symlink, Target: "a b"}, {Devices: at(1), Type: forecast.Directory}},
 			Ends: [][]outlook.Thing{{}, {file(7, "bb", 0)}}}}},
 		`
@@ -81,7 +81,7 @@ if nobody does anything in docs, and all devices scan, then run and reach one an
   2 names come to one of several ends, by the order of what happens; nothing is lost:
     and 2 more names (--json has them)
   2 names stay wrong:
-    2 names on laptop: it has other bytes than recorded, which no scan sees, and may send them to a device that is added
+    2 names on laptop: it has other bytes than recorded, which no scan sees, and may send them to a device that is added, in some order
   of 2 names it isn't known what becomes of them:
     2 names: this version of Syncthing wasn't compared with the forecast (laptop, phone)
   of 2 names not all orders were tried: what is said of them holds in all orders tried
