@@ -150,8 +150,12 @@ func (b *Beneath) open(name string) (*os.File, error) {
 	return b.openStepwise(name)
 }
 
-// openStepwise does the same where the kernel has no openat2, or where something forbids that: one directory after another.
+// openStepwise does the same where the kernel has no openat2, or where something forbids that: one directory after another. A clean name that leads
+// out begins so.
 func (b *Beneath) openStepwise(name string) (*os.File, error) {
+	if filepath.IsAbs(name) || name == ".." || strings.HasPrefix(name, "../") {
+		return nil, unix.EXDEV
+	}
 	const flags = unix.O_DIRECTORY | unix.O_NOFOLLOW | unix.O_CLOEXEC
 	steps := strings.Split(name, "/")
 	at := int(b.root.Fd())

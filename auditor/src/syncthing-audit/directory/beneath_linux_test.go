@@ -35,6 +35,11 @@ func TestNothingOutsideADirectoryIsTold(t *testing.T) {
 				t.Errorf("%v, %s: %v", lacks, name, err)
 			}
 		}
+		for _, name := range []string{"..", "../" + filepath.Base(outside), "a/../..", outside} {
+			if _, err := files.DirNames(name); !errors.Is(err, unix.EXDEV) {
+				t.Errorf("%v, %s: %v", lacks, name, err)
+			}
+		}
 		if _, err := files.Lstat("up/b"); err == nil {
 			t.Errorf("%v: what is behind a symlink is told", lacks)
 		}
