@@ -59,16 +59,28 @@ func TestNobodyElseReadsAHistory(t *testing.T) {
 			t.Errorf("%s: %v, %v", entry.Name(), about.Mode(), err)
 		}
 	}
-	if err := os.Chmod(filepath.Join(room, "CURRENT"), 0o644); err != nil {
-		t.Fatal(err)
+	for _, entry := range entries { // LevelDB writes some anew as it opens them, and leaves others as they are
+		if err := os.Chmod(filepath.Join(room, entry.Name()), 0o644); err != nil {
+			t.Fatal(err)
+		}
 	}
 	history, err := Open(room)
 	if err != nil {
 		t.Fatal(err)
 	}
 	defer history.Close()
-	if about, err := os.Stat(filepath.Join(room, "CURRENT")); err != nil || about.Mode().Perm() != 0o600 {
-		t.Errorf("%v, %v", about.Mode(), err)
+	left := 0
+	for _, entry := range entries {
+		about, err := os.Stat(filepath.Join(room, entry.Name()))
+		if os.IsNotExist(err) {
+			continue
+		}
+		if left++; err != nil || about.Mode().Perm() != 0o600 {
+			t.Errorf("%s: %v, %v", entry.Name(), about.Mode(), err)
+		}
+	}
+	if left < 2 {
+		t.Errorf("%d files are left", left)
 	}
 }
 
