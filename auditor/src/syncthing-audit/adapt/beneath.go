@@ -44,3 +44,6 @@ func (b *Beneath) ReadSymlink(name string) (string, error) { return b.inside.Rea
 
 // Info gives what the system says of a name.
 func (b *Beneath) Info(name string) (os.FileInfo, error) { return b.inside.About(name) }
+
+// OpenToRead opens a file to be read.
+func (b *Beneath) OpenToRead(name string) (directory.File, error) { return b.inside.OpenToRead(name) }

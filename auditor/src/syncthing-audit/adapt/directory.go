@@ -74,6 +74,16 @@ func (s synced) About(name string) (os.FileInfo, error) {
 	return os.Lstat(filepath.Join(s.URI(), name))
 }
 
+// OpenToRead opens a file to be read, and no symlink.
+func (s synced) OpenToRead(name string) (directory.File, error) {
+	if beneath, is := s.Filesystem.(interface {
+		OpenToRead(name string) (directory.File, error)
+	}); is {
+		return beneath.OpenToRead(name)
+	}
+	return directory.OpenFile(filepath.Join(s.URI(), name))
+}
+
 type syncedInfo struct {
 	fs.FileInfo
 	about os.FileInfo

@@ -80,6 +80,15 @@ func TestWhatTheSystemSays(t *testing.T) {
 		if _, err := of.Lstat("none"); !errors.Is(err, os.ErrNotExist) {
 			t.Errorf("%s: %v", why, err)
 		}
+		text := make([]byte, 4)
+		if file, err := of.OpenToRead("a"); err != nil {
+			t.Errorf("%s: %v", why, err)
+		} else if _, err := file.ReadAt(text, 0); err != nil || string(text) != "text" || file.Close() != nil {
+			t.Errorf("%s: it reads %q, %v", why, text, err)
+		}
+		if _, err := of.OpenToRead("none"); !errors.Is(err, os.ErrNotExist) || err.Error() != "open "+filepath.Join(room, "none")+": no such file or directory" {
+			t.Errorf("%s: %v", why, err)
+		}
 	}
 	for _, files := range []fs.Filesystem{silent{basic}, silent{NewBeneath(basic)}} {
 		if info, err := Directory(files).Lstat("gone"); info != nil || !errors.Is(err, os.ErrNotExist) {

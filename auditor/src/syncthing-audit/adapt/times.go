@@ -5,6 +5,7 @@ import (
 	"time"
 
 	"github.com/syncthing/syncthing/lib/fs"
+	"syncthing-audit/directory"
 )
 
 // timed are files with their times as an index has them, where their disk can't keep these. 1.19 finds them there only in the time zone in
@@ -22,6 +23,9 @@ func (t *timed) ReadSymlink(name string) (string, error) { return t.plain.ReadSy
 
 // Info gives what the system says of a name.
 func (t *timed) Info(name string) (os.FileInfo, error) { return t.plain.Info(name) }
+
+// OpenToRead opens a file to be read.
+func (t *timed) OpenToRead(name string) (directory.File, error) { return t.plain.OpenToRead(name) }
 
 // Lstat says what stands under a name.
 func (t *timed) Lstat(name string) (fs.FileInfo, error) {

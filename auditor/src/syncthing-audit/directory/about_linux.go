@@ -8,14 +8,14 @@ import (
 	"golang.org/x/sys/unix"
 )
 
-// about is what the system says of a name. That of the os package goes by a path.
+// about is what the system says of a name. That of the os package goes by a path. It is an Info, too.
 type about struct {
 	name string
 	said syscall.Stat_t
 }
 
-// Uninterrupted calls the system again where a signal interrupted the call, as it may where a program gives what a directory has.
-func Uninterrupted(call func() error) error {
+// uninterrupted calls the system again where a signal interrupted the call, as it may where a program gives what a directory has.
+func uninterrupted(call func() error) error {
 	for {
 		if err := call(); err != unix.EINTR {
 			return err
@@ -26,19 +26,19 @@ func Uninterrupted(call func() error) error {
 // aboutIn asks what the system says of a name in an open directory.
 func aboutIn(directory *os.File, base string) (os.FileInfo, error) {
 	var said unix.Stat_t
-	err := Uninterrupted(func() error { return unix.Fstatat(int(directory.Fd()), base, &said, unix.AT_SYMLINK_NOFOLLOW) })
+	err := uninterrupted(func() error { return unix.Fstatat(int(directory.Fd()), base, &said, unix.AT_SYMLINK_NOFOLLOW) })
 	if err != nil {
 		return nil, &os.PathError{Op: "lstat", Path: base, Err: err}
 	}
 	return &about{base, statOf(&said)}, nil
 }
 
-// AboutFile asks what the system says of an open file.
-func AboutFile(number int) (os.FileInfo, error) {
+// aboutFile asks what the system says of an open file.
+func aboutFile(number int) (os.FileInfo, error) {
 	var said unix.Stat_t
-	err := Uninterrupted(func() error { return unix.Fstat(number, &said) })
+	err := uninterrupted(func() error { return unix.Fstat(number, &said) })
 	if err != nil {
-		return nil, os.NewSyscallError("fstat", err)
+		return nil, err
 	}
 	return &about{"", statOf(&said)}, nil
 }
@@ -49,10 +49,16 @@ func statOf(said *unix.Stat_t) syscall.Stat_t {
 		Blksize: said.Blksize, Blocks: said.Blocks, Atim: syscall.Timespec(said.Atim), Mtim: syscall.Timespec(said.Mtim), Ctim: syscall.Timespec(said.Ctim)}
 }
 
+// What Info has besides is told by the same answer.
+func (a *about) IsRegular() bool     { return a.said.Mode&unix.S_IFMT == unix.S_IFREG }
+func (a *about) IsSymlink() bool     { return a.said.Mode&unix.S_IFMT == unix.S_IFLNK }
+func (a *about) Permissions() uint32 { return a.said.Mode & 0o777 }
+func (a *about) About() os.FileInfo  { return a }
+
 func (a *about) Name() string       { return a.name }
 func (a *about) Size() int64        { return a.said.Size }
 func (a *about) ModTime() time.Time { return time.Unix(a.said.Mtim.Unix()) }
-func (a *about) IsDir() bool        { return a.Mode().IsDir() }
+func (a *about) IsDir() bool        { return a.said.Mode&unix.S_IFMT == unix.S_IFDIR }
 func (a *about) Sys() interface{}   { return &a.said }
 
 // Mode gives the type and the permissions as the os package has them.

@@ -48,7 +48,7 @@ func TestWhatTheSystemSays(t *testing.T) {
 func TestCallsThatAreInterrupted(t *testing.T) {
 	for _, due := range []error{nil, unix.EIO, unix.EAGAIN} {
 		calls := 0
-		err := Uninterrupted(func() error {
+		err := uninterrupted(func() error {
 			if calls++; calls < 3 {
 				return unix.EINTR
 			}
@@ -84,7 +84,7 @@ func checkAbout(t *testing.T, path string, least int) {
 		} else if err != nil {
 			t.Fatal(err)
 		}
-		opened, err := AboutFile(int(file.Fd()))
+		opened, err := aboutFile(int(file.Fd()))
 		if file.Close(); err != nil {
 			t.Errorf("%s: %v", name, err)
 			continue
@@ -94,7 +94,7 @@ func checkAbout(t *testing.T, path string, least int) {
 	if _, err := beneath.About("not there"); !os.IsNotExist(err) || err.Error() != "lstat "+filepath.Join(path, "not there")+": no such file or directory" {
 		t.Error(err)
 	}
-	if _, err := AboutFile(-1); err == nil || err.Error() != "fstat: bad file descriptor" {
+	if _, err := aboutFile(-1); err == nil || err != unix.EBADF {
 		t.Error(err)
 	}
 }

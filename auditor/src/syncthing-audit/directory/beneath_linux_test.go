@@ -29,7 +29,7 @@ func TestNothingOutsideADirectoryIsTold(t *testing.T) {
 		if err != nil {
 			t.Fatal(err)
 		}
-		files.inside.lacks = lacks
+		files.inside.lacks.Store(lacks)
 		for _, name := range []string{"out", "up", "up/b", "a/../up"} {
 			if _, err := files.DirNames(name); !errors.Is(err, unix.ELOOP) && !errors.Is(err, unix.ENOTDIR) {
 				t.Errorf("%v, %s: %v", lacks, name, err)
@@ -53,6 +53,18 @@ func TestNothingOutsideADirectoryIsTold(t *testing.T) {
 			t.Errorf("%v: %s", lacks, told)
 		}
 		if _, err := files.Lstat("a/b/none"); !errors.Is(err, os.ErrNotExist) || err.Error() != "lstat "+filepath.Join(room, "a/b/none")+": no such file or directory" {
+			t.Errorf("%v: %v", lacks, err)
+		}
+		if _, err := files.OpenToRead("a/b/in"); !errors.Is(err, unix.ELOOP) || err.Error() != "open "+filepath.Join(room, "a/b/in")+": too many levels of symbolic links" {
+			t.Errorf("%v: a symlink is opened: %v", lacks, err)
+		}
+		if _, err := files.OpenToRead("a/../../" + filepath.Base(room) + "/a/b/file"); !errors.Is(err, unix.EXDEV) {
+			t.Errorf("%v: a name that leads out is opened: %v", lacks, err)
+		}
+		if _, err := files.OpenToRead("up/b/file"); !lacks && !errors.Is(err, unix.ELOOP) {
+			t.Errorf("a file behind a symlink is opened: %v", err)
+		}
+		if file, err := files.OpenToRead("a/b/file"); err != nil || file.Close() != nil {
 			t.Errorf("%v: %v", lacks, err)
 		}
 		if root, err := files.Lstat("."); err != nil || !root.IsDir() {

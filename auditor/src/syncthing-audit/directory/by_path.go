@@ -24,5 +24,8 @@ func (b byPath) DirNames(name string) ([]string, error) {
 // About gives what the system says of a name.
 func (b byPath) About(name string) (os.FileInfo, error) { return os.Lstat(b.path(name)) }
 
+// OpenToRead opens a file to be read, and no symlink.
+func (b byPath) OpenToRead(name string) (File, error) { return OpenFile(b.path(name)) }
+
 // ReadSymlink gives a symlink's target.
 func (b byPath) ReadSymlink(name string) (string, error) { return os.Readlink(b.path(name)) }

@@ -14,6 +14,7 @@ type Directory interface {
 	Lstat(name string) (Info, error)
 	ReadSymlink(name string) (string, error)
 	About(name string) (os.FileInfo, error) // what the system says of a name
+	OpenToRead(name string) (File, error)   // a file, and no symlink
 }
 
 // Info is what stands under a name.

@@ -17,7 +17,7 @@ import (
 func useKernel(t *testing.T, answers ...error) *int {
 	had, asked := openat2, 0
 	t.Cleanup(func() { openat2 = had })
-	openat2 = func(at int, name string, how *unix.OpenHow) (int, error) {
+	openat2 = func(at int, name string, how unix.OpenHow) (int, error) {
 		if asked++; asked <= len(answers) {
 			return -1, answers[asked-1]
 		}

@@ -48,7 +48,12 @@ func (p *Plain) Lstat(name string) (Info, error) {
 }
 
 // InfoOf gives what stands under a name of which the system said this.
-func InfoOf(about os.FileInfo) Info { return plainInfo{about} }
+func InfoOf(about os.FileInfo) Info {
+	if info, is := about.(Info); is {
+		return info
+	}
+	return plainInfo{about}
+}
 
 type plainInfo struct{ about os.FileInfo }
 

@@ -86,7 +86,7 @@ func walkSwapped(t *testing.T, files directory.Directory) {
 			if strings.HasSuffix(one.Name, "below/inside") && one.Node != nil {
 				seen++
 			}
-			isOutside := one.Node != nil && one.Node.Size > int64(len("inside")) || strings.Contains(one.Stamp, " 18")
+			isOutside := one.Node != nil && one.Node.Size > int64(len("inside")) || strings.Contains(one.Stamp.String(), " 18")
 			if strings.Contains(one.Name, "secret") || isOutside && strings.HasSuffix(one.Name, "inside") {
 				t.Fatalf("what is outside is told: %+v", one)
 			}

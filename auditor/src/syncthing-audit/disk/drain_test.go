@@ -89,44 +89,44 @@ func TestStamps(t *testing.T) {
 			t.Fatal(path)
 		}
 	}
-	if stamp := Stamp(path); stamp != "" {
+	if stamp := StampAt(path); stamp != (Stamp{}) {
 		t.Errorf("nothing has the stamp %q", stamp)
 	}
-	seen := map[string]string{}
-	isNew := func(why, stamp string) {
+	seen := map[Stamp]string{}
+	isNew := func(why string, stamp Stamp) {
 		t.Helper()
-		if had, is := seen[stamp]; is || stamp == "" {
+		if had, is := seen[stamp]; is || stamp.String() == "" {
 			t.Errorf("%s: the stamp %q is also that of %s", why, stamp, had)
 		}
 		seen[stamp] = why
 	}
 	write(path, "a")
-	isNew("the first file", Stamp(path))
-	if Stamp(path) != Stamp(path) {
+	isNew("the first file", StampAt(path))
+	if StampAt(path) != StampAt(path) {
 		t.Error("a file has two stamps")
 	}
-	for turn, first := 0, Stamp(path); Stamp(path) == first && turn < 1000; turn++ { // until the kernel's clock goes on
+	for turn, first := 0, StampAt(path); StampAt(path) == first && turn < 1000; turn++ { // until the kernel's clock goes on
 		write(path, "b")
 		time.Sleep(time.Millisecond)
 	}
-	isNew("the file with other bytes", Stamp(path))
+	isNew("the file with other bytes", StampAt(path))
 	write(other, "b")
 	if err := os.Rename(other, path); err != nil {
 		t.Fatal(err)
 	}
-	isNew("another file", Stamp(path))
+	isNew("another file", StampAt(path))
 	if err := os.Mkdir(other, 0o700); err != nil {
 		t.Fatal(err)
 	}
-	before := Stamp(other)
+	before := StampAt(other)
 	isNew("a directory", before)
 	write(filepath.Join(other, "x"), "x")
-	if Stamp(other) != before {
+	if StampAt(other) != before {
 		t.Error("what comes into a directory changes its stamp")
 	}
 	if err := os.Symlink("x", filepath.Join(other, "link")); err != nil {
 		t.Fatal(err)
 	}
-	isNew("a symlink", Stamp(filepath.Join(other, "link")))
-	isNew("another directory", Stamp(directory))
+	isNew("a symlink", StampAt(filepath.Join(other, "link")))
+	isNew("another directory", StampAt(directory))
 }

@@ -191,7 +191,7 @@ func TestAWalkWhoseNamesNobodyTakes(t *testing.T) {
 
 // fileAt gives a file to be hashed as it stands at a path.
 func fileAt(t *testing.T, path string) File {
-	return File{Disk: adapt.Directory(fs.NewFilesystem(fs.FilesystemTypeBasic, filepath.Dir(path))), Name: filepath.Base(path), Stamp: Stamp(path), Node: nodeAt(t, path),
+	return File{Disk: adapt.Directory(fs.NewFilesystem(fs.FilesystemTypeBasic, filepath.Dir(path))), Name: filepath.Base(path), Stamp: StampAt(path), Node: nodeAt(t, path),
 		BlockSizes: []int64{protocol.MinBlockSize}}
 }
 
@@ -222,7 +222,7 @@ func TestAFileThatCannotBeHashed(t *testing.T) {
 		"it fails as all is read":         {unseen, false, syscall.EIO},
 		"nothing is there":                {changed(fileAt(t, path), func(file *File) { file.Name = "gone" }), true, nil},
 		"a symlink took its place":        {changed(fileAt(t, path), func(file *File) { file.Name = "link" }), true, nil},
-		"another file is there":           {changed(fileAt(t, path), func(file *File) { file.Stamp = "another" }), true, nil},
+		"another file is there":           {changed(fileAt(t, path), func(file *File) { file.Stamp = Stamp{} }), true, nil},
 		"it is longer":                    {changed(fileAt(t, path), func(file *File) { file.Node.Size-- }), true, nil},
 		"it is shorter":                   {changed(fileAt(t, path), func(file *File) { file.Node.Size++ }), true, nil},
 		"its second isn't the same":       {changed(fileAt(t, path), func(file *File) { file.Node.ModifiedS++ }), true, nil},

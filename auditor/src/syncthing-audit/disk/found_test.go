@@ -44,9 +44,9 @@ func TestWhatAWalkTellsOfEachKind(t *testing.T) {
 				node.Permissions, node.ModifiedS, node.ModifiedNs = at.Node.Permissions, at.Node.ModifiedS, at.Node.ModifiedNs
 			}
 			if stamps {
-				node.Stamp = Stamp(path(name))
+				node.Stamp = StampAt(path(name)).String()
 			}
-			if at.Out != nil || !reflect.DeepEqual(*at.Node, node) || (at.Stamp != "") != (stamps || name == "file") || at.Stamp != "" && at.Stamp != walker.StampOf(name) {
+			if at.Out != nil || !reflect.DeepEqual(*at.Node, node) || (at.Stamp != (Stamp{})) != (stamps || name == "file") || at.Stamp != (Stamp{}) && at.Stamp.String() != walker.StampOf(name) {
 				t.Errorf("%s is %+v, %+v, not %+v", name, at, at.Node, node)
 			}
 		}

@@ -30,7 +30,7 @@ var ErrChanged = errors.New("it changed while it was read")
 type File struct {
 	Disk       directory.Directory // gives times as Syncthing sees them
 	Name       string
-	Stamp      string // as it was when it was found
+	Stamp      Stamp // as it was when it was found
 	Node       *part.Node
 	BlockSizes []int64
 	Longest    int64      // the size of the longest record of the name
@@ -139,10 +139,10 @@ func pathOf(in directory.Directory, name string) string {
 	return strings.TrimSuffix(in.URI(), string(filepath.Separator)) + string(filepath.Separator) + filepath.FromSlash(name)
 }
 
-// open opens the very file that was found, as it was then. Where a directory above it was renamed, its path leads to another one, which may have the
+// open opens the very file that was found, as it was then. Where a directory above it was renamed, its name leads to another one, which may have the
 // same size and time. Whether it stays as it is until it was read is looked at in the end (check).
-func (f *File) open() (file opened, err error) {
-	file, err = openFile(f.path())
+func (f *File) open() (file directory.File, err error) {
+	file, err = f.Disk.OpenToRead(f.Name)
 	switch {
 	case errors.Is(err, os.ErrNotExist) || errors.Is(err, syscall.ENOTDIR) || errors.Is(err, syscall.ELOOP):
 		return file, ErrChanged
@@ -152,7 +152,7 @@ func (f *File) open() (file opened, err error) {
 	about, err := file.Stat()
 	if err != nil {
 		err = unread(err)
-	} else if !hasStamp(about, f.Stamp) || !about.Mode().IsRegular() {
+	} else if stampOf(about) != f.Stamp || !about.Mode().IsRegular() {
 		err = ErrChanged
 	}
 	if err != nil {
@@ -239,7 +239,7 @@ func (j *Job) check() error {
 		return unread(err)
 	}
 	if err != nil || !after.IsRegular() || after.Size() != j.file.Node.Size ||
-		after.ModTime().Unix() != j.file.Node.ModifiedS || after.ModTime().Nanosecond() != j.file.Node.ModifiedNs || !hasStamp(after.About(), j.file.Stamp) {
+		after.ModTime().Unix() != j.file.Node.ModifiedS || after.ModTime().Nanosecond() != j.file.Node.ModifiedNs || stampOf(after.About()) != j.file.Stamp {
 		return ErrChanged
 	}
 	return nil

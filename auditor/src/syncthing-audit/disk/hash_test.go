@@ -64,7 +64,7 @@ func TestContents(t *testing.T) {
 		if err := os.WriteFile(path, data, 0o600); err != nil {
 			t.Fatal(err)
 		}
-		file := File{Disk: adapt.Directory(fs.NewFilesystem(fs.FilesystemTypeBasic, room)), Name: "file", Stamp: Stamp(path), Node: nodeAt(t, path),
+		file := File{Disk: adapt.Directory(fs.NewFilesystem(fs.FilesystemTypeBasic, room)), Name: "file", Stamp: StampAt(path), Node: nodeAt(t, path),
 			BlockSizes: one.sizes, Keep: true}
 		found, _, kept, err := pool.Begin(file).Wait()
 		if err != nil || !bytes.Equal(kept, data) {
@@ -90,7 +90,7 @@ func TestAFileThatIsWrittenMeanwhile(t *testing.T) {
 				t.Fatal(err)
 			}
 			pool, node := NewPool(1), nodeAt(t, path)
-			job := pool.Begin(File{Disk: adapt.Directory(fs.NewFilesystem(fs.FilesystemTypeBasic, room)), Name: "file", Stamp: Stamp(path), Node: node, BlockSizes: []int64{protocol.MinBlockSize}})
+			job := pool.Begin(File{Disk: adapt.Directory(fs.NewFilesystem(fs.FilesystemTypeBasic, room)), Name: "file", Stamp: StampAt(path), Node: node, BlockSizes: []int64{protocol.MinBlockSize}})
 			for pool.Hashed() < int64(bytes) {
 				time.Sleep(time.Millisecond)
 			}
@@ -129,7 +129,7 @@ func TestFilesThatChange(t *testing.T) {
 	for _, one := range cases {
 		node := nodeAt(t, path)
 		one.change(node)
-		file := File{Disk: adapt.Directory(fs.NewFilesystem(fs.FilesystemTypeBasic, room)), Name: "file", Stamp: Stamp(path), Node: node,
+		file := File{Disk: adapt.Directory(fs.NewFilesystem(fs.FilesystemTypeBasic, room)), Name: "file", Stamp: StampAt(path), Node: node,
 			BlockSizes: []int64{protocol.MinBlockSize}}
 		if _, _, _, err := pool.Begin(file).Wait(); !errors.Is(err, ErrChanged) {
 			t.Errorf("%s: %v", one.why, err)
@@ -151,7 +151,7 @@ func TestBytesBehindFourGiga(t *testing.T) {
 		t.Skip("no file is as long here: ", err)
 	}
 	node := nodeAt(t, path)
-	job := &Job{file: File{Disk: adapt.Directory(fs.NewFilesystem(fs.FilesystemTypeBasic, filepath.Dir(path))), Name: "file", Stamp: Stamp(path), Node: node,
+	job := &Job{file: File{Disk: adapt.Directory(fs.NewFilesystem(fs.FilesystemTypeBasic, filepath.Dir(path))), Name: "file", Stamp: StampAt(path), Node: node,
 		BlockSizes: []int64{pieceBytes}, Longest: node.Size}, hashes: make([][][][32]byte, 1)}
 	pool := NewPool(1)
 	defer pool.Close()

@@ -25,7 +25,7 @@ func (f *File) isCut() bool { return f.Length() < f.Node.Size }
 func (f *File) cutContents() []part.Content {
 	contents := []part.Content{}
 	for _, size := range f.BlockSizes {
-		contents = append(contents, part.Content{Size: f.Node.Size, BlockSize: size, Hash: sha256.Sum256([]byte("not read to its end\x00" + f.Stamp + "\x00" + f.path()))})
+		contents = append(contents, part.Content{Size: f.Node.Size, BlockSize: size, Hash: sha256.Sum256([]byte("not read to its end\x00" + f.Stamp.String() + "\x00" + f.path()))})
 	}
 	return contents
 }

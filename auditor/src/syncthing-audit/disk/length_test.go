@@ -38,7 +38,7 @@ func TestAFileFarLongerThanItsRecord(t *testing.T) {
 	for _, size := range []int64{15 << 40, 1 << 62, 1<<63 - 1} {
 		room, node := sparseFile(t, size)
 		zeros := scanned(t, make([]byte, block), int(block))
-		file := File{Disk: adapt.Directory(fs.NewFilesystem(fs.FilesystemTypeBasic, room)), Name: "file", Stamp: Stamp(filepath.Join(room, "file")), Node: node,
+		file := File{Disk: adapt.Directory(fs.NewFilesystem(fs.FilesystemTypeBasic, room)), Name: "file", Stamp: StampAt(filepath.Join(room, "file")), Node: node,
 			BlockSizes: []int64{block}, Longest: block, Recorded: zeros}
 		before := pool.Hashed()
 		contents, differ, _, err := pool.Begin(file).Wait()
@@ -64,7 +64,7 @@ func TestAFileAsLongAsAnyNumber(t *testing.T) {
 	defer pool.Close()
 	const size = int64(1 << 62)
 	room, node := sparseFile(t, size)
-	file := File{Disk: adapt.Directory(fs.NewFilesystem(fs.FilesystemTypeBasic, room)), Name: "file", Stamp: Stamp(filepath.Join(room, "file")), Node: node,
+	file := File{Disk: adapt.Directory(fs.NewFilesystem(fs.FilesystemTypeBasic, room)), Name: "file", Stamp: StampAt(filepath.Join(room, "file")), Node: node,
 		BlockSizes: []int64{protocol.MinBlockSize, protocol.MaxBlockSize}, Longest: size}
 	go func() {
 		for pool.Hashed() == 0 {

@@ -85,7 +85,7 @@ func TestADiskThatFailsAfterTheBytesAreRead(t *testing.T) {
 	}
 	pool := NewPool(1)
 	defer pool.Close()
-	_, _, _, err := pool.Begin(File{Disk: adapt.Directory(gone{fs.NewFilesystem(fs.FilesystemTypeBasic, room)}), Name: "file", Stamp: Stamp(path), Node: nodeAt(t, path),
+	_, _, _, err := pool.Begin(File{Disk: adapt.Directory(gone{fs.NewFilesystem(fs.FilesystemTypeBasic, room)}), Name: "file", Stamp: StampAt(path), Node: nodeAt(t, path),
 		BlockSizes: []int64{protocol.MinBlockSize}}).Wait()
 	if !IsDamage(err) {
 		t.Error(err)

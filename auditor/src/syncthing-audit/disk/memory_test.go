@@ -70,7 +70,7 @@ func readsFromDisk(t *testing.T, length int) {
 	pool := NewPool(2)
 	defer pool.Close()
 	before = bytesFromDisk(t)
-	asked := File{Disk: adapt.Directory(fs.NewFilesystem(fs.FilesystemTypeBasic, room)), Name: "file", Stamp: Stamp(path), Node: nodeAt(t, path),
+	asked := File{Disk: adapt.Directory(fs.NewFilesystem(fs.FilesystemTypeBasic, room)), Name: "file", Stamp: StampAt(path), Node: nodeAt(t, path),
 		BlockSizes: []int64{protocol.MinBlockSize}}
 	if _, _, _, err := pool.Begin(asked).Wait(); err != nil {
 		t.Fatal(err)

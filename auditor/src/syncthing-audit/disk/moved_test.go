@@ -41,7 +41,7 @@ func twoRooms(t *testing.T, size int64) (room string, file File) {
 	if err != nil {
 		t.Fatal(err)
 	}
-	return room, File{Disk: adapt.Directory(fs.NewFilesystem(fs.FilesystemTypeBasic, room)), Name: "above/file", Stamp: Stamp(path), Node: node,
+	return room, File{Disk: adapt.Directory(fs.NewFilesystem(fs.FilesystemTypeBasic, room)), Name: "above/file", Stamp: StampAt(path), Node: node,
 		BlockSizes: []int64{protocol.MaxBlockSize}}
 }
 

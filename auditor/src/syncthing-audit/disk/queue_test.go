@@ -94,7 +94,7 @@ func TestFilesThatAreNotHashed(t *testing.T) {
 		line := &part.Name{Name: part.Bytes(name), Disk: &part.Node{Size: 5}}
 		file := File{Disk: adapt.Directory(fs.NewFilesystem(fs.FilesystemTypeBasic, filepath.Dir(path))), Name: name, Node: line.Disk, BlockSizes: []int64{protocol.MinBlockSize}}
 		if kind == "" { // the first bytes of a process can't be read
-			file.Disk, file.Stamp = adapt.Directory(fs.NewFilesystem(fs.FilesystemTypeBasic, "/proc/self")), Stamp("/proc/self/mem")
+			file.Disk, file.Stamp = adapt.Directory(fs.NewFilesystem(fs.FilesystemTypeBasic, "/proc/self")), StampAt("/proc/self/mem")
 		}
 		told := (&Pending{Line: line, Job: pool.Begin(file)}).Finish()
 		if kind == "" {

@@ -30,7 +30,7 @@ func TestWhatAStampHas(t *testing.T) {
 			if !about.IsDir() {
 				due += fmt.Sprintf(" %d.%09d %d.%09d %d", said.Ctim.Sec, said.Ctim.Nsec, said.Mtim.Sec, said.Mtim.Nsec, said.Size)
 			}
-			if stamp := Stamp(path); stamp != due {
+			if stamp := StampAt(path).String(); stamp != due {
 				t.Errorf("%s, not %s", stamp, due)
 			}
 		}

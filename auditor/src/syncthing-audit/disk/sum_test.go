@@ -28,7 +28,7 @@ func TestTheSumThatIsSet(t *testing.T) {
 	}
 	pool := NewPool(1)
 	defer pool.Close()
-	file := File{Disk: adapt.Directory(fs.NewFilesystem(fs.FilesystemTypeBasic, filepath.Dir(path))), Name: "file", Stamp: Stamp(path), Node: nodeAt(t, path), BlockSizes: []int64{readBytes, 2 * readBytes}}
+	file := File{Disk: adapt.Directory(fs.NewFilesystem(fs.FilesystemTypeBasic, filepath.Dir(path))), Name: "file", Stamp: StampAt(path), Node: nodeAt(t, path), BlockSizes: []int64{readBytes, 2 * readBytes}}
 	contents, _, _, err := pool.Begin(file).Wait()
 	if err != nil || contents[0].Hash != HashOf([][32]byte{sha256.Sum256([]byte("hello"))}) || contents[1].Hash != contents[0].Hash || asked.Load() == 0 {
 		t.Errorf("%v, %v, asked %d times", contents, err, asked.Load())

@@ -4,8 +4,8 @@ package disk
 import (
 	"fmt"
 	"os"
-	"path"
 	"sort"
+	"strings"
 	"time"
 
 	"syncthing-audit/bep"
@@ -20,7 +20,7 @@ type Found struct {
 	Name  string
 	Node  *part.Node
 	Out   *part.LeftOut
-	Stamp string // of a file, for its hashing
+	Stamp Stamp // of a file, for its hashing
 }
 
 // Walker reads the nodes of a folder, without the bytes of files.
@@ -54,12 +54,12 @@ func (w *Walker) walk(directory string) error {
 	below := []string{} // directories that were met, each with its slash, whose names are still to come
 	for _, name := range names {
 		for len(below) > 0 && below[0] < name {
-			if err := w.walk(path.Join(directory, below[0])); err != nil {
+			if err := w.walk(joined(directory, below[0])); err != nil {
 				return err
 			}
 			below = below[1:]
 		}
-		isDirectory, err := w.visit(path.Join(directory, name))
+		isDirectory, err := w.visit(joined(directory, name))
 		if err != nil {
 			return err
 		}
@@ -68,11 +68,20 @@ func (w *Walker) walk(directory string) error {
 		}
 	}
 	for _, name := range below {
-		if err := w.walk(path.Join(directory, name)); err != nil {
+		if err := w.walk(joined(directory, name)); err != nil {
 			return err
 		}
 	}
 	return nil
+}
+
+// joined gives the name of what stands in a directory; of a directory it may have its slash.
+func joined(directory, name string) string {
+	name = strings.TrimSuffix(name, "/")
+	if directory == "." {
+		return name
+	}
+	return directory + "/" + name
 }
 
 // insert puts a name into its place.
@@ -151,13 +160,13 @@ func (w *Walker) found(name string, info directory.Info) Found {
 		found.Stamp = w.stamp(info.About())
 	}
 	if w.Stamps {
-		node.Stamp = found.Stamp
+		node.Stamp = found.Stamp.String()
 	}
 	found.Node = node
 	return found
 }
 
-// StampOf gives the stamp of what stands under a name. Where the disk fails to give it, that is another one each time: nobody knows that nothing changed.
+// StampOf gives the text of the stamp of what stands under a name. Where the disk fails to give it, that is another one each time: nobody knows that nothing changed.
 func (w *Walker) StampOf(name string) string {
 	about, err := w.Disk.About(name)
 	if IsDamage(err) {
@@ -166,11 +175,11 @@ func (w *Walker) StampOf(name string) string {
 	if err != nil {
 		return ""
 	}
-	return stampOf(about)
+	return stampOf(about).String()
 }
 
 // stamp gives the stamp of what was found, and counts the links that its file has.
-func (w *Walker) stamp(about os.FileInfo) string {
+func (w *Walker) stamp(about os.FileInfo) Stamp {
 	if w.links == nil {
 		w.links = links{}
 	}

@@ -1,6 +1,10 @@
 package disk
 
-import "hash"
+import (
+	"hash"
+
+	"syncthing-audit/directory"
+)
 
 const (
 	// mostAhead is how many files at most a worker has the system read ahead.
@@ -24,7 +28,7 @@ type reader struct {
 // begun is a file that the system reads, or why it doesn't.
 type begun struct {
 	job  *Job
-	file opened
+	file directory.File
 	err  error
 }
 
@@ -55,7 +59,7 @@ func (r *reader) do(jobs []*Job) {
 }
 
 // begin opens a file, and has the system read it from the disk.
-func (f *File) begin() (opened, error) {
+func (f *File) begin() (directory.File, error) {
 	file, err := f.open()
 	if err == nil && f.Node.Size > 0 {
 		letGo(file, 0, f.Node.Size)
@@ -65,7 +69,7 @@ func (f *File) begin() (opened, error) {
 }
 
 // hash reads a file, and hashes its one block and the list that has this alone.
-func (r *reader) hash(job *Job, file opened) error {
+func (r *reader) hash(job *Job, file directory.File) error {
 	if r.buffer == nil {
 		r.buffer = make([]byte, readBytes)
 	}

@@ -27,7 +27,7 @@ func TestManyFilesThatAreReadAtOnce(t *testing.T) {
 		}
 		file := fileAt(t, path)
 		if file.Keep = place%2 == 0; place%7 == 3 {
-			file.Stamp = "another"
+			file.Stamp = Stamp{}
 		}
 		jobs = append(jobs, pool.Begin(file))
 	}

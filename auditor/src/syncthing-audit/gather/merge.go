@@ -21,9 +21,8 @@ type merge struct {
 	device   *Device
 	patterns *ignore.Matcher
 	walker   *disk.Walker
-	hashed   disk.File // has the folder once more, for another look at what was hashed: the walk goes on meanwhile, with another directory open
-	own      *puller[device.Entry]
-	views    []*puller[device.Entry]
+	hashed   disk.File               // has the folder once more, for another look at what was hashed: the walk goes on meanwhile, with another directory open
+	entries  []*puller[device.Entry] // the readings of the index: its own, then the views
 	nodes    *puller[disk.Found]
 	to       *disk.Queue
 	folder   string
@@ -38,10 +37,10 @@ var errStopped = errors.New("stopped")
 // newMerge begins to read a folder.
 func newMerge(of *Device, folder Folder, about *part.Folder, patterns *ignore.Matcher, to *disk.Queue) *merge {
 	m := &merge{holding: map[string]bool{}, device: of, patterns: patterns, to: to, walker: of.walker(folder), hashed: disk.File{Disk: adapt.Directory(folder.Disk())}, folder: about.ID}
-	m.own = pull(func(take func(device.Entry) bool) error { return folder.Own(of.Names, take) })
+	m.entries = append(m.entries, pull(func(take func(device.Entry) bool) error { return folder.Own(of.Names, take) }))
 	for _, view := range about.Views {
 		view := view
-		m.views = append(m.views, pull(func(take func(device.Entry) bool) error { return folder.View(view, of.Names, take) }))
+		m.entries = append(m.entries, pull(func(take func(device.Entry) bool) error { return folder.View(view, of.Names, take) }))
 	}
 	m.nodes = pull(func(take func(disk.Found) bool) error {
 		m.walker.Take = func(found disk.Found) error {
@@ -59,7 +58,7 @@ func newMerge(of *Device, folder Folder, about *part.Folder, patterns *ignore.Ma
 func (m *merge) run() error {
 	defer func() {
 		m.nodes.close()
-		for _, entry := range m.entries() {
+		for _, entry := range m.entries {
 			entry.close()
 		}
 	}()
@@ -90,14 +89,9 @@ func (m *merge) tellEnd(end *part.End) {
 	}
 }
 
-// entries gives the readings of the index: its own, then the views.
-func (m *merge) entries() []*puller[device.Entry] {
-	return append([]*puller[device.Entry]{m.own}, m.views...)
-}
-
 // failure gives the error of a reading that ended too early, if there was one. A name that comes after it isn't told without what that reading has.
 func (m *merge) failure() error {
-	for _, entries := range m.entries() {
+	for _, entries := range m.entries {
 		if err := entries.failure(); err != nil {
 			return err
 		}
@@ -113,7 +107,7 @@ func (m *merge) least() (string, bool) {
 			name, is = next, true
 		}
 	}
-	for _, entry := range m.entries() {
+	for _, entry := range m.entries {
 		if next := entry.peek(); next != nil {
 			take(next.Name)
 		}
@@ -163,7 +157,7 @@ func notIgnoredNow(line *part.Name) {
 // takeEntries adds what the index and the views have of a name. It gives the block hashes that the own record has.
 func (m *merge) takeEntries(line *part.Name) [][32]byte {
 	var recorded [][32]byte
-	for place, entries := range m.entries() {
+	for place, entries := range m.entries {
 		entry := entries.peek()
 		if entry == nil || entry.Name != string(line.Name) {
 			continue
@@ -182,10 +176,10 @@ func (m *merge) takeEntries(line *part.Name) [][32]byte {
 }
 
 // takeNode adds what stands on the disk under a name. It gives the stamp that it had when it was found.
-func (m *merge) takeNode(line *part.Name) string {
+func (m *merge) takeNode(line *part.Name) disk.Stamp {
 	found := m.nodes.peek()
 	if found == nil || found.Name != string(line.Name) {
-		return ""
+		return disk.Stamp{}
 	}
 	m.nodes.take()
 	line.Disk = found.Node
@@ -239,7 +233,7 @@ func sizeOf(line *part.Name) int64 {
 }
 
 // send puts a name into the queue, and has its file hashed. The file had this stamp when it was found.
-func (m *merge) send(line *part.Name, recorded [][32]byte, stamp string) bool {
+func (m *merge) send(line *part.Name, recorded [][32]byte, stamp disk.Stamp) bool {
 	if part.IsLongName(string(line.Name)) {
 		m.hideLong(line)
 		return true

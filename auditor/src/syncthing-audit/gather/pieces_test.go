@@ -180,7 +180,7 @@ func TestWhatANameTakesOfTheQueue(t *testing.T) {
 			m := &merge{device: &Device{Bytes: keep, Pool: pool}, walker: &disk.Walker{Disk: adapt.Directory(fs.NewFilesystem(fs.FilesystemTypeBasic, room))}, to: disk.NewQueue()}
 			line := &part.Name{Name: "a", Disk: &part.Node{Size: size}, Own: &part.Record{Content: &part.Content{Size: size, BlockSize: 2 * protocol.MinBlockSize}},
 				Views: []part.Seen{{Record: &part.Record{Content: &part.Content{Size: size, BlockSize: protocol.MinBlockSize}}}}}
-			if !m.send(line, make([][32]byte, 3), "") {
+			if !m.send(line, make([][32]byte, 3), disk.Stamp{}) {
 				t.Fatal("it isn't wanted")
 			}
 			expected, isTooLarge := disk.WeightOfName, keep && size > limits.MostFileBytes

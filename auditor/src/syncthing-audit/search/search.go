@@ -114,7 +114,7 @@ func (s *search) hasWanted(path string) (has *history.Reading, isOfSize bool, er
 	if err != nil {
 		return nil, false, err
 	}
-	file := disk.File{Disk: adapt.Directory(synced.NewFilesystem(synced.FilesystemTypeBasic, filepath.Dir(path))), Name: filepath.Base(path), Stamp: disk.Stamp(path),
+	file := disk.File{Disk: adapt.Directory(synced.NewFilesystem(synced.FilesystemTypeBasic, filepath.Dir(path))), Name: filepath.Base(path), Stamp: disk.StampAt(path),
 		Node: &part.Node{Size: about.Size(), ModifiedS: about.ModTime().Unix(), ModifiedNs: about.ModTime().Nanosecond()}, Longest: about.Size()}
 	for _, reading := range s.wanted {
 		if reading.Content.Size == about.Size() && !slices.Contains(file.BlockSizes, reading.Content.BlockSize) {

@@ -1,4 +1,4 @@
-package disk
+package directory
 
 import (
 	"errors"
@@ -17,7 +17,7 @@ func TestWhatIsReadOfAnOpenFile(t *testing.T) {
 	if err := os.WriteFile(path, []byte("hello"), 0o600); err != nil {
 		t.Fatal(err)
 	}
-	file, err := openFile(path)
+	file, err := OpenFile(path)
 	if err != nil {
 		t.Fatal(err)
 	}
@@ -33,14 +33,14 @@ func TestWhatIsReadOfAnOpenFile(t *testing.T) {
 		}
 	}
 	about, err := file.Stat()
-	if err != nil || about.Size() != 5 || !hasStamp(about, Stamp(path)) || hasStamp(about, "another") {
+	if err != nil || about.Size() != 5 || !about.Mode().IsRegular() {
 		t.Errorf("%v, %v", about, err)
 	}
 	is := func(opened string) bool { return opened == path }
 	if fixture.CountOpened(t, is) != 1 || file.Close() != nil || fixture.CountOpened(t, is) != 0 {
 		t.Error("it isn't closed")
 	}
-	if _, err := openFile(path + "x"); !errors.Is(err, os.ErrNotExist) || err.Error() != "open "+path+"x: no such file or directory" {
+	if _, err := OpenFile(path + "x"); !errors.Is(err, os.ErrNotExist) || err.Error() != "open "+path+"x: no such file or directory" {
 		t.Error(err)
 	}
 }
@@ -48,7 +48,7 @@ func TestWhatIsReadOfAnOpenFile(t *testing.T) {
 // A read that fails says of which file. A directory can be opened, and not read.
 func TestAFailedReadNamesItsFile(t *testing.T) {
 	path := t.TempDir()
-	file, err := openFile(path)
+	file, err := OpenFile(path)
 	if err != nil {
 		t.Fatal(err)
 	}
@@ -62,7 +62,7 @@ func TestAFailedReadNamesItsFile(t *testing.T) {
 
 // So does a look at it that fails.
 func TestAFailedLookNamesItsFile(t *testing.T) {
-	_, err := opened{-1, "file"}.Stat()
+	_, err := File{-1, "", "file"}.Stat()
 	if !errors.Is(err, unix.EBADF) || err.Error() != "stat file: bad file descriptor" {
 		t.Errorf("a look at no file fails with %v", err)
 	}

@@ -1,4 +1,4 @@
-package disk
+package directory
 
 import (
 	"os"
@@ -8,8 +8,8 @@ import (
 // noReparse has Windows open a symlink itself, and not what it leads to (FILE_FLAG_OPEN_REPARSE_POINT).
 const noReparse = 0x00200000
 
-// openFile opens a file to be read, and no symlink. Others may write, rename and delete it meanwhile, as Syncthing does.
-func openFile(path string) (*os.File, error) {
+// OpenFile opens a file to be read, and no symlink. Others may write, rename and delete it meanwhile, as Syncthing does.
+func OpenFile(path string) (File, error) {
 	text, err := syscall.UTF16PtrFromString(path)
 	if err != nil {
 		return nil, &os.PathError{Op: "open", Path: path, Err: err}
