@@ -235,7 +235,7 @@ func (i *Index) View(of part.View, names choice.Names, take func(Entry) bool) er
 }
 
 // viewedEntry reads another device's entry. Of what that device ignores, or is to scan anew, it tells neither size nor blocks.
-func viewedEntry(entry protocol.FileInfo) Entry {
+func viewedEntry(entry *protocol.FileInfo) Entry {
 	if entry.IsInvalid() && !entry.Deleted && entry.Type == protocol.FileInfoTypeFile && len(entry.Blocks) == 0 {
 		return leftOut(entry, part.Ignored, part.WhyIgnoredElsewhere)
 	}
@@ -243,7 +243,7 @@ func viewedEntry(entry protocol.FileInfo) Entry {
 }
 
 // entries reads what the index has of one device.
-func (i *Index) entries(of protocol.DeviceID, names choice.Names, greatest int64, read func(protocol.FileInfo) Entry, take func(Entry) bool) (err error) {
+func (i *Index) entries(of protocol.DeviceID, names choice.Names, greatest int64, read func(*protocol.FileInfo) Entry, take func(Entry) bool) (err error) {
 	defer recovered(i.Config.ID, &err)
 	given, isWanted := int64(0), true
 	adapt.Have(i.snapshot.WithHave, of, func(entry protocol.FileInfo) bool {
@@ -251,9 +251,9 @@ func (i *Index) entries(of protocol.DeviceID, names choice.Names, greatest int64
 			return !names.IsPast(entry.Name)
 		}
 		given++
-		next := read(entry)
+		next := read(&entry)
 		if next.Record != nil && (entry.Sequence < 1 || entry.Sequence > greatest) {
-			next = leftOut(entry, i.kindOfOddSequence(), fmt.Sprintf("its sequence %d isn't 1 to %d", entry.Sequence, greatest))
+			next = leftOut(&entry, i.kindOfOddSequence(), fmt.Sprintf("its sequence %d isn't 1 to %d", entry.Sequence, greatest))
 		}
 		isWanted = take(next)
 		return isWanted

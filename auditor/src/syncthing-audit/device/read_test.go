@@ -109,7 +109,8 @@ func TestWhatAnotherDeviceIgnores(t *testing.T) {
 			f.RawInvalid, f.Type, f.Blocks, f.Size = true, protocol.FileInfoTypeDirectory, nil, 0
 		}, false},
 	} {
-		entry := viewedEntry(hello(row.change))
+		viewed := hello(row.change)
+		entry := viewedEntry(&viewed)
 		if (entry.Out != nil) != row.isOut || entry.Out != nil && entry.Out.Kind != part.Ignored || (entry.Record == nil) != row.isOut {
 			t.Errorf("%s: %+v, %+v", why, entry.Record, entry.Out)
 		}

@@ -22,7 +22,7 @@ type Entry struct {
 
 // ownEntry reads a device's own entry as it goes over the wire. A local change on a receive-only folder is invalid there,
 // and without a version. The version that the index has of it is kept beside, unless no document could have such a one.
-func ownEntry(entry protocol.FileInfo) Entry {
+func ownEntry(entry *protocol.FileInfo) Entry {
 	switch {
 	case entry.IsIgnored():
 		return leftOut(entry, part.Ignored, part.WhyIgnored)
@@ -37,8 +37,9 @@ func ownEntry(entry protocol.FileInfo) Entry {
 		return entryOf(entry)
 	}
 	local, _ := versionOf(entry.Version)
-	entry.Version = protocol.Vector{}
-	own := entryOf(entry)
+	onWire := *entry
+	onWire.Version = protocol.Vector{}
+	own := entryOf(&onWire)
 	if own.Record != nil && len(local) > 0 {
 		own.Record.Local = local
 	}
@@ -46,10 +47,10 @@ func ownEntry(entry protocol.FileInfo) Entry {
 }
 
 // WireEntry reads a device's entry that came over the wire.
-func WireEntry(entry protocol.FileInfo) Entry { return entryOf(entry) }
+func WireEntry(entry protocol.FileInfo) Entry { return entryOf(&entry) }
 
 // leftOut gives an entry without a record.
-func leftOut(entry protocol.FileInfo, kind, why string) Entry {
+func leftOut(entry *protocol.FileInfo, kind, why string) Entry {
 	bytes := int64(0)
 	if entry.Type == protocol.FileInfoTypeFile && !entry.Deleted && entry.Size > 0 {
 		bytes = entry.Size
@@ -58,7 +59,7 @@ func leftOut(entry protocol.FileInfo, kind, why string) Entry {
 }
 
 // entryOf reads an entry, and says why a document has no such record.
-func entryOf(entry protocol.FileInfo) Entry {
+func entryOf(entry *protocol.FileInfo) Entry {
 	if err := limits.CheckName(entry.Name); err != nil {
 		return leftOut(entry, part.OddName, err.Error())
 	}
@@ -75,7 +76,7 @@ func entryOf(entry protocol.FileInfo) Entry {
 }
 
 // recordOf gives the record of an entry, with its block hashes.
-func recordOf(entry protocol.FileInfo) (*part.Record, [][32]byte, error) {
+func recordOf(entry *protocol.FileInfo) (*part.Record, [][32]byte, error) {
 	if err := checkHead(entry); err != nil {
 		return nil, nil, err
 	}
@@ -83,14 +84,16 @@ func recordOf(entry protocol.FileInfo) (*part.Record, [][32]byte, error) {
 	if err != nil {
 		return nil, nil, err
 	}
-	record := &part.Record{Type: int(entry.Type), ModifiedS: entry.ModifiedS, ModifiedNs: int(entry.ModifiedNs), ModifiedBy: uint64(entry.ModifiedBy),
+	made := &filledRecord{}
+	record := &made.Record
+	*record = part.Record{Type: int(entry.Type), ModifiedS: entry.ModifiedS, ModifiedNs: int(entry.ModifiedNs), ModifiedBy: uint64(entry.ModifiedBy),
 		Version: version, Sequence: entry.Sequence, Deleted: entry.Deleted, Invalid: entry.IsInvalid()}
 	if entry.Deleted {
 		return record, nil, nil
 	}
 	if entry.HasPermissionBits() && !entry.IsSymlink() {
-		bits := entry.Permissions & 0o777
-		record.Permissions = &bits
+		made.permissions = entry.Permissions & 0o777
+		record.Permissions = &made.permissions
 	}
 	if entry.Type != protocol.FileInfoTypeFile {
 		record.Target = string(entry.SymlinkTarget)
@@ -100,12 +103,20 @@ func recordOf(entry protocol.FileInfo) (*part.Record, [][32]byte, error) {
 	if err != nil {
 		return nil, nil, err
 	}
-	record.Content = &part.Content{Size: entry.Size, BlockSize: int64(entry.BlockSize()), Hash: disk.HashOf(blocks)}
+	made.content = part.Content{Size: entry.Size, BlockSize: int64(entry.BlockSize()), Hash: disk.HashOf(blocks)}
+	record.Content = &made.content
 	return record, blocks, nil
 }
 
+// filledRecord is a record with what it points to, which is made at once: each name has some.
+type filledRecord struct {
+	part.Record
+	content     part.Content
+	permissions uint32
+}
+
 // checkHead says what of an entry but its version and content the document doesn't have.
-func checkHead(entry protocol.FileInfo) error {
+func checkHead(entry *protocol.FileInfo) error {
 	switch {
 	case !part.IsType(int(entry.Type)):
 		return fmt.Errorf("its type is %d (only files, directories and symlinks are had)", entry.Type)
@@ -131,7 +142,9 @@ func versionOf(version protocol.Vector) (part.Version, error) {
 	if len(counters) > limits.MostCounters {
 		return nil, fmt.Errorf("its version has over %d counters", limits.MostCounters)
 	}
-	sort.Slice(counters, func(a, b int) bool { return counters[a][0] < counters[b][0] })
+	if len(counters) > 1 { // as most have one
+		sort.Slice(counters, func(a, b int) bool { return counters[a][0] < counters[b][0] })
+	}
 	for next := 1; next < len(counters); next++ {
 		if counters[next-1][0] == counters[next][0] {
 			return nil, errors.New("its version has two counters of one device")
@@ -141,7 +154,7 @@ func versionOf(version protocol.Vector) (part.Version, error) {
 }
 
 // checkOther says why the document has no directory or symlink such as this entry.
-func checkOther(entry protocol.FileInfo) error {
+func checkOther(entry *protocol.FileInfo) error {
 	if entry.Size != 0 || len(entry.Blocks) > 0 {
 		return errors.New("it has a size or blocks, and is no file")
 	}
@@ -152,7 +165,7 @@ func checkOther(entry protocol.FileInfo) error {
 }
 
 // blocksOf gives a file's block hashes, where they are those of a file of its size.
-func blocksOf(entry protocol.FileInfo) ([][32]byte, error) {
+func blocksOf(entry *protocol.FileInfo) ([][32]byte, error) {
 	size := int64(entry.BlockSize())
 	switch {
 	case len(entry.SymlinkTarget) > 0:

@@ -100,7 +100,8 @@ func TestRecords(t *testing.T) {
 			func(r *part.Record) { r.Content = contentOf(0, hashOfNothing) }},
 	}
 	for _, one := range cases {
-		made := ownEntry(hello(one.entry))
+		own := hello(one.entry)
+		made := ownEntry(&own)
 		if expected := helloRecord(one.record); made.Out != nil || !reflect.DeepEqual(*made.Record, expected) {
 			t.Errorf("%s: %+v, %v; expected %+v", one.why, made.Record, made.Out, expected)
 		}

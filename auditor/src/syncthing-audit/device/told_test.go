@@ -82,7 +82,8 @@ func TestWhatIsToldOfEntriesWithoutARecord(t *testing.T) {
 		{"records, 131077 bytes: its block 0 doesn't fit its size of 131077", large(func(e *protocol.FileInfo) { e.Blocks[0].Size-- })},
 		{"records, 0 bytes: it is empty, and its block isn't that of nothing", func(e *protocol.FileInfo) { e.Size, e.Blocks[0].Size = 0, 0 }},
 	} {
-		made := ownEntry(hello(row.entry))
+		own := hello(row.entry)
+		made := ownEntry(&own)
 		if told := outOf(made); told != row.told || (made.Record == nil) != (told != "") {
 			t.Errorf("%s, not %s", told, row.told)
 		}

@@ -35,6 +35,7 @@ type File struct {
 	BlockSizes []int64
 	Longest    int64      // the size of the longest record of the name
 	Recorded   [][32]byte // the own record's block hashes, to be compared with those of the first block size; or none
+	List       *part.Hash // the SHA-256 of these, where it is known
 	Keep       bool       // the bytes, too
 }
 
@@ -90,7 +91,7 @@ func (j *Job) hashOf(place int) part.Hash {
 	if j.file.isWhole() {
 		return j.list
 	}
-	return HashOf(j.hashesOf(place))
+	return j.file.listOf(j.hashesOf(place))
 }
 
 func (j *Job) fail(err error) {

@@ -3,7 +3,9 @@ package disk
 import (
 	"hash"
 
+	"golang.org/x/exp/slices"
 	"syncthing-audit/directory"
+	"syncthing-audit/part"
 )
 
 const (
@@ -68,6 +70,14 @@ func (f *File) begin() (directory.File, error) {
 	return file, err
 }
 
+// listOf gives the SHA-256 of block hashes. Mostly they are those of the record.
+func (f *File) listOf(hashes [][32]byte) part.Hash {
+	if f.List != nil && slices.Equal(f.Recorded, hashes) {
+		return *f.List
+	}
+	return HashOf(hashes)
+}
+
 // hash reads a file, and hashes its one block and the list that has this alone.
 func (r *reader) hash(job *Job, file directory.File) error {
 	if r.buffer == nil {
@@ -81,7 +91,7 @@ func (r *reader) hash(job *Job, file directory.File) error {
 	r.sum.Reset()
 	r.sum.Write(data)
 	r.sum.Sum(job.block[0][:0])
-	job.list = HashOf(job.block[:])
+	job.list = job.file.listOf(job.block[:])
 	<-r.pool.hashing
 	copy(job.data, data)
 	r.pool.hashed.Add(int64(len(data)))

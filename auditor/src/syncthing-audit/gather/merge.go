@@ -248,6 +248,9 @@ func (m *merge) send(line *part.Name, recorded [][32]byte, stamp disk.Stamp) boo
 	if isHashed {
 		file = disk.File{Disk: m.hashed.Disk, Name: string(line.Name), Stamp: stamp, Node: node, BlockSizes: blockSizes(line),
 			Longest: longest(line), Recorded: recorded, Keep: m.device.Bytes}
+		if recorded != nil {
+			file.List = &line.Own.Content.Hash
+		}
 		pending.Weight += len(recorded)
 		for _, size := range file.BlockSizes {
 			pending.Weight += int(part.CountOfBlocks(file.Length(), size))

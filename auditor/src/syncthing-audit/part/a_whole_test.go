@@ -110,7 +110,7 @@ func allShortened(lines []Line) []Line {
 	short := append([]Line(nil), lines...)
 	for place := range short {
 		if name := short[place].Name; name != nil {
-			short[place].Name = shortened(name)
+			short[place].Name = new(shortener).shorten(name)
 		}
 	}
 	return short

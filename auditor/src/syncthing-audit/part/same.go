@@ -6,20 +6,25 @@ import (
 	"golang.org/x/exp/slices"
 )
 
-// shortened gives a name for writing. A view says only the sequence there, if the rest is the own record's.
-func shortened(name *Name) *Name {
+// shortener shortens names for writing, one at a time, each in the room of the one before.
+type shortener struct {
+	name  Name
+	views []Seen
+}
+
+// shorten gives a name of which a view says only the sequence there, if the rest is the own record's.
+func (s *shortener) shorten(name *Name) *Name {
 	if name.Own == nil || len(name.Views) == 0 {
 		return name
 	}
-	copied := *name
-	copied.Views = make([]Seen, len(name.Views))
-	for place, seen := range name.Views {
-		copied.Views[place] = seen
-		if isSame(name.Own, seen.Record) {
-			copied.Views[place] = Seen{View: seen.View, Same: seen.Sequence()}
+	s.name, s.views = *name, append(s.views[:0], name.Views...)
+	for place := range s.views {
+		if seen := &s.views[place]; isSame(name.Own, seen.Record) {
+			*seen = Seen{View: seen.View, Same: seen.Sequence()}
 		}
 	}
-	return &copied
+	s.name.Views = s.views
+	return &s.name
 }
 
 // isSame says whether two records are one but for their sequences.

@@ -17,7 +17,7 @@ func NewLinesWriter(to io.Writer, head *Head) (*LinesWriter, error) {
 // Take writes a line.
 func (w *LinesWriter) Take(line Line) error {
 	if line.Name != nil {
-		line.Name = shortened(line.Name)
+		line.Name = new(shortener).shorten(line.Name)
 	}
 	return outside.PrintJSON(w.to, line)
 }

@@ -16,13 +16,15 @@ import (
 
 // Writer writes a part, in encoding 2, compressed by gzip. It writes no frame that is longer than a reader takes.
 type Writer struct {
-	buffered *bufio.Writer
-	zipped   *gzip.Writer
-	text     *bufio.Writer // into the sum, and into what is zipped
-	sum      hash.Hash
-	frame    []byte
-	folders  uint64
-	names    uint64
+	buffered  *bufio.Writer
+	zipped    *gzip.Writer
+	text      *bufio.Writer // into the sum, and into what is zipped
+	sum       hash.Hash
+	shortener shortener
+	mark      []byte // of a frame
+	frame     []byte
+	folders   uint64
+	names     uint64
 }
 
 // NewWriter begins a part with its head.
@@ -74,7 +76,7 @@ func (w *Writer) Take(line Line) error {
 // takeName writes a name.
 func (w *Writer) takeName(name *Name) error {
 	w.names++
-	w.frame = appendName(w.frame[:0], shortened(name))
+	w.frame = appendName(w.frame[:0], w.shortener.shorten(name))
 	if length := len(w.frame); length > mostLineBytes {
 		w.frame = appendName(w.frame[:0], withoutRecords(name, length))
 	}
@@ -100,8 +102,8 @@ func (w *Writer) write(kind byte, text []byte) error {
 	if len(text) > mostLineBytes && kind != frameOfHead {
 		return fmt.Errorf("refused: a line of the part would have %d bytes, and a part has lines of at most %d", len(text), mostLineBytes)
 	}
-	mark := binary.AppendUvarint([]byte{kind}, uint64(len(text)))
-	if _, err := w.text.Write(mark); err != nil {
+	w.mark = binary.AppendUvarint(append(w.mark[:0], kind), uint64(len(text)))
+	if _, err := w.text.Write(w.mark); err != nil {
 		return err
 	}
 	_, err := w.text.Write(text)
