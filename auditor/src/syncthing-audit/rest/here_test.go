@@ -6,6 +6,8 @@ import (
 	"net/http/httptest"
 	"strings"
 	"testing"
+
+	"github.com/syncthing/syncthing/lib/config"
 )
 
 // The key goes to an address of this machine alone.
@@ -32,14 +34,20 @@ func TestTheKeyStaysHere(t *testing.T) {
 
 // A redirection isn't followed, so the key doesn't go with it.
 func TestNoRedirectionIsFollowed(t *testing.T) {
-	asked := 0
-	other := httptest.NewServer(http.HandlerFunc(func(http.ResponseWriter, *http.Request) { asked++ }))
-	defer other.Close()
-	from := httptest.NewServer(http.RedirectHandler(other.URL, http.StatusTemporaryRedirect))
-	defer from.Close()
-	client := &http.Client{CheckRedirect: stay}
-	answer, err := client.Get(from.URL)
-	if err != nil || answer.StatusCode != http.StatusTemporaryRedirect || asked != 0 {
-		t.Errorf("%v, %v, asked %d times", answer, err, asked)
+	for _, status := range []int{http.StatusMovedPermanently, http.StatusFound, http.StatusTemporaryRedirect, http.StatusPermanentRedirect} {
+		asked := []string{}
+		server := httptest.NewServer(http.HandlerFunc(func(to http.ResponseWriter, from *http.Request) {
+			asked = append(asked, from.URL.Path)
+			http.Redirect(to, from, "/elsewhere", status)
+		}))
+		defer server.Close()
+		of := Syncthing{Home: homeInUse(t), GUI: config.GUIConfiguration{APIKey: "key", RawAddress: server.Listener.Addr().String()}}
+		answer, err := of.ask(http.MethodGet, "system/ping", atOnce)
+		if err != nil || answer.StatusCode != status || len(asked) != 1 {
+			t.Errorf("%d: %v, %v, asked for %q", status, answer, err, asked)
+		}
+		if err == nil {
+			answer.Body.Close()
+		}
 	}
 }
