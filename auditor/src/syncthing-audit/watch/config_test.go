@@ -144,12 +144,15 @@ func TestFaultsAreNews(t *testing.T) {
 	}
 }
 
-// A value's labels are one word each for Prometheus, whatever a device is called. Folders of one id have one value.
+// A value's labels are one word each for Prometheus, whatever a device is called. Folders of one id have one value. Where several audits of a night read one
+// device, the times are no sums.
 func TestMetricsAreThoseOfPrometheus(t *testing.T) {
 	answer := &summary.Summary{Devices: []summary.Device{{ID: "A", Name: "a\"b\\c\nd\xff", Read: time.Unix(5, 0)}},
 		Folders: []*summary.Folder{{ID: "default", Names: 2, Wrong: 1}, {ID: "default", Names: 3}},
 		Since:   &history.Since{Read: []history.Read{{Folder: "default", Device: "A", Files: 1, Oldest: time.Unix(4, 0)}, {Folder: "none", Device: "A"}}}}
-	text := Measured{Status: 1, Ended: time.Unix(9, 0), Due: choice.Names{Slice: 3, Slices: 7}, Answers: []*summary.Summary{answer}}.Text()
+	other := &summary.Summary{Devices: []summary.Device{{ID: "A", Name: answer.Devices[0].Name, Read: time.Unix(3, 0)}},
+		Since: &history.Since{Read: []history.Read{{Folder: "default", Device: "A", Files: 1, Oldest: time.Unix(6, 0)}}}}
+	text := Measured{Status: 1, Ended: time.Unix(9, 0), Due: choice.Names{Slice: 3, Slices: 7}, Answers: []*summary.Summary{answer, other}}.Text()
 	for _, line := range []string{"syncthing_audit_status 1", "syncthing_audit_run_timestamp_seconds 9", `syncthing_audit_names{folder="default",slice="3/7"} 5`,
 		`syncthing_audit_names_wrong{folder="default",slice="3/7"} 1`, `syncthing_audit_slice{of="7"} 3`, `syncthing_audit_part_timestamp_seconds{device="A",name="a\"b\\c\nd?"} 5`,
 		`syncthing_audit_oldest_read_timestamp_seconds{folder="default",device="A",name="a\"b\\c\nd?"} 4`} {

@@ -2,6 +2,7 @@ package watch
 
 import (
 	"fmt"
+	"math"
 	"sort"
 	"strconv"
 	"strings"
@@ -27,6 +28,22 @@ type metric struct {
 
 // add adds to the value of these labels.
 func (m *metric) add(value float64, labels ...string) {
+	m.join(func(had float64) float64 { return had + value }, value, labels)
+}
+
+// newest and oldest take a time; of several of one thing that of their name is kept.
+func (m *metric) newest(at time.Time, labels ...string) {
+	value := float64(at.Unix())
+	m.join(func(had float64) float64 { return math.Max(had, value) }, value, labels)
+}
+
+func (m *metric) oldest(at time.Time, labels ...string) {
+	value := float64(at.Unix())
+	m.join(func(had float64) float64 { return math.Min(had, value) }, value, labels)
+}
+
+// join joins a value with the one that there is with these labels.
+func (m *metric) join(with func(had float64) float64, value float64, labels []string) {
 	words := []string{}
 	for at := 0; at < len(labels); at += 2 {
 		words = append(words, labels[at]+"="+label(labels[at+1]))
@@ -34,7 +51,11 @@ func (m *metric) add(value float64, labels ...string) {
 	if m.values == nil {
 		m.values = map[string]float64{}
 	}
-	m.values[strings.Join(words, ",")] += value
+	of := strings.Join(words, ",")
+	if had, is := m.values[of]; is {
+		value = with(had)
+	}
+	m.values[of] = value
 }
 
 // label gives a text as a label's value: Prometheus has these three escapes, and takes UTF-8 alone.
@@ -93,7 +114,7 @@ func (m Measured) Text() string {
 		called := map[string]string{}
 		for _, device := range answer.Devices {
 			called[device.ID] = device.Name
-			read.add(float64(device.Read.Unix()), "device", device.ID, "name", device.Name)
+			read.newest(device.Read, "device", device.ID, "name", device.Name)
 		}
 		if answer.Since == nil {
 			continue
@@ -104,7 +125,7 @@ func (m Measured) Text() string {
 		}
 		for _, read := range answer.Since.Read {
 			if read.Files > 0 {
-				oldest.add(float64(read.Oldest.Unix()), "folder", read.Folder, "device", read.Device, "name", called[read.Device])
+				oldest.oldest(read.Oldest, "folder", read.Folder, "device", read.Device, "name", called[read.Device])
 			}
 		}
 		for _, waiting := range answer.Since.Waiting {
