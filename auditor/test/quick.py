@@ -10,7 +10,7 @@ from pathlib import Path
 from urllib.parse import quote
 
 import syncthing
-from syncthing import FOLDER, Device, wait_until
+from syncthing import FOLDER, VERSIONS, Device
 
 syncthing.OPTIONS = {**syncthing.OPTIONS, "reconnectionIntervalS": "1", "progressUpdateIntervalS": "-1"}
 MARKER = ".sync-conflict-"
@@ -27,10 +27,11 @@ class Quick(Device):
         super().__init__(room, name)
         self.name = name
 
-    def set_up(self, devices, kind, **options):
+    def set_up(self, devices, kind, versioning="", **options):
         """Writes the configuration."""
         self.configure(devices, kind=kind)
         self.choose(pullerPauseS="2", **options)
+        self.keep_versions(versioning, keep="99")
 
     def scan_below(self, name):
         """Scans a name, and waits until that is done; the first scan of the folder is over then, too."""
@@ -129,7 +130,7 @@ def tree_of(root: Path):
     made = {}
     for path in sorted(root.rglob("*")):
         name = str(path.relative_to(root))
-        if not name.startswith(".stfolder") and not path.name.startswith(".syncthing."):
+        if not name.startswith((".stfolder", VERSIONS)) and not path.name.startswith(".syncthing."):
             made[name] = node_of(path)
     return made
 

@@ -15,6 +15,7 @@ import xml.etree.ElementTree as xml
 from pathlib import Path
 
 FOLDER = "docs"
+VERSIONS = ".stversions"  # where old versions are by themselves
 SECONDS_TO_WAIT = 300
 PORTS = list(range(12000, 32000))
 PORTS_OF_A_PROCESS = 16
@@ -136,6 +137,28 @@ class Device:
                 folder.remove(old)
             xml.SubElement(folder, name).text = value
         self.write(tree, path)
+
+    def keep_versions(self, kind, place="", **params):
+        """Writes into the configuration how old versions are kept: in Syncthing's words, and nothing for not at all."""
+        path = self.home / "config.xml"
+        tree = xml.parse(path)
+        versioning = tree.getroot().find("folder/versioning")
+        versioning.clear()
+        if kind:
+            versioning.set("type", kind)
+        for key, value in params.items():
+            xml.SubElement(versioning, "param", key=key, val=value)
+        for name, value in (("cleanupIntervalS", "3600"), ("fsPath", place), ("fsType", "basic")):
+            xml.SubElement(versioning, name).text = value
+        self.write(tree, path)
+
+    def old_versions(self, place=VERSIONS):
+        """The paths of the old versions in a directory, by the names of which they are: the first one of each."""
+        root, made = self.files / place, {}
+        for path in sorted(root.rglob("*")):
+            if path.is_file():
+                made.setdefault(re.sub(r"~[0-9]{8}-[0-9]{6}", "", str(path.relative_to(root))), path)
+        return made
 
     def start(self):
         """Starts the process and waits for its API."""

@@ -24,7 +24,7 @@ import syncthing
 from exporting import SOURCES, UNTIL, main
 from foretold import root_of
 from quick import MARKER, Quick, come_to_an_end, node_words, remove, rest, start, stop, tree_of
-from syncthing import FOLDER, programs, version_of
+from syncthing import FOLDER, VERSIONS, programs, version_of
 
 WORLDS = SOURCES / "src/syncthing-audit/worlds"
 SIDE_BY_SIDE = 4
@@ -124,9 +124,12 @@ class Replay:
     def end(self, order):
         """Has all devices come to an end."""
         devices = list(self.devices.values())
+        before = {name: words_of(device.files) for name, device in self.devices.items()}
+        for device in devices:
+            remove(device.files / VERSIONS)
         if not come_to_an_end(devices, order and [self.devices[name] for name in order]):
             raise AssertionError("they came to no rest")
-        return {name: words_of(device.files) for name, device in self.devices.items()}
+        return {name: {**words_of(device.files), **words_of_versions(device, before[name])} for name, device in self.devices.items()}
 
 
 def words_of(files):
@@ -142,6 +145,12 @@ def words_of(files):
         else:
             made[name] = words
     return made
+
+
+def words_of_versions(device, before):
+    """What a device has among its old versions of that which stood there before, in a world's words."""
+    words = {name: node_words(path) for name, path in device.old_versions().items()}
+    return {f"old versions of {name}": word for name, word in words.items() if before.get(name) == word}
 
 
 def spread(end):

@@ -19,7 +19,7 @@ func (s *state) revert(i int) {
 			if !p.at(i, n).isThere() {
 				continue
 			}
-			p.remove(i, n)
+			p.takeAway(n)
 			entry = s.deletedBy(entry, i, n)
 			entry.version = 0
 		case global.flag != LocalChange && s.isEquivalent(global, &entry, comparison{localChange: true, window: s.devices[i].TimeWindow}):

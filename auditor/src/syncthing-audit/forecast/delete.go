@@ -33,7 +33,7 @@ func (p *pull) deleteFile(n int) Why {
 		own.version = p.vectorNumber(merged(p.vectors[own.version], p.vectors[entry.version]))
 		return p.done(n, own)
 	}
-	p.remove(p.i, n)
+	p.takeAway(n)
 	return p.done(n, *entry)
 }
 

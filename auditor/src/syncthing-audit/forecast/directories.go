@@ -64,7 +64,7 @@ func (p *pull) clear(n int) Why {
 	case own.kind == Directory:
 		return p.removeDirectory(n)
 	default:
-		p.remove(p.i, n)
+		p.takeAway(n)
 	}
 	return NoReason
 }

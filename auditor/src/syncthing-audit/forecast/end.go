@@ -14,6 +14,8 @@ type End struct {
 	Disks [][]Place // of each device: what stands on its disk, by name, copies behind their name; of copies with the same bytes there is one
 	Stuck []Stuck
 	Apart []Stuck // names that a device needs nothing of, and keeps otherwise than others may have them
+
+	Versions []At `json:",omitempty"` // files that stood there at first, and went to the device's old versions on the way
 }
 
 // Contents gives the bytes that stand on some disk; those of what has none are one of them.
@@ -47,6 +49,8 @@ type numbered struct {
 	stuck []Stuck // with the places of names in place of devices' names
 	names []int
 	apart []noted
+
+	versions []noted
 }
 
 type placed struct {
@@ -57,7 +61,7 @@ type placed struct {
 
 // numberedEnd gives the end that a state is.
 func (s *state) numberedEnd(count int) numbered {
-	end := numbered{disks: make([][]placed, len(s.devices)), apart: s.apart(count)}
+	end := numbered{disks: make([][]placed, len(s.devices)), apart: s.apart(count), versions: s.keptVersions(count)}
 	for i := range s.devices {
 		for n := range s.names {
 			if what := s.at(i, n); what.isThere() {
@@ -150,8 +154,12 @@ func (n *numbered) key() string {
 	for at, stuck := range n.stuck {
 		note(stuck.Device, n.names[at], stuck.Why)
 	}
+	put(int64(len(n.apart)))
 	for _, apart := range n.apart {
 		note(apart.device, apart.n, apart.why)
+	}
+	for _, kept := range n.versions {
+		note(kept.device, kept.n, kept.why)
 	}
 	return string(text)
 }
@@ -170,6 +178,9 @@ func (l *loader) end(from *numbered, names []Name) End {
 	}
 	for _, noted := range from.apart {
 		end.Apart = append(end.Apart, Stuck{Device: noted.device, Name: names[noted.n].Name, Why: noted.why})
+	}
+	for _, noted := range from.versions {
+		end.Versions = append(end.Versions, At{Device: noted.device, Name: names[noted.n].Name})
 	}
 	return end
 }

@@ -207,7 +207,7 @@ func (p *pull) rename(from, n int) bool {
 		return false
 	}
 	moved := *p.at(p.i, from)
-	p.remove(p.i, from)
+	p.takeAway(from)
 	p.setTemp(p.i, n, moved.content)
 	entry := p.wanted(n)
 	if p.putInPlace(n, node{kind: File, time: entry.time, content: moved.content, mode: p.modeOf(entry, moved.mode)}) != NoReason {

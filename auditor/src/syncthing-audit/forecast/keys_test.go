@@ -20,6 +20,8 @@ func TestKeysOfEnds(t *testing.T) {
 		"two kept":               {disks: [][]placed{{file}, nil}, apart: append(noted(0, 1, NotSeen), noted(1, 1, NotSeen)...)},
 		"stuck":                  {disks: [][]placed{{file}, nil}, stuck: []Stuck{{Device: 0, Why: NotSeen}}, names: []int{1}},
 		"another one stuck":      {disks: [][]placed{{file}, nil}, stuck: []Stuck{{Device: 0, Why: NotSeen}}, names: []int{2}},
+		"among old versions":     {disks: [][]placed{{file}, nil}, versions: noted(0, 1, NoReason)},
+		"kept and old versions":  {disks: [][]placed{{file}, nil}, apart: noted(0, 1, NoReason)},
 		"stuck and kept":         {disks: [][]placed{{file}, nil}, stuck: []Stuck{{Device: 0, Why: NotSeen}}, names: []int{1}, apart: noted(1, 1, NotSeen)},
 	}
 	for why, disks := range map[string][][]placed{

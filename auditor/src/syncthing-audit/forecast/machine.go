@@ -21,6 +21,7 @@ type machine struct {
 	sizes         []int64 // of each content
 	nameCells     int
 	drawn         map[int]bool // names for which something was drawn
+	first         map[int]node // what stood on the disks at first, by their cells
 }
 
 // name is a name by its place. Names rise by their bytes; conflict copies that the model makes stand behind all others.
@@ -62,10 +63,13 @@ type node struct {
 
 func newMachine(devices []Device) *machine {
 	m := &machine{devices: devices, copies: map[copyKey]int{}, vectorNumbers: map[string]int32{}, orders: map[[2]int32]int{},
-		recordNumbers: map[record]int32{}, nodeNumbers: map[node]int32{}, listNumbers: map[string]int32{}, drawn: map[int]bool{}}
+		recordNumbers: map[record]int32{}, nodeNumbers: map[node]int32{}, listNumbers: map[string]int32{}, drawn: map[int]bool{}, first: map[int]node{}}
 	m.vectors, m.records, m.nodes, m.lists, m.sizes = make([][]Counter, 1), make([]record, 1), make([]node, 1), make([]list, 1), make([]int64, 1)
 	m.vectorNumbers[""] = 0
 	m.nameCells = len(devices) * (4 + len(devices))
+	if hasPast(devices) {
+		m.nameCells += len(devices)
+	}
 	return m
 }
 

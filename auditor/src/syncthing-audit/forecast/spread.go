@@ -10,10 +10,14 @@ import (
 type spreading struct {
 	disks        []map[string][]Place
 	stuck, apart map[string][]Stuck
+	versions     map[string][]At
 }
 
 func newSpreading(end *End) *spreading {
-	s := &spreading{stuck: byName(end.Stuck), apart: byName(end.Apart)}
+	s := &spreading{stuck: byName(end.Stuck), apart: byName(end.Apart), versions: map[string][]At{}}
+	for _, at := range end.Versions {
+		s.versions[at.Name] = append(s.versions[at.Name], at)
+	}
 	for _, disk := range end.Disks {
 		standing := map[string][]Place{}
 		for _, place := range disk {
@@ -41,6 +45,9 @@ func (s *spreading) add(alike *likeness) {
 				disk[to] = append(disk[to], Place{to, place.IsCopy, alike.from.as(alike.to, place.Node)})
 			}
 		}
+		for _, at := range s.versions[from] {
+			s.versions[to] = append(s.versions[to], At{at.Device, to})
+		}
 		rename := func(stuck Stuck) Stuck { return Stuck{stuck.Device, to, stuck.Why} }
 		for _, of := range []map[string][]Stuck{s.stuck, s.apart} {
 			if found := of[from]; len(found) > 0 {
@@ -60,7 +67,9 @@ func (s *spreading) end(names []string) End {
 	}
 	for _, name := range names {
 		end.Stuck, end.Apart = append(end.Stuck, s.stuck[name]...), append(end.Apart, s.apart[name]...)
+		end.Versions = append(end.Versions, s.versions[name]...)
 	}
+	sort.SliceStable(end.Versions, func(a, b int) bool { return end.Versions[a].Device < end.Versions[b].Device })
 	for _, all := range [][]Stuck{end.Stuck, end.Apart} {
 		sort.SliceStable(all, func(a, b int) bool { return all[a].Device < all[b].Device })
 	}

@@ -20,6 +20,7 @@ func (l *loader) start(names []Name) *state {
 			}
 		}
 	}
+	s.keepFirst()
 	return s
 }
 
@@ -62,7 +63,7 @@ func (l *loader) shape(s *state) string {
 	put(int64(len(l.devices)), int64(len(l.names)), int64(len(l.sizes)), int64(len(l.vectors)), int64(len(l.records)), int64(len(l.nodes)))
 	for _, device := range l.devices {
 		put(int64(device.Kind), int64(device.Release), int64(device.Number), truth(device.IgnorePermissions), truth(device.IgnoreDelete))
-		put(int64(device.MaxConflicts), device.TimeWindow, int64(device.Apart))
+		put(int64(device.MaxConflicts), device.TimeWindow, int64(device.Apart), truth(device.Versions == VersionsKept))
 	}
 	for _, name := range l.names {
 		put(int64(name.parent), truth(name.isCopy), int64(name.root), int64(name.holds))

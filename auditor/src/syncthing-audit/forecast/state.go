@@ -67,12 +67,14 @@ func (s *state) set(cell int, number int32) {
 	s.cells[cell] = number
 }
 
-// The cells of a name: for each device its own record, its node, its version list, its temporary file; then the views.
+// The cells of a name: for each device its own record, its node, its version list, its temporary file; then the views, and what no disk shows.
 func (s *state) ownCell(i, n int) int     { return n*s.nameCells + i }
 func (s *state) diskCell(i, n int) int    { return n*s.nameCells + len(s.devices) + i }
 func (s *state) listCell(i, n int) int    { return n*s.nameCells + 2*len(s.devices) + i }
 func (s *state) tempCell(i, n int) int    { return n*s.nameCells + 3*len(s.devices) + i }
 func (s *state) viewCell(i, j, n int) int { return n*s.nameCells + (4+i)*len(s.devices) + j }
+
+func (s *state) pastCell(i, n int) int { return n*s.nameCells + (4+len(s.devices))*len(s.devices) + i }
 
 func (s *state) own(i, n int) *record { return &s.records[s.get(s.ownCell(i, n))] }
 func (s *state) isOn(i int) bool      { return s.on&(1<<i) != 0 }

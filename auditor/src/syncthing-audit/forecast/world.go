@@ -72,12 +72,13 @@ type Device struct {
 	ID                string
 	Kind              Kind
 	Release           Release
-	Number            uint64 // the first 8 bytes of its id
-	IgnorePermissions bool   // Syncthing's 'ignorePerms'
-	IgnoreDelete      bool   // Syncthing's 'ignoreDelete'
-	MaxConflicts      int    // Syncthing's 'maxConflicts': below 0 all copies are kept
-	TimeWindow        int64  // in nanoseconds: times that differ by less are one
-	Apart             Places // devices with which it exchanges nothing
+	Number            uint64   // the first 8 bytes of its id
+	IgnorePermissions bool     // Syncthing's 'ignorePerms'
+	IgnoreDelete      bool     // Syncthing's 'ignoreDelete'
+	MaxConflicts      int      // Syncthing's 'maxConflicts': below 0 all copies are kept
+	TimeWindow        int64    // in nanoseconds: times that differ by less are one
+	Apart             Places   // devices with which it exchanges nothing
+	Versions          Versions `json:",omitempty"`
 }
 
 // Places is a set of devices by their places in a world.

@@ -18,9 +18,13 @@ const (
 
 // goesBy gives what stands at a name on some disk now and on none at some end, and goes in one of these ways.
 func (j *judge) goesBy(name *forecast.Name, ways ...way) []Thing {
-	return lists.Where(thingsNow(j.group.Devices, name), func(thing Thing) bool {
+	goes := lists.Where(thingsNow(j.group.Devices, name), func(thing Thing) bool {
 		return !j.survives(name.Name, thing) && slices.Contains(ways, j.wayOf(name, thing))
 	})
+	for place := range goes {
+		goes[place].Versions = j.versionsOf(name.Name, goes[place])
+	}
+	return goes
 }
 
 // isEmptyEnd says whether nothing stands at a name but copies.
@@ -31,21 +35,29 @@ func isEmptyEnd(end []Thing) bool {
 // survives says whether something stands on some disk at each end, even where conflict copies meet: a file's bytes under any name that hangs together
 // with this one, anything else under its name or in a copy.
 func (j *judge) survives(name string, thing Thing) bool {
-	return j.staysIn(j.sure, name, thing, func(things []Thing, at int) bool { return !mayGoByMeeting(things, at) })
+	return j.staysIn(j.sure, name, thing, isSure)
 }
+
+// isSure says whether a thing stays where copies meet.
+func isSure(things []Thing, at int) bool { return !mayGoByMeeting(things, at) }
 
 // staysIn says the same of such bytes, and of such things at a name.
 func (j *judge) staysIn(bytes []map[forecast.Content]bool, name string, thing Thing, counts func(things []Thing, at int) bool) bool {
-	for place, end := range j.ends {
-		is := thing.Content.Size > 0 && bytes[place][thing.Content]
-		for at, other := range end[name] {
-			is = is || thing.IsLike(other) && counts(end[name], at)
-		}
-		if !is {
+	for place := range j.ends {
+		if !j.staysAt(place, bytes, name, thing, counts) {
 			return false
 		}
 	}
 	return true
+}
+
+// staysAt says so of one end.
+func (j *judge) staysAt(place int, bytes []map[forecast.Content]bool, name string, thing Thing, counts func(things []Thing, at int) bool) bool {
+	is, end := thing.Content.Size > 0 && bytes[place][thing.Content], j.ends[place]
+	for at, other := range end[name] {
+		is = is || thing.IsLike(other) && counts(end[name], at)
+	}
+	return is
 }
 
 // wayOf says what came after something that stands at a name. What no device has recorded nothing can have replaced, and a recorded change whose bytes

@@ -18,6 +18,7 @@ type Thing struct {
 	Target           part.Bytes    `json:"target,omitempty"`
 	Modified         *time.Time    `json:"modified,omitempty"` // of a file; none of what is made later
 	IsCopy           bool          `json:"copy,omitempty"`
+	Versions         []Versions    `json:"old_versions,omitempty"` // of what is lost or goes: of each device
 }
 
 // thingsOf gives what stands at each name at an end. The same thing on several devices stands once.

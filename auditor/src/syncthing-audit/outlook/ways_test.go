@@ -236,6 +236,7 @@ func TestWhatGoesByAChoice(t *testing.T) {
 		for _, thing := range thingsNow(anyDevices, name) {
 			thing := thing
 			if thing.Type != forecast.Directory && one.survives("a", thing) && !other.survives("a", thing) && other.wayOf(name, thing) != byNothing {
+				thing.Versions = other.versionsOf("a", thing)
 				due = append(due, thing)
 			}
 		}

@@ -64,8 +64,13 @@ func (p *Person) losses(all []outlook.Loss, count int64, of string) {
 		return
 	}
 	p.Line("    %s %s: copy %s elsewhere before Syncthing starts, if it is to stay", Counted(count, "name loses", "names lose"), of, oneOf(count, "it", "that"))
+	told := []outlook.Thing{}
 	for _, loss := range lists.AtMost(outlook.MostNamed, all) {
-		p.Line("      %s: %s", shell.Path(string(loss.Name)), Joined(loss.Loses, "; ", p.where))
+		p.Line("      %s: %s", shell.Path(string(loss.Name)), Joined(loss.Loses, "; ", func(thing outlook.Thing) string {
+			return withVersions(p.where(thing), ", and ", p.Called.versions(thing))
+		}))
+		told = append(told, loss.Loses...)
 	}
 	p.more("      ", count-outlook.MostNamed)
+	p.noBackup("      ", told)
 }

@@ -62,10 +62,18 @@ func (f *fate) end(end []outlook.Thing) string {
 	}
 	for _, thing := range f.Now {
 		if slices.IndexFunc(end, thing.IsLike) < 0 && thing.Type != forecast.Directory {
-			words = append(words, f.now(thing)+" goes")
+			words = append(words, withVersions(f.now(thing)+" goes", ", and ", f.versionsOf(thing)))
 		}
 	}
 	return strings.Join(words, "; ")
+}
+
+// versionsOf says which devices' old versions then have something that is lost; nothing of what isn't lost.
+func (f *fate) versionsOf(thing outlook.Thing) string {
+	if place := slices.IndexFunc(f.Loses, thing.IsLike); place >= 0 {
+		return f.called.versions(f.Loses[place])
+	}
+	return ""
 }
 
 // holders says which devices have something then.

@@ -64,11 +64,14 @@ func (p *Person) count(count int64, one, many, what string) bool {
 // lost tells of names that lose something, the first ones by name.
 func (p *Person) lost(o *outlook.Outlook) {
 	p.count(o.Lost, "name loses", "names lose", "something that a disk has now:")
+	told := []outlook.Thing{}
 	p.named(o, outlook.Lost, o.Lost, func(name *outlook.Name) {
 		for _, thing := range name.Loses {
-			p.Line("    %s: %s; then no device's folder has it%s", shell.Path(string(name.Name)), p.where(thing), inSome(len(name.Ends) > 1))
+			p.Line("    %s: %s", shell.Path(string(name.Name)), withVersions(p.where(thing)+"; then no device's folder has it"+inSome(len(name.Ends) > 1), "; ", p.Called.versions(thing)))
 		}
+		told = append(told, name.Loses...)
 	})
+	p.noBackup("    ", told)
 }
 
 // inSome says whether something is so in some orders alone.

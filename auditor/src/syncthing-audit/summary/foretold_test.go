@@ -54,7 +54,7 @@ func shareAll(answer *finding.Answer) {
 			member.Head.Device = id
 		}
 		for _, member := range folder.Members {
-			member.Head.Runs, member.About.Options, member.About.Sharing = "v1.29.5", &part.Options{MaxConflicts: 10}, nil
+			member.Head.Runs, member.About.Options, member.About.Sharing = "v1.29.5", &part.Options{MaxConflicts: 10, Versions: &part.Versions{Kind: part.VersionsNone}}, nil
 			for _, other := range folder.Members {
 				if other.Head != member.Head {
 					member.About.Sharing = append(member.About.Sharing, part.Sharing{Device: other.Head.Device})
@@ -78,11 +78,11 @@ var foretoldSo = []struct {
 	hasnt   string
 }{
 	{"missing", []*part.Name{file(1, 1), with(file(1, 1), absent)}, []string{"StoreDiffers 2"}, "send-receive",
-		[]string{"if nothing is done: no device has it then; what laptop has now goes.", "then all devices have what laptop has now", "to do: take the steps for it above, under 'to do in'. not"}, "isn't known"},
+		[]string{"if nothing is done: no device has it then; what laptop has now goes, and laptop keeps no old versions.", "then all devices have what laptop has now", "to do: take the steps for it above, under 'to do in'. not"}, "isn't known"},
 	{"missing everywhere", []*part.Name{with(file(1, 1), absent), with(file(1, 1), absent)}, []string{"StoreDiffers 1", "StoreDiffers 2"}, "send-receive",
 		[]string{"1 name takes a change that no scan has seen yet", "if nothing is done: no device has it then.", "to do: look among old versions and backups: no audited device has what is recorded. not"}, "let Syncthing run"},
 	{"rot", []*part.Name{file(1, 1), with(file(1, 1), rotten)}, []string{"StoreDiffers 2"}, "send-receive",
-		[]string{"if nothing is done: laptop keeps what it has; server keeps what it has (server: it has other bytes than recorded", "to do: the steps for it above"}, "to have again"},
+		[]string{"if nothing is done: laptop keeps what it has; server keeps what it has (server: it has other bytes than recorded", "to do: take the steps for it above"}, "to have again"},
 	{"changed", []*part.Name{file(1, 1), changedTo(7)}, []string{"StoreDiffers 2"}, "send-receive",
 		[]string{"if nothing is done: all devices then have what server has now; what laptop has now goes.", "to do: nothing, if the change is wanted.",
 			"to have again what server recorded, copy elsewhere what stands there, if it may be right, and copy it from laptop to server with its time alone"}, "isn't known"},

@@ -80,7 +80,7 @@ func TestWhatAnEntryPointsToStandsAbove(t *testing.T) {
 		text := printedOf(answer)
 		for _, part := range []string{"to do in", "to choose in"} {
 			isThere := strings.Contains(text, " "+part+" docs")
-			if at := strings.Index(text, "behind '"+part+"'"); at >= 0 {
+			if at := strings.Index(text, "'"+part+"'"); at >= 0 {
 				if found[part]++; !isThere || strings.LastIndex(text, " "+part+" docs") > at {
 					t.Fatalf("seed %d: '%s' isn't above what points to it:\n%s", seed, part, text)
 				}

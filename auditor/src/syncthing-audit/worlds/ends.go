@@ -52,6 +52,9 @@ func (w *World) Foretold(release forecast.Release) ([]End, bool, error) {
 		for place, name := range names {
 			foretold[name] = namesOf(end.Disks[place])
 		}
+		for _, at := range end.Versions {
+			foretold[names[at.Device]]["old versions of "+at.Name] = wordsOf(world.At(at.Device, at.Name))
+		}
 		ends = append(ends, foretold)
 	}
 	return ends, answer.IsAll, nil

@@ -58,6 +58,8 @@ func (w *World) device(name string, number uint64, release forecast.Release) (fo
 				return device, err
 			}
 			device.MaxConflicts = most
+		case "versioning":
+			device.Versions = forecast.VersionsKept
 		case "ignorePerms":
 			device.IgnorePermissions = value == "true"
 		case "ignoreDelete":

@@ -21,7 +21,8 @@
 //
 //	{"alpha": {"a": "file TEXT", "d": "directory", "l": "symlink TARGET", "copies of a": ["file TEXT"]}, "beta": ..}
 //
-// Devices with the same have one entry: "alpha, beta".
+// Devices with the same have one entry: "alpha, beta". With the option "versioning" a device keeps old versions. Of these an end has what stood there before the
+// last step: {"old versions of a": "file TEXT"}.
 package worlds
 
 import (

@@ -60,9 +60,21 @@ func (r *reader) device(head *part.Head) (forecast.Device, error) {
 	device := forecast.Device{ID: head.Device, Kind: kind, Release: forecast.ReleaseOf(head.Runs), Number: head.Number(), IgnorePermissions: folder.IgnoresPermissions,
 		MaxConflicts: usualMaxConflicts, TimeWindow: folder.TimeWindow * 1e9}
 	if folder.Options != nil {
-		device.MaxConflicts, device.IgnoreDelete = folder.Options.MaxConflicts, folder.Options.IgnoresDeletions
+		device.MaxConflicts, device.IgnoreDelete, device.Versions = folder.Options.MaxConflicts, folder.Options.IgnoresDeletions, versionsOf(folder.Options.Versions)
 	}
 	return device, nil
+}
+
+func versionsOf(told *part.Versions) forecast.Versions {
+	switch {
+	case told == nil:
+		return forecast.VersionsUntold
+	case told.AreKept():
+		return forecast.VersionsKept
+	case told.Kind == part.VersionsExternal:
+		return forecast.VersionsExternal
+	}
+	return forecast.VersionsNone
 }
 
 // take takes the names of one part.
