@@ -129,7 +129,7 @@ func (f *File) withoutCopy(named print.Names) []string {
 	if f.elsewhere != nil && !f.isMany {
 		return []string{f.elsewhere.advice(f, named)}
 	}
-	told := "look among old versions and backups: no audited device has what is recorded"
+	told := "look among " + f.versions + " and backups: no audited device has what is recorded"
 	if len(on) > 0 {
 		told += ". Some of its blocks are on " + named.All(on)
 	}

@@ -27,8 +27,8 @@ func (s *Summary) WordsOfEmptied(emptied history.Emptied, zone *time.Location) [
 	if s.Since.Directory != "" {
 		find = "syncthing-audit find --history " + shell.Path(s.Since.Directory) + " --folder " + shell.Path(emptied.Folder) + " NAME BACKUP"
 	}
-	return append(lines, "if nobody wanted that: stop Syncthing on all devices of the folder, before it cleans old versions and before a device that is off deletes them, too. Then look into "+
-		".stversions on each device, and into backups and snapshots, and copy elsewhere what is there ("+find+" says where the bytes stand). If it was wanted, there is nothing to do: it is told until "+
+	return append(lines, "if nobody wanted that: stop Syncthing on all devices of the folder, before it cleans old versions and before a device that is off deletes them, too. Then look on each device among "+
+		versions(s.Called(), folder)+", and into backups and snapshots, and copy elsewhere what is there ("+find+" says where the bytes stand). If it was wanted, there is nothing to do: it is told until "+
 		dayOf(emptied.Found.AddDate(0, 0, history.DaysOfEmptied), zone))
 }
 

@@ -31,6 +31,7 @@ type File struct {
 	elsewhere       *elsewhere
 	foretold        foretold
 	off             []part.Sharing // devices that share the folder and aren't audited in it
+	versions        string         // what old versions are called, with their places
 	isOfSum         bool           // whether 'sum' tells it
 	isOfAnotherTime bool           // whether those that have what is due have it with another time
 	isOdd           bool           // whether the name isn't in Unicode's form NFC

@@ -48,12 +48,12 @@ func (p *printer) history(s *Summary) {
 	if since == nil {
 		return
 	}
-	p.changed(since, since.Count, since.Changed, "on all devices that have it, under one time and size. No comparison of devices shows that", func(find, day, _ string) string {
-		return ". If nobody changed it, look for its bytes in DIR, a backup or old versions of before " + day + ": " + find
+	p.changed(s, since.Count, since.Changed, "on all devices that have it, under one time and size. No comparison of devices shows that", func(find, day, _, older string) string {
+		return ". If nobody changed it, look for its bytes in DIR, a backup or " + older + " of before " + day + ": " + find
 	})
 	// Whatever takes them from where they are recorded so loses the bytes before.
-	p.changed(since, since.Takes, since.Taken, "where it is recorded so, under one time and size, and devices that lack it take it. The answer below takes it for an edit", func(find, _, devices string) string {
-		return ", and are recorded there. If nobody changed it, first copy it elsewhere from a device that has the bytes before, or from a backup in DIR (" + find +
+	p.changed(s, since.Takes, since.Taken, "where it is recorded so, under one time and size, and devices that lack it take it. The answer below takes it for an edit", func(find, _, devices, older string) string {
+		return ", and are recorded there. If nobody changed it, first copy it elsewhere from a device that has the bytes before, or from a backup or " + older + " in DIR (" + find +
 			"), and take no step below that sends it from " + devices
 	})
 	p.unread(since)
@@ -85,16 +85,16 @@ func (p *printer) unread(since *history.Since) {
 }
 
 // changed tells of files whose bytes changed under one time, and what to do if nobody changed them.
-func (p *printer) changed(by *history.Since, count int64, all []history.Changed, on string, toDo func(find, since, devices string) string) {
+func (p *printer) changed(s *Summary, count int64, all []history.Changed, on string, toDo func(find, since, devices, older string) string) {
 	if count == 0 {
 		return
 	}
 	p.Line("%s %s", counted(count, "file has other bytes than before", "files have other bytes than before, each"), on)
 	listed(p, mostNews, count, all, "--json has "+thousands(int64(len(all)))+" of them", func(file history.Changed) string {
 		devices, name := p.Called.All(file.Devices), shell.Path(string(file.Name))
-		find := "syncthing-audit find --history " + shell.Path(by.Directory) + " --folder " + shell.Path(file.Folder) + " " + name + " DIR"
+		find := "syncthing-audit find --history " + shell.Path(s.Since.Directory) + " --folder " + shell.Path(file.Folder) + " " + name + " DIR"
 		return fmt.Sprintf("%s in %s: its bytes changed between %s and %s on %s%s. A program that puts a file's time back after it wrote looks the same", shell.Quoted(string(file.Name)),
-			file.Folder, p.day(file.Before), p.day(file.Since), devices, toDo(find, p.day(file.Since), devices))
+			file.Folder, p.day(file.Before), p.day(file.Since), devices, toDo(find, p.day(file.Since), devices, versions(p.Called, s.folder(file.Folder))))
 	})
 }
 

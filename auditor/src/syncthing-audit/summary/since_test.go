@@ -40,7 +40,7 @@ func TestWhatChangedAndIsRecordedIsTold(t *testing.T) {
 		{history.Since{}, 1, "history: this is the first audit that it has\n"},
 		{history.Since{Taken: taken[:1], Takes: 1, Directory: "/srv/a history"}, 3, "1 file has other bytes than before where it is recorded so, under one time and size, and devices that lack it take it. The answer below takes it for an edit\n" +
 			"  'a b' in docs: its bytes changed between 2026-01-01 03:00 and 2026-01-02 03:00 on laptop, and are recorded there. If nobody changed it, first copy it elsewhere from a device that has the bytes before, " +
-			"or from a backup in DIR (syncthing-audit find --history '/srv/a history' --folder docs 'a b' DIR), and take no step below that sends it from laptop. "},
+			"or from a backup or old versions in DIR (syncthing-audit find --history '/srv/a history' --folder docs 'a b' DIR), and take no step below that sends it from laptop. "},
 		{history.Since{Taken: taken, Takes: 9}, mostNews + 3, "9 files have other bytes than before, each where it is recorded so, "},
 	} {
 		var told strings.Builder

@@ -135,6 +135,8 @@ type Member struct {
 	Rest          string   `json:"syncthing_is,omitempty"`   // of two looks: how Syncthing was seen between them
 	Temporary     *Count   `json:"temporary,omitempty"`      // names that Syncthing takes for its temporary files, where there are any
 
+	Versions *part.Versions `json:"old_versions,omitempty"` // how they are kept, where the part says it
+
 	Wanted   *Wanted   `json:"syncthing_needs,omitempty"` // by its own words, where an observer asked it
 	OverWire *OverWire `json:"over_the_wire,omitempty"`   // what isn't seen of a device that was asked over the wire
 }
@@ -144,6 +146,9 @@ func memberOf(member join.Member) Member {
 	if member.About != nil {
 		told.Path, told.Indexed, told.Paused, told.PausedDevices = member.About.Path, member.About.Indexed, member.About.Paused, member.About.PausedDevices
 		told.Writers, told.Window, told.Near = member.About.Writers, member.About.TimeWindow, member.Near
+		if member.About.Options != nil {
+			told.Versions = member.About.Options.Versions
+		}
 		if member.About.Rest != nil {
 			told.Rest = member.About.Rest.State
 			if wanted := member.About.Rest.Wanted; wanted != nil {
@@ -250,10 +255,10 @@ func folderOf(answer *finding.Answer, from *finding.Folder, all *folding) *Folde
 	if from.Outlook != nil {
 		*folder.Outlook = *from.Outlook
 	}
-	foretell := foreteller(folder, all.named)
+	foretell, older := foreteller(folder, all.named), versions(all.named, folder)
 	from.EachName(func(told *finding.Told) {
 		file := fileOf(from, told)
-		file.isOfSum, file.foretold = answer.IsSum, foretell(told.Name)
+		file.isOfSum, file.foretold, file.versions = answer.IsSum, foretell(told.Name), older
 		all.take(file)
 		if len(file.withoutSteps()) > 0 {
 			folder.Outlook.AddWithoutSteps(told.Name)

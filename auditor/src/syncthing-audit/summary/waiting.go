@@ -55,12 +55,12 @@ func countsOfWaiting(names map[string]int64) string {
 }
 
 // sources says from which devices what is recorded can be copied.
-func (w *waiting) sources(named print.Names, off string) string {
+func (w *waiting) sources(named print.Names, older, off string) string {
 	ids := maps.Keys(w.From)
 	sort.Strings(ids)
 	words := lists.Each(named.Rising(ids), func(id string) string { return thousands(w.From[id]) + " on " + named(id) })
 	if w.Nowhere > 0 {
-		words = append(words, thousands(w.Nowhere)+" on no audited device (look among old versions and backups"+off+")")
+		words = append(words, thousands(w.Nowhere)+" on no audited device (look among "+older+" and backups"+off+")")
 	}
 	if len(words) == 0 {
 		return ""
@@ -77,7 +77,7 @@ func (s *Summary) firstWaiting(device string, named print.Names) []First {
 	return []First{{Why: isUnscanned, Devices: []string{device}, Names: waits.Sent(), Text: "first, on " + named(device) + ": before Syncthing starts or scans there, also for an entry below, " +
 		"see which names no scan has seen yet ('in motion in " + strings.Join(waits.folders, "', 'in motion in ") + "' below): " + countsOfWaiting(waits.Names) +
 		". A scan may delete on all devices what is missing there, and send to all what stands there. As Syncthing starts, it scans all folders. So copy back first " +
-		"what is to stay as it is recorded, while Syncthing is stopped there." + waits.keep() + waits.sources(named, s.areOff(waits.folders))}}
+		"what is to stay as it is recorded, while Syncthing is stopped there." + waits.keep() + waits.sources(named, versions(named, s.foldersOf(waits.folders)...), s.areOff(waits.folders))}}
 }
 
 // keep says of what is to be kept where the record may be the damage: nobody is to copy the recorded bytes over others that were put back.
