@@ -4,6 +4,7 @@ package summary
 
 import (
 	"io"
+	"strings"
 	"time"
 
 	"syncthing-audit/choice"
@@ -216,17 +217,27 @@ func Of(answer *finding.Answer) *Summary {
 // shortOf gives as much of an id as tells devices of one name apart.
 func shortOf(id string) string { return string(lists.AtMost(7, []byte(id))) }
 
-// Called gives each device's name for a person: the configured one, with the id's beginning where two have the same.
+// alikeOf gives what a person takes for the same name.
+func alikeOf(name string) string { return strings.ToLower(strings.Join(strings.Fields(name), " ")) }
+
+// isList says whether a name may be read as several, or as one with an id.
+func isList(name string) bool {
+	return strings.ContainsAny(name, ",;:()") || strings.Contains(name, " and ")
+}
+
+// Called gives each device's name for a person: the configured one, with the id's beginning where it may be taken for another one's. Each device chooses its
+// own name.
 func (s *Summary) Called() print.Names {
 	count, named := map[string]int{}, map[string]string{}
 	for _, device := range s.Devices {
-		count[device.Name]++
+		count[alikeOf(shortOf(device.ID))]++
+		count[alikeOf(device.Name)]++
 	}
 	for _, device := range s.Devices {
 		named[device.ID] = shell.Printable(device.Name)
 		if device.Name == "" {
 			named[device.ID] = shortOf(device.ID)
-		} else if count[device.Name] > 1 {
+		} else if count[alikeOf(device.Name)] > 1 || isList(device.Name) {
 			named[device.ID] += " (" + shortOf(device.ID) + ")"
 		}
 	}
