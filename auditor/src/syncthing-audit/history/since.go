@@ -141,16 +141,30 @@ func (h *History) Since(audit Audited) (*Since, error) {
 	return since, h.addRead(since, audit)
 }
 
-// split tells faults that are mended from those of which nothing is there any more: what a device had isn't there again.
+// split tells faults that are mended from those of which nothing is there any more: what a device had isn't there again. One whose bytes went to all devices, or
+// are recorded, is neither: that is told as a fault of its own.
 func (a *Audited) split(faults []Fault) (mended, deleted []Fault) {
+	spread := a.spread()
 	for _, fault := range faults {
-		if a.IsThere == nil || a.IsThere(fault.Folder, fault.Name, fault.Device) {
-			mended = append(mended, fault)
-		} else {
+		switch {
+		case a.IsThere != nil && !a.IsThere(fault.Folder, fault.Name, fault.Device):
 			deleted = append(deleted, fault)
+		case !spread[[2]string{fault.Folder, fault.Name}]:
+			mended = append(mended, fault)
 		}
 	}
 	return mended, deleted
+}
+
+// spread gives the names whose bytes changed under one time on all devices, or where they are recorded.
+func (a *Audited) spread() map[[2]string]bool {
+	spread := map[[2]string]bool{}
+	for _, fault := range a.Found {
+		if fault.Cause == ChangedEverywhere || fault.Cause == ChangedAndRecorded {
+			spread[[2]string{fault.Folder, fault.Name}] = true
+		}
+	}
+	return spread
 }
 
 // known gives all devices of a folder that was audited, each once.

@@ -165,3 +165,23 @@ func (c *choosing) Choose(isChosen func(string) bool) {
 }
 
 var _ part.Stream = &Tee{}
+
+// What isn't at fault any more since its bytes came to all devices isn't mended: that is told in its place. Once the bytes are back it is.
+func TestWhatSpreadIsNotMended(t *testing.T) {
+	good, rotten := device{"a": {bytes: 'a'}, "b": {bytes: 'b'}}, device{"a": {bytes: 'x'}, "b": {bytes: 'b'}}
+	history := opened(t)
+	for day, one := range []struct {
+		devices []device
+		faults  string
+		counts  [5]int64
+	}{
+		{[]device{good, good}, "", [5]int64{0, 0, 0, 0, 0}},
+		{[]device{good, rotten}, "a", [5]int64{1, 0, 0, 0, 0}},
+		{[]device{rotten, rotten}, "", [5]int64{1, 0, 0, 0, 1}},
+		{[]device{good, good}, "", [5]int64{0, 0, 1, 0, 0}},
+	} {
+		if since := history.audit(t, day, one.devices, choice.Names{}, one.faults); since.counts() != one.counts {
+			t.Errorf("day %d: %v, not %v: %+v", day, since.counts(), one.counts, since.Mended)
+		}
+	}
+}
