@@ -306,7 +306,7 @@ ADVICE = [
     (r"choose for the whole folder what stands above", nothing),
     (r"leave (?:it|them) so, or choose something for the whole folder, as another audit says", nothing),
     (r"nothing, if (?:it|they) may go\. If not, copy (?:it|them) elsewhere", save_all),
-    (r"nothing, if the changes? (?:is|are) wanted", nothing),
+    (r"nothing, if the (?:changes?|older files?) (?:is|are) wanted", nothing),
     (r"nothing but the start with which the steps above end", nothing),
     (r"nothing: let Syncthing run on all", run_all),
     (r"copy elsewhere what is to stay\. Then, while Syncthing is stopped on all", save_all_and_put),

@@ -39,6 +39,8 @@ func (f *File) whyFirst(fault *Fault) string {
 	switch {
 	case fault.Cause == Missing && !f.isDeletionDue() && !f.comesBack(fault):
 		return isMissing
+	case fault.isOlder() && fault.Kind != receiveOnly && !f.foretold.hasGoal():
+		return isOlderFile
 	case !fault.looksDamaged() || fault.Kind == receiveOnly:
 		return ""
 	case fault.Damage.MayBeOfRecord():

@@ -47,6 +47,9 @@ func (f *File) beforeStart(named print.Names) []string {
 	case f.foretold.is(outlook.Deleted):
 		return []string{"nothing, if " + f.say("it", "they") + " may go. If not, copy " + it + " elsewhere before Syncthing starts on any of these devices"}
 	case f.foretold.is(outlook.Changed) && !f.isWithoutCopy():
+		if f.has((*Fault).isOlder) {
+			return []string{"nothing, if the older " + f.say("file is", "files are") + " wanted on all devices"}
+		}
 		return []string{"nothing, if the " + f.say("change is", "changes are") + " wanted"}
 	case f.foretold.is(outlook.Stays) && !f.isWithoutCopy():
 		return []string{f.toLeave()}

@@ -198,6 +198,11 @@ func (f *Fault) isAlone() bool { return f.Cause == OtherBytes && f.Why != "" }
 // isFileForFile says whether a file stands where a file is recorded.
 func (f *Fault) isFileForFile() bool { return f.types() == "file file" }
 
+// isOlder says whether an older file than recorded stands on the disk, as after a backup was put back. A scan takes it for the latest change.
+func (f *Fault) isOlder() bool {
+	return f.Cause == Changed && f.isFileForFile() && f.Damage == damage.None && !f.isOverWire && f.Found.Modified.Before(*f.Recorded.Modified)
+}
+
 // types gives what is recorded and what stands on the disk, where both are known.
 func (f *Fault) types() string {
 	if f.Recorded == nil || f.Found == nil {

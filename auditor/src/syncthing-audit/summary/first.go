@@ -24,9 +24,10 @@ const (
 	isScanned   = "scan-under-way" // what a scan found may wait in Syncthing's memory
 	isLonger    = "kept-first"     // files of which either the disk or the record is damaged
 	isDamaged   = "looks-damaged"
-	isMissing   = "missing"   // what a device recorded isn't on its disk, and doesn't come back there by itself
-	isMadeSafe  = "made-safe" // entries tell what comes before a start
-	isNotAsked  = "not-asked" // of the other names nobody knows what a start does
+	isOlderFile = "older-files" // a scan sends older files than recorded in place of the newer ones
+	isMissing   = "missing"     // what a device recorded isn't on its disk, and doesn't come back there by itself
+	isMadeSafe  = "made-safe"   // entries tell what comes before a start
+	isNotAsked  = "not-asked"   // of the other names nobody knows what a start does
 )
 
 // firstOf gives what comes before all entries.
@@ -35,7 +36,7 @@ func (s *Summary) firstOf(named print.Names) []First {
 	for _, device := range s.Devices {
 		lines = append(lines, s.firstWaiting(device.ID, named)...)
 	}
-	for _, why := range []string{isLonger, isDamaged, isMissing} {
+	for _, why := range []string{isLonger, isDamaged, isOlderFile, isMissing} {
 		for _, device := range s.Devices {
 			if wrong := s.actions.wrong[wrongAt{why, device.ID}]; wrong != nil {
 				wrong.Text = "first, on " + named(device.ID) + ": " + wrong.words()
@@ -54,6 +55,9 @@ func (f *First) words() string {
 			"Keep a copy outside the folder before Syncthing starts or scans there"
 	case isDamaged:
 		return counted(f.Names, "file looks", "files look") + " damaged, not edited. Do what is said of that below before Syncthing starts or scans there"
+	case isOlderFile:
+		return counted(f.Names, "file is", "files are") + " older than recorded, as after a backup was put back. A scan sends the older bytes to all devices, in place of the newer ones. " +
+			"See whether that is wanted before Syncthing starts or scans there"
 	}
 	return "see that the disk of " + strings.Join(f.folders, ", ") + " is mounted before Syncthing starts or scans there: " + counted(f.Names, "name is", "names are") + " missing"
 }

@@ -48,7 +48,7 @@ func (f *folding) keyOf(file *File) string {
 	for _, fault := range file.Faults {
 		key += fmt.Sprint(" ", fault.Device, fault.Cause, fault.Kind, fault.Deletion, fault.isTied, fault.IsOfOneTime, fault.isWithout(), fault.Damage, fault.lacksDeletion())
 		if fault.Cause == Changed {
-			key += fault.types()
+			key += fmt.Sprint(fault.types(), fault.isOlder())
 		}
 	}
 	return key + many.tell(f.named) + strings.Join(adviceOf(many, f.named), "\n")

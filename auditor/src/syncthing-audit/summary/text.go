@@ -145,6 +145,9 @@ func wordsOfChanged(faults []*Fault) string {
 		words += ": " + sizes(recorded, found)
 	}
 	words += faults[0].ofDamage()
+	if faults[0].isOlder() {
+		words += ": older than recorded, as after a backup was put back"
+	}
 	if why.MayBeOfRecord() {
 		words += ": nobody can tell which bytes are the right ones"
 	}
@@ -168,6 +171,9 @@ func (p *printer) since(fault *Fault) string {
 	word, of := fault.dated()
 	if of == nil || of.Modified == nil { // as of a symlink
 		return ""
+	}
+	if fault.isOlder() {
+		return " (" + word + p.When(*of.Modified) + ", recorded as modified " + p.When(*fault.Recorded.Modified) + ")"
 	}
 	return " (" + word + p.When(*of.Modified) + ")"
 }

@@ -55,6 +55,11 @@ func changedTo(hash byte) *part.Name {
 	})
 }
 
+// olderThanRecorded is a file with other bytes than recorded, and an older time.
+func olderThanRecorded(hash byte) *part.Name {
+	return with(changedTo(hash), func(at *part.Name) { at.Disk.ModifiedS = at.Own.ModifiedS - 60 })
+}
+
 // directory gives what a device in step has of a directory, under this version of its first device.
 func directory(version uint64) *part.Name {
 	return with(file(version, 1), func(at *part.Name) {
