@@ -15,6 +15,7 @@ _syncthing_audit_flags() {
     export) echo '--home --observer --data --map --folder --names --slice --allowed-signers --strict --leave-out --bytes --into --jobs --help' ;;
     sum) echo '--lines --json --script --help' ;;
     find) echo '--folder --history --jobs --help' ;;
+    wanted) echo '--folder --history --help' ;;
   esac
 }
 
@@ -32,7 +33,7 @@ _syncthing_audit() {
   local command=${COMP_WORDS[1]}
   COMPREPLY=()
   if [ "$COMP_CWORD" = 1 ]; then
-    mapfile -t COMPREPLY < <(compgen -W 'part check run observe disk watch report export sum find --about --help --version' -- "$word")
+    mapfile -t COMPREPLY < <(compgen -W 'part check run observe disk watch report export sum find wanted --about --help --version' -- "$word")
     return
   fi
   case $before in

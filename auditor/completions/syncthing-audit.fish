@@ -1,6 +1,6 @@
 # Completion of syncthing-audit for fish: put this file into share/fish/vendor_completions.d or ~/.config/fish/completions.
 # The program's flags.txt makes this file (go run syncthing-audit/flags/write): change it there.
-set -l commands part check run observe disk watch report export sum find
+set -l commands part check run observe disk watch report export sum find wanted
 set -l none "not __fish_seen_subcommand_from $commands"
 complete -c syncthing-audit -f
 complete -c syncthing-audit -n "$none" -a part -d 'Read a device and write what it has'
@@ -13,6 +13,7 @@ complete -c syncthing-audit -n "$none" -a report -d 'Write a page to look at'
 complete -c syncthing-audit -n "$none" -a export -d 'Write the check documents of such an answer'
 complete -c syncthing-audit -n "$none" -a sum -d 'Join the answers to exported documents'
 complete -c syncthing-audit -n "$none" -a find -d 'Look in backups for the bytes that a history has of a name'
+complete -c syncthing-audit -n "$none" -a wanted -d 'Say that what a history tells to be gone was wanted'
 complete -c syncthing-audit -n "$none" -l about -d 'Tell what an answer means'
 complete -c syncthing-audit -l help -d 'Tell how to use the program'
 complete -c syncthing-audit -n "$none" -l version -d 'Tell its version'
@@ -40,7 +41,7 @@ complete -c syncthing-audit -n "__fish_seen_subcommand_from disk" -l config -r -
 complete -c syncthing-audit -n "__fish_seen_subcommand_from disk" -l marker -x -d 'What marks the directory of a folder'
 complete -c syncthing-audit -n "__fish_seen_subcommand_from part run check report export" -l data -x -a '(__fish_complete_directories)' -d 'Where the database of the home or device before is'
 complete -c syncthing-audit -n "__fish_seen_subcommand_from part run check report export" -l map -x -d 'Where a path of its configuration is on its machine: FROM=TO'
-complete -c syncthing-audit -n "__fish_seen_subcommand_from part run check observe report export find" -l folder -x -d 'Only this folder'
+complete -c syncthing-audit -n "__fish_seen_subcommand_from part run check observe report export find wanted" -l folder -x -d 'Only this folder'
 complete -c syncthing-audit -n "__fish_seen_subcommand_from part run check observe disk report export" -l names -x -d 'Only names that begin so'
 complete -c syncthing-audit -n "__fish_seen_subcommand_from part run check observe disk report export" -l slice -x -d 'Only names of slice K of N: K/N'
 complete -c syncthing-audit -n "__fish_seen_subcommand_from part disk" -s o -r -d 'Where the part goes'
@@ -65,7 +66,7 @@ complete -c syncthing-audit -n "__fish_seen_subcommand_from run check observe su
 complete -c syncthing-audit -n "__fish_seen_subcommand_from run check observe sum" -l script -x -a '(__fish_complete_directories)' -d 'Where shell scripts of the steps go'
 complete -c syncthing-audit -n "__fish_seen_subcommand_from report" -l html -r -d 'Where the page goes'
 complete -c syncthing-audit -n "__fish_seen_subcommand_from report" -l watch -r -d 'The nights of this configuration'
-complete -c syncthing-audit -n "__fish_seen_subcommand_from run check observe report find" -l history -x -a '(__fish_complete_directories)' -d 'Keep what was read and found there'
+complete -c syncthing-audit -n "__fish_seen_subcommand_from run check observe report find wanted" -l history -x -a '(__fish_complete_directories)' -d 'Keep what was read and found there'
 complete -c syncthing-audit -n "__fish_seen_subcommand_from check export" -l bytes -d 'Documents with the bytes of files'
 complete -c syncthing-audit -n "__fish_seen_subcommand_from observe export" -l into -x -a '(__fish_complete_directories)' -d 'Where the documents or parts go'
 complete -c syncthing-audit -n "__fish_seen_subcommand_from run check observe report watch" -l syncaudit -r -d 'The program that answers'

@@ -7,6 +7,8 @@ audit.
 
 import json
 import os
+import re
+import shlex
 import shutil
 import sys
 
@@ -206,6 +208,56 @@ class FilesThatAreGone(History):
         (backup / "text").write_text("hello")
         ran = run([self.program, "find", "--history", self.kept, "--folder", "docs", "text", backup])
         self.assertEqual((ran.returncode, ran.stdout), (0, f"{backup}/text\n"), ran.stderr)
+
+
+class FilesThatWereWantedToGo(History):
+    """Half of a folder is deleted on purpose. Somebody says so by the command that the answer tells: then it isn't told, and what goes later is."""
+
+    def photos_of(self, device):
+        return {path.name for path in device.files.glob("photo *")}
+
+    def delete(self, names):
+        self.start()
+        try:
+            for name in names:
+                (self.one.files / name).unlink()
+            self.one.scan()
+            wait_until("the deletions are on the other device", lambda: self.photos_of(self.one) == self.photos_of(self.two))
+            wait_until("both are in step", lambda: self.one.is_in_step_with(self.two) and self.two.is_in_step_with(self.one))
+        finally:
+            self.stop()
+
+    def gone(self):
+        """The status, and the command that says that it was wanted."""
+        ran = self.audit()
+        commands = re.findall(r"(?m)^  if it was wanted: syncthing-audit (wanted .*)$", ran.stdout)
+        self.assertEqual((len(commands), ran.stdout.startswith("GONE: ")), (len(commands), bool(commands)), ran.stdout)
+        return ran.returncode, commands
+
+    def say(self, command):
+        return run([self.program, *shlex.split(command)])
+
+    def test_deletions_that_were_wanted(self):
+        names = [f"photo {number:02}" for number in range(40)]
+        for name in names:
+            (self.one.files / name).write_text(name)
+        self.delete([])
+        self.assertEqual(self.gone(), (0, []))
+        self.delete(names[:24])
+        status, (first,) = self.gone()
+        self.assertEqual(status, 6)
+        self.delete(names[24:35])
+        status, commands = self.gone()
+        self.assertEqual((status, commands[0], len(commands)), (6, first, 2), "more files went before anybody said anything")
+        ran = self.say(first)
+        self.assertEqual(ran.returncode, 0, ran.stderr)
+        self.assertRegex(ran.stdout, r"^24 of 43 files in docs went .* It was wanted, so it isn't told any more\. What goes later is told\n$")
+        self.assertEqual(self.say(first).returncode, 2, "it isn't told any more")
+        self.assertEqual(self.gone(), (6, commands[1:]), "what went later is told")
+        self.assertEqual(self.say(commands[1]).returncode, 0)
+        self.assertEqual(self.gone(), (0, []))
+        self.delete(names[35:])
+        self.assertEqual(self.gone()[0], 6, "most that were left went later")
 
 
 if __name__ == "__main__":

@@ -13,7 +13,7 @@ import (
 // command is one of the program's commands.
 type command func(words []string, output, log io.Writer) (int, error)
 
-var commands = map[string]command{"part": runPart, "check": runCheck, "run": runRun, "export": runExport, "sum": runSum, "find": runFind, "observe": runObserve, "disk": runDisk, "watch": runWatch, "report": runReport}
+var commands = map[string]command{"part": runPart, "check": runCheck, "run": runRun, "export": runExport, "sum": runSum, "find": runFind, "wanted": runWanted, "observe": runObserve, "disk": runDisk, "watch": runWatch, "report": runReport}
 
 // Run runs the command that the words name and gives the exit status.
 func Run(words []string, output, log io.Writer) int {
@@ -31,10 +31,10 @@ func Run(words []string, output, log io.Writer) int {
 		return exit.OfText("syncthing-audit "+release.Version+"\n", output, log)
 	}
 	if len(words) == 0 {
-		return exit.Of(commandline.WrongUse("no command is given: part, check, run, observe, watch, report, disk, export, sum or find"), output, log)
+		return exit.Of(commandline.WrongUse("no command is given: part, check, run, observe, watch, report, disk, export, sum, find or wanted"), output, log)
 	}
 	if commands[words[0]] == nil {
-		return exit.Of(commandline.WrongUse(fmt.Sprintf("%q is no command: part, check, run, observe, watch, report, disk, export, sum and find are", words[0])), output, log)
+		return exit.Of(commandline.WrongUse(fmt.Sprintf("%q is no command: part, check, run, observe, watch, report, disk, export, sum, find and wanted are", words[0])), output, log)
 	}
 	status, err := commands[words[0]](words[1:], output, log)
 	if err == nil {

@@ -30,6 +30,7 @@ var Usage = fmt.Sprintf(`usage: syncthing-audit part [--home DIR [--data DIR]] [
        syncthing-audit export [--home DIR [--data DIR] ..] [PART ..] --into DIR
        syncthing-audit sum DIR
        syncthing-audit find --history DIR --folder ID NAME BACKUP ..
+       syncthing-audit wanted --history DIR --folder ID TIME
        syncthing-audit --version | --about
        syncthing-audit COMMAND --help
 
@@ -53,6 +54,7 @@ Says whether Syncthing devices are in step and, if they aren't, which device is 
           'syncaudit explain' and then 'syncaudit firm' write of each
   find    looks in directories, such as backups, for files with the bytes that a history has of a name: those before they changed on
           all devices under one time, or else those that were read last
+  wanted  says that the files were wanted to go which the audit of TIME found gone: that isn't told any more. What goes later is
 
 %s
 

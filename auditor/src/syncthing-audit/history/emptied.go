@@ -47,9 +47,10 @@ type Holder struct {
 
 // emptiedValue is what a history keeps of an emptied folder.
 type emptiedValue struct {
-	Since time.Time `json:"since"`
-	Files int64     `json:"files"`
-	Of    int64     `json:"of"`
+	Since    time.Time `json:"since"`
+	Files    int64     `json:"files"`
+	Of       int64     `json:"of"`
+	Intended bool      `json:"intended,omitempty"` // whether somebody said that it was wanted
 }
 
 // goneName is a file that is gone from all devices that were audited.
@@ -68,6 +69,7 @@ type emptying struct {
 	wrong   map[string]bool // names that are at fault now
 	fresh   []*goneName     // that no audit came to
 	since   time.Time
+	wanted  []time.Time // the audits that found what somebody wanted to go
 }
 
 // addEmptied adds the folders from which most files went, and keeps that this audit came to them. Before the first audit nothing is known.
@@ -91,7 +93,11 @@ func (h *History) addEmptied(since *Since, audit *Audited) error {
 
 func (e *emptying) addTo(since *Since) error {
 	marks := &writes{to: e.history.db}
-	err := e.eachName(func(name *goneName) error { return e.take(name, marks) })
+	var err error
+	if e.wanted, err = e.history.intended(e.folder); err != nil {
+		return err
+	}
+	err = e.eachName(func(name *goneName) error { return e.take(name, marks) })
 	if err != nil {
 		return err
 	}
@@ -168,6 +174,9 @@ func (e *emptying) isPassed(name *goneName) bool { return !name.taken.IsZero() }
 // take takes a name that is gone; what is gone for long is forgotten.
 func (e *emptying) take(name *goneName, marks *writes) error {
 	if name.taken.IsZero() {
+		if at := e.intendedAt(name); name.is && !at.IsZero() {
+			return e.markAt(name, at, marks)
+		}
 		if name.is {
 			e.fresh = append(e.fresh, name)
 		}
@@ -198,11 +207,20 @@ func (e *emptying) keepNew(marks *writes) error {
 	for _, name := range lost {
 		name.taken = e.audit.At.UTC().Round(0)
 	}
-	text, err := json.Marshal(emptiedValue{e.since, int64(len(lost)), of})
+	text, err := json.Marshal(emptiedValue{Since: e.since, Files: int64(len(lost)), Of: of})
 	if err != nil {
 		return err
 	}
 	return marks.put(keyOfEmptied(e.folder, e.audit.At), text)
+}
+
+// readEmptied gives what a history keeps of an emptied folder, and which audit found that.
+func readEmptied(key, value, prefix []byte) (emptiedValue, time.Time, error) {
+	var of emptiedValue
+	if len(key) != len(prefix)+8 || json.Unmarshal(value, &of) != nil {
+		return of, time.Time{}, errValue
+	}
+	return of, readTime(key[len(prefix):]), nil
 }
 
 // isMost says whether so many of a folder's files are told.
@@ -254,10 +272,17 @@ func (e *emptying) mark(marks *writes) error {
 		if taken.IsZero() {
 			taken = e.audit.At.UTC().Round(0).Add(-1)
 		}
-		for device, of := range name.at {
-			if err := marks.put(keyOfGone(e.folder, name.name, device), (&gone{of.before, taken}).bytes()); err != nil {
-				return err
-			}
+		if err := e.markAt(name, taken, marks); err != nil {
+			return err
+		}
+	}
+	return nil
+}
+
+func (e *emptying) markAt(name *goneName, taken time.Time, marks *writes) error {
+	for device, of := range name.at {
+		if err := marks.put(keyOfGone(e.folder, name.name, device), (&gone{of.before, taken}).bytes()); err != nil {
+			return err
 		}
 	}
 	return nil
@@ -269,13 +294,19 @@ func (e *emptying) tell(since *Since) error {
 	told, times := map[time.Time]*Emptied{}, []time.Time{}
 	prefix := keyOfEmptieds(e.folder)
 	err := e.history.each(prefix, func(key, value []byte) error {
-		var of emptiedValue
-		if len(key) != len(prefix)+8 || json.Unmarshal(value, &of) != nil {
-			return errValue
+		of, at, err := readEmptied(key, value, prefix)
+		if err != nil {
+			return err
 		}
-		at := readTime(key[len(prefix):])
-		if !at.AddDate(0, 0, DaysOfEmptied).After(e.audit.At) {
+		days := DaysOfEmptied
+		if of.Intended {
+			days = daysOfGone
+		}
+		if !at.AddDate(0, 0, days).After(e.audit.At) {
 			return marks.remove(append([]byte(nil), key...))
+		}
+		if of.Intended {
+			return nil
 		}
 		told[at], times = &Emptied{Folder: e.folder, Since: of.Since, Found: at, IsNew: at.Equal(e.audit.At), Of: of.Of, First: []part.Bytes{}, Held: []Holder{}}, append(times, at)
 		return nil

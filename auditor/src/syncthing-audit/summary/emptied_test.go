@@ -24,12 +24,19 @@ func TestAnEmptiedFolderComesFirst(t *testing.T) {
 	last := 0
 	for _, due := range []string{"GONE: 7 of 9 files in docs went from all devices that were asked after 2026-01-01 03:00, as the audit of 2026-01-02 03:00 found: 'a b', c, d, e, f and 2 more",
 		"to do: nas had 6 of them when it was read on 2026-01-01 03:00, and isn't asked now: don't start Syncthing there", "to do: if nobody wanted that: stop Syncthing on all devices of the folder",
-		"it is told until 2026-01-09 03:00."} {
+		"It is told until 2026-01-09 03:00. if it was wanted: syncthing-audit wanted --history DIR --folder docs 2026-01-02T03:00:00Z"} {
 		at := strings.Index(text, due)
 		if at < last {
 			t.Errorf("%q isn't there, or in another order: %s", due, text)
 		}
 		last = at
+	}
+	if summary.Since.Directory = "/a b"; summary.CommandOfWanted(emptied) != "syncthing-audit wanted --history '/a b' --folder docs 2026-01-02T03:00:00Z" {
+		t.Error(summary.CommandOfWanted(emptied))
+	}
+	const wanted = "7 of 9 files in docs went from all devices that were asked after 2026-01-01 03:00, as the audit of 2026-01-02 03:00 found: 'a b', c, d, e, f and 2 more. It was wanted, so it isn't told any more. What goes later is told"
+	if words := WordsOfIntended(&emptied, time.UTC); words != wanted {
+		t.Error(words)
 	}
 	told.Reset()
 	if p.emptied(&Summary{}); told.Len() > 0 {

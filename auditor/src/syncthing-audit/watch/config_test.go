@@ -135,7 +135,7 @@ func TestFaultsAreNews(t *testing.T) {
 	since.Deleted = history.List{Count: 1, First: []history.Told{fault}}
 	since.Emptied = []history.Emptied{{Folder: "pics", Files: 2, Of: 2}, {Folder: "docs", Files: 7, Of: 9, IsNew: true}}
 	lines, _ = News(&summary.Summary{Since: since}, false, nil)
-	if !strings.HasPrefix(lines[0], "GONE: 7 of 9 files in docs went ") || lines[2] != `deleted since: '[not-for-typing:a b\x1b]' in docs: StoreDiffers` || len(lines) != 3+mostNews+1 {
+	if !strings.HasPrefix(lines[0], "GONE: 7 of 9 files in docs went ") || !strings.HasSuffix(lines[0], "; if it was wanted: syncthing-audit wanted --history DIR --folder docs 0001-01-01T00:00:00Z") || lines[2] != `deleted since: '[not-for-typing:a b\x1b]' in docs: StoreDiffers` || len(lines) != 3+mostNews+1 {
 		t.Errorf("%q", lines)
 	}
 	since.Unkept = "no space left"

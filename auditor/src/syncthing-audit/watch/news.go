@@ -70,7 +70,7 @@ func emptied(told *summary.Summary) []string {
 	}
 	for _, folder := range told.Since.Emptied {
 		if folder.IsNew {
-			lines = append(lines, outside.Sprintf("%s", told.WordsOfEmptied(folder, time.Local)[0]))
+			lines = append(lines, outside.Sprintf("%s; if it was wanted: %s", told.WordsOfEmptied(folder, time.Local)[0], told.CommandOfWanted(folder)))
 		}
 	}
 	return lines
