@@ -28,7 +28,7 @@ func TestPlacesOfOldVersionsAreNamed(t *testing.T) {
 		}
 		s := &Summary{Folders: []*Folder{folder}, Devices: []Device{{ID: "A", Name: "a"}, {ID: "B", Name: "b"}, {ID: "C", Name: "c"}}, Since: &history.Since{Directory: "DIR"}}
 		emptied := s.WordsOfEmptied(history.Emptied{Folder: "docs"}, time.UTC)
-		if last := emptied[len(emptied)-1]; !strings.Contains(last, "Then look on each device among "+due+", and into backups and snapshots") {
+		if last := emptied[len(emptied)-1]; !strings.Contains(last, "Then look on each device among "+versions(s.Called(), folder)+", and into backups and snapshots") {
 			t.Errorf("%s: %s", due, last)
 		}
 	}
