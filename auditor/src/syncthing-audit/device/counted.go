@@ -20,15 +20,10 @@ func (i *Index) checkCount(of protocol.DeviceID, names choice.Names, given int64
 
 // countOf counts the keys of a device's entries of these names.
 func (i *Index) countOf(of protocol.DeviceID, names choice.Names) (count int64, err error) {
-	folder, err := i.numberOf(db.KeyTypeFolderIdx, i.Config.ID)
-	if err != nil || folder == "" {
+	prefix, err := i.prefixOf(of)
+	if err != nil || prefix == "" {
 		return count, err
 	}
-	device, err := i.numberOf(db.KeyTypeDeviceIdx, string(of[:]))
-	if err != nil || device == "" {
-		return count, err
-	}
-	prefix := string([]byte{db.KeyTypeDevice}) + folder + device
 	entries, err := i.home.backend.NewPrefixIterator([]byte(prefix))
 	if err != nil {
 		return count, err
@@ -43,6 +38,19 @@ func (i *Index) countOf(of protocol.DeviceID, names choice.Names) (count int64, 
 		}
 	}
 	return count, entries.Error()
+}
+
+// prefixOf gives what the keys of a device's entries begin with, before their names; nothing where the index has no number of the device or the folder.
+func (i *Index) prefixOf(of protocol.DeviceID) (string, error) {
+	folder, err := i.numberOf(db.KeyTypeFolderIdx, i.Config.ID)
+	if err != nil || folder == "" {
+		return "", err
+	}
+	device, err := i.numberOf(db.KeyTypeDeviceIdx, string(of[:]))
+	if err != nil || device == "" {
+		return "", err
+	}
+	return string([]byte{db.KeyTypeDevice}) + folder + device, nil
 }
 
 // numberOf gives the number of a folder or a device in the keys of entries, which are of one length; nothing of one that the index hasn't.

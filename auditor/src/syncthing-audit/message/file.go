@@ -19,11 +19,13 @@ const (
 	FileBlockSize     protowire.Number = 13
 	FileBlock         protowire.Number = 16
 	FileTarget        protowire.Number = 17
+	FileBlocksHash    protowire.Number = 18
 	FileEncrypted     protowire.Number = 19
 
 	BlockOffset protowire.Number = 1
 	BlockSize   protowire.Number = 2
 	BlockHash   protowire.Number = 3
+	BlockWeak   protowire.Number = 4
 
 	VersionCounter protowire.Number = 1
 	CounterID      protowire.Number = 1

@@ -4,7 +4,7 @@ import (
 	"fmt"
 
 	"github.com/syncthing/syncthing/lib/protocol"
-	"syncthing-audit/adapt"
+	"syncthing-audit/device"
 	"syncthing-audit/message"
 )
 
@@ -31,52 +31,14 @@ func entryIn(text []byte, longestName int) (protocol.FileInfo, error) {
 			if len(file.Blocks) > len(text)/leastBlockText {
 				return fmt.Errorf("%w: a record with blocks without hashes", BadMessage)
 			}
-			return addBlock(&file, field.Text)
+			_, err := device.AddBlock(&file, field.Text) // the hash stays a part of the message, which is read no longer than the record is
+			return err
 		default:
-			takeNumber(&file, field)
-			takeText(&file, field)
+			device.TakeField(&file, field)
 		}
 		return nil
 	})
 	return file, err
-}
-
-// takeNumber takes a field of a record that is a number.
-func takeNumber(file *protocol.FileInfo, field message.Field) {
-	switch field.Number {
-	case message.FileType:
-		file.Type = protocol.FileInfoType(field.Value)
-	case message.FileSize:
-		file.Size = int64(field.Value)
-	case message.FilePermissions:
-		file.Permissions = uint32(field.Value)
-	case message.FileModifiedS:
-		file.ModifiedS = int64(field.Value)
-	case message.FileDeleted:
-		file.Deleted = field.Value != 0
-	case message.FileInvalid:
-		file.RawInvalid = field.Value != 0
-	case message.FileNoPermissions:
-		file.NoPermissions = field.Value != 0
-	case message.FileSequence:
-		file.Sequence = int64(field.Value)
-	case message.FileModifiedNs:
-		adapt.SetNumber(&file.ModifiedNs, int(int32(field.Value)))
-	case message.FileModifiedBy:
-		file.ModifiedBy = protocol.ShortID(field.Value)
-	case message.FileBlockSize:
-		adapt.SetNumber(&file.RawBlockSize, int(int32(field.Value)))
-	}
-}
-
-// takeText takes a field of a record that is a text.
-func takeText(file *protocol.FileInfo, field message.Field) {
-	switch field.Number {
-	case message.FileTarget:
-		adapt.SetText(&file.SymlinkTarget, string(field.Text))
-	case message.FileEncrypted:
-		file.Encrypted = append([]byte(nil), field.Text...)
-	}
 }
 
 // addCounters adds the counters of a version.
@@ -88,35 +50,7 @@ func addCounters(to *protocol.Vector, text []byte) error {
 		if len(to.Counters) == mostCounters {
 			return fmt.Errorf("%w: a version of over %d counters", BadMessage, mostCounters)
 		}
-		var counter protocol.Counter
-		err := message.Each(field.Text, func(field message.Field) error {
-			switch field.Number {
-			case message.CounterID:
-				counter.ID = protocol.ShortID(field.Value)
-			case message.CounterValue:
-				counter.Value = field.Value
-			}
-			return nil
-		})
-		to.Counters = append(to.Counters, counter)
+		_, err := device.AddCounter(to, field.Text)
 		return err
 	})
-}
-
-// addBlock adds a block. Its hash stays a part of the message, which is read no longer than the record is.
-func addBlock(to *protocol.FileInfo, text []byte) error {
-	var block protocol.BlockInfo
-	err := message.Each(text, func(field message.Field) error {
-		switch field.Number {
-		case message.BlockOffset:
-			block.Offset = int64(field.Value)
-		case message.BlockSize:
-			adapt.SetNumber(&block.Size, int(int32(field.Value)))
-		case message.BlockHash:
-			block.Hash = field.Text
-		}
-		return nil
-	})
-	to.Blocks = append(to.Blocks, block)
-	return err
 }
