@@ -127,17 +127,18 @@ func (m *merge) put(name string) bool {
 	if m.device.Look != nil {
 		line.Receiving = m.walker.StampOf(fs.TempName(name))
 	}
-	if !m.patterns.Match(name).IsIgnored() {
+	isMatched := m.patterns.Match(name).IsIgnored()
+	if !isMatched {
 		notIgnoredNow(line)
 	}
 	switch {
-	case m.isIgnored(name, line.Own):
+	case isMatched && !m.isTaken(line.Own):
 		line.Out = append(line.Out, ignored(line))
 		if !isIndexed && line.Disk != nil && len(line.Out) == 1 {
 			m.hide(line)
 			return true
 		}
-	case m.patterns.Match(name).IsIgnored():
+	case isMatched:
 		m.toIgnore.TakeDirectory(name)
 	case line.Own != nil && !line.Own.Deleted && line.Disk != nil:
 		m.toIgnore.TakeOther(name)
@@ -189,11 +190,10 @@ func (m *merge) takeNode(line *part.Name) disk.Stamp {
 	return found.Stamp
 }
 
-// isIgnored says whether .stignore keeps a name out of the folder. Where a pattern takes in what is below a directory that another pattern ignores,
-// Syncthing takes the directory, too, once something below it is taken: the index has a record of it then.
-func (m *merge) isIgnored(name string, own *part.Record) bool {
-	isTaken := own != nil && !own.Deleted && own.Type == int(protocol.FileInfoTypeDirectory) && !m.patterns.SkipIgnoredDirs()
-	return m.patterns.Match(name).IsIgnored() && !isTaken
+// isTaken says whether .stignore doesn't keep a name out of the folder though a pattern ignores it. Where a pattern takes in what is below a directory that
+// another pattern ignores, Syncthing takes the directory, too, once something below it is taken: the index has a record of it then.
+func (m *merge) isTaken(own *part.Record) bool {
+	return own != nil && !own.Deleted && own.Type == int(protocol.FileInfoTypeDirectory) && !m.patterns.SkipIgnoredDirs()
 }
 
 // addRecord adds a record to a name: the own one, or one of a view.

@@ -33,7 +33,7 @@ func TestWhatIsIgnored(t *testing.T) {
 		if err := patterns.Parse(strings.NewReader(one.patterns), ".stignore"); err != nil {
 			t.Fatal(err)
 		}
-		if is := (&merge{patterns: patterns}).isIgnored(one.name, one.own); is != one.isIgnored {
+		if is := patterns.Match(one.name).IsIgnored() && !(&merge{patterns: patterns}).isTaken(one.own); is != one.isIgnored {
 			t.Errorf("%q, %q, %+v: %v", one.patterns, one.name, one.own, is)
 		}
 	}
