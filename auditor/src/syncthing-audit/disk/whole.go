@@ -46,6 +46,7 @@ func (r *reader) do(jobs []*Job) {
 		file, err := job.file.begin()
 		r.begun = append(r.begun, begun{job, file, err})
 	}
+	r.readAhead()
 	for place, next := range r.begun {
 		if next.err == nil {
 			next.err = r.hash(next.job, next.file)
@@ -60,12 +61,21 @@ func (r *reader) do(jobs []*Job) {
 	r.begun = r.begun[:0]
 }
 
-// begin opens a file, and has the system read it from the disk.
+// readAhead has the system read the files that were begun. All of them were let go of by then: Linux gathers what it reads, and settles that each time
+// a file is let go of.
+func (r *reader) readAhead() {
+	for _, next := range r.begun {
+		if size := next.job.file.Node.Size; next.err == nil && size > 0 {
+			readAhead(next.file, size)
+		}
+	}
+}
+
+// begin opens a file, so that it is read from the disk.
 func (f *File) begin() (directory.File, error) {
 	file, err := f.open()
 	if err == nil && f.Node.Size > 0 {
 		letGo(file, 0, f.Node.Size)
-		readAhead(file, f.Node.Size)
 	}
 	return file, err
 }
