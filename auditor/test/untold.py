@@ -136,7 +136,7 @@ class AChangeThatIsHeardAndNotTaken(WithEntries):
         self.stop()
         told = self.entry()
         self.assertNotIn("--reset-deltas", told)
-        self.assertIn("whether a disk is full, and whether Syncthing's page lists 'Failed Items'", self.text())
+        self.assertIn("whether a disk is full or refuses the name, and whether Syncthing's page lists 'Failed Items'", self.text())
         (self.two.home / "config.xml").write_text(config)
         self.start()
         wait_until_in_step(self.one, self.two)

@@ -176,6 +176,7 @@ func (i *Index) Folder() part.Folder {
 		IgnoresPermissions: i.Config.IgnorePerms, TimeWindow: timeWindowOf(i.Config), ScansAttributes: i.home.attributes[i.Config.ID], Sharing: i.home.Sharing(i.Config), Views: []part.View{},
 		Paused: i.Config.Paused, PausedDevices: i.home.pausedOf(i.Config), Writers: i.home.writersOf(i.Config.ID),
 		Indexed: i.names(), Options: i.home.optionsOf(i.Config)}
+	folder.Options.IgnoresCase = directory.IgnoresCase(folder.Path, i.Config.MarkerName)
 	for _, other := range i.Config.Devices {
 		if other.DeviceID == i.home.ID {
 			continue

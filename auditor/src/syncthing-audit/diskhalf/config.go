@@ -64,6 +64,7 @@ func (c *configuration) tell(of *part.Folder) error {
 		if err := folder.Tell(of, c.Devices); err != nil {
 			return fmt.Errorf("%s: %w", shell.Quoted(c.path), err)
 		}
+		of.Options.IgnoresCase = directory.IgnoresCase(withHome(folder.Path), usualMarker)
 		return nil
 	}
 	return fmt.Errorf("%s has no folder of this id", shell.Quoted(c.path))

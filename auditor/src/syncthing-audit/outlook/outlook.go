@@ -240,7 +240,7 @@ func (t *teller) end() *Outlook {
 			}
 		}
 		for member := range t.devices {
-			if why == read.NeverTold && t.rows.Silent.Has(member) {
+			if t.rows.Places[why].Has(member) {
 				group.Devices = append(group.Devices, t.devices[member].ID)
 			}
 		}

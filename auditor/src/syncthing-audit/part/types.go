@@ -149,6 +149,7 @@ type Folder struct {
 type Options struct {
 	MaxConflicts     int       `json:"max_conflicts"` // how many conflict copies of a name are kept: below 0 all
 	IgnoresDeletions bool      `json:"ignores_deletions,omitempty"`
+	IgnoresCase      bool      `json:"ignores_case,omitempty"` // the disk takes names for one that differ by upper and lower case alone
 	Versions         *Versions `json:"old_versions,omitempty"` // nothing where an older program made it
 }
 

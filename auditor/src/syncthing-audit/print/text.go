@@ -47,7 +47,7 @@ func (p *Person) When(at time.Time) string { return at.In(p.Zone).Format("2006-0
 // right tells of names of which nothing is lost, and that end alike everywhere.
 func (p *Person) right(o *outlook.Outlook) {
 	if p.count(o.Right, "name comes right by itself, and loses", "names come right by themselves, and lose", "nothing but what a recorded change replaced") {
-		p.Line("    if not, see whether a device or the folder is paused, whether they are connected, whether a disk is full, and whether Syncthing's page lists 'Failed Items'")
+		p.Line("    if not, see whether a device or the folder is paused, whether they are connected, whether a disk is full or refuses the name, and whether Syncthing's page lists 'Failed Items'")
 	}
 	p.count(o.Deleted, "name is", "names are", "deleted on all devices, as is recorded")
 	p.count(o.Changed, "name takes", "names take", "a change that no scan has seen yet; then no device's folder has what it replaces")
@@ -155,7 +155,7 @@ var wordsOfKept = map[forecast.Why]string{
 	forecast.NotThere:         "nothing stands there to get the new time or mode",
 	forecast.KeepsLocalChange: "it only receives, and keeps its own change",
 	forecast.NotSeen:          "it has other bytes than recorded, which no scan sees, and may send them to a device that is added",
-	forecast.IgnoresDeletions: "it takes no deletions",
+	forecast.IgnoresDeletions: "by the folder's option 'ignoreDelete' it takes no deletions",
 }
 
 // notKnown tells of how many names it isn't known what becomes of them, and why.
@@ -200,6 +200,7 @@ var unknowns = map[string]struct{ why, toKnow string }{
 	"left-out":         {"something of the name or of a directory above isn't audited", "see below why it is left out"},
 	"in-motion":        {"it changed while it was looked at, or between two parts, or waits for a scan", "audit again once it is at rest"},
 	"odd-name":         {"the name isn't in Unicode's form NFC, in which Syncthing has names", "rename it, and audit again"},
+	"case":             {"another name differs from it by upper and lower case alone, and a disk takes both for one", "rename one of them, and audit again"},
 	"damaged":          {"a disk fails to give what it has", "see what the disk still gives, and audit again"},
 	"never-told":       {"a device may never tell a change of it", "once what is to stay is saved, stop Syncthing there, and " + part.ResetDeltas + "; then let all finish, and audit again"},
 	"conflict-copies":  {"it may come to have more conflict copies than are kept", ""},

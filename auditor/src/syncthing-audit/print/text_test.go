@@ -38,7 +38,7 @@ var texts = []struct {
 	{"one comes right", outlook.Outlook{Names: 1, Right: 1}, `
 if nobody does anything in docs, and all devices scan, then run and reach one another until nothing changes any more:
   1 name comes right by itself, and loses nothing but what a recorded change replaced
-    if not, see whether a device or the folder is paused, whether they are connected, whether a disk is full, and whether Syncthing's page lists 'Failed Items'
+    if not, see whether a device or the folder is paused, whether they are connected, whether a disk is full or refuses the name, and whether Syncthing's page lists 'Failed Items'
 `},
 	{"one of each", outlook.Outlook{Names: 7, Walked: 1,
 		Lost: 1, NotKnown: 1, Depends: 1, Changed: 1, Deleted: 1, Stays: 1, Right: 1,
@@ -50,7 +50,7 @@ if nobody does anything in docs, and all devices scan, then run and reach one an
 		`
 if nobody does anything in docs, and all devices scan, then run and reach one another until nothing changes any more:
   1 name comes right by itself, and loses nothing but what a recorded change replaced
-    if not, see whether a device or the folder is paused, whether they are connected, whether a disk is full, and whether Syncthing's page lists 'Failed Items'
+    if not, see whether a device or the folder is paused, whether they are connected, whether a disk is full or refuses the name, and whether Syncthing's page lists 'Failed Items'
   1 name is deleted on all devices, as is recorded
   1 name takes a change that no scan has seen yet; then no device's folder has what it replaces
   1 name loses something that a disk has now:
@@ -71,7 +71,7 @@ if nobody does anything in docs, and all devices scan, then run and reach one an
 		`
 if nobody does anything in docs, and all devices scan, then run and reach one another until nothing changes any more:
   2,004 names come right by themselves, and lose nothing but what a recorded change replaced
-    if not, see whether a device or the folder is paused, whether they are connected, whether a disk is full, and whether Syncthing's page lists 'Failed Items'
+    if not, see whether a device or the folder is paused, whether they are connected, whether a disk is full or refuses the name, and whether Syncthing's page lists 'Failed Items'
   2 names are deleted on all devices, as is recorded
   2 names take a change that no scan has seen yet; then no device's folder has what it replaces
   7 names lose something that a disk has now:

@@ -16,7 +16,7 @@ const (
 // key is the beginning of a content's hash.
 type key [16]byte
 
-// filter is a set of files' bytes in little room. Once it has many, it may say of some that it has them, though it hasn't.
+// filter is a set of hashes in little room, as of files' bytes. Once it has many, it may say of some that it has them, though it hasn't.
 type filter struct {
 	exact map[key]bool
 	bits  []uint64
@@ -25,6 +25,10 @@ type filter struct {
 func (f *filter) add(content *part.Content) {
 	var begins key
 	copy(begins[:], content.Hash[:])
+	f.addKey(begins)
+}
+
+func (f *filter) addKey(begins key) {
 	if f.exact == nil {
 		f.exact = map[key]bool{}
 	}
@@ -48,6 +52,10 @@ func (f *filter) has(content forecast.Content) bool {
 	}
 	var begins key
 	copy(begins[:], hash)
+	return f.hasKey(begins)
+}
+
+func (f *filter) hasKey(begins key) bool {
 	return f.exact[begins] || f.bits != nil && begins.each(func(word, bit uint64) bool { return f.bits[word]&bit != 0 })
 }
 

@@ -25,17 +25,18 @@ type Rows struct {
 	Calm    map[string]bool
 	Damage  map[string][]damage.Kind // of names of the world that look damaged somewhere: how, at each device
 	room    int
-	risky   map[string]bool // names of the world that may be something else than a directory somewhere
-	copies  map[string]int  // conflict copies that are at rest, by what they are copies of
-	bytes   filter          // of names that are at rest
-	out     map[string]bool // names that aren't told as a whole
-	Silent  forecast.Places // devices that may never tell a change of some name
+	risky   map[string]bool         // names of the world that may be something else than a directory somewhere
+	copies  map[string]int          // conflict copies that are at rest, by what they are copies of
+	bytes   filter                  // of names that are at rest
+	out     map[string]bool         // names that aren't told as a whole
+	Places  map[Why]forecast.Places // the devices of which it is that some names aren't known
+	cases   cases                   // where a disk ignores case
 }
 
 // NewRows begins with a folder.
 func NewRows(folder *join.Folder) *Rows {
 	rows := &Rows{reader: newReader(folder.ID, len(folder.Members)), members: folder.Members, All: unknownOf(folder.Members), Unknown: map[string]Why{},
-		Count: map[Why]int64{}, Calm: map[string]bool{}, Damage: map[string][]damage.Kind{}, room: MostCells, risky: map[string]bool{}, copies: map[string]int{}, out: map[string]bool{}}
+		Count: map[Why]int64{}, Calm: map[string]bool{}, Damage: map[string][]damage.Kind{}, Places: map[Why]forecast.Places{}, room: MostCells, risky: map[string]bool{}, copies: map[string]int{}, out: map[string]bool{}}
 	for place, member := range folder.Members {
 		rows.places[member.Head.Device] = place
 		device, err := rows.device(member.Head)
@@ -43,6 +44,9 @@ func NewRows(folder *join.Folder) *Rows {
 			rows.All = append(rows.All, Unknown{Untold, []int{place}})
 		}
 		device.Apart = apartFrom(folder.Members, place)
+		if options := member.About.Options; options != nil && options.IgnoresCase {
+			rows.Places[Case] |= 1 << place
+		}
 		rows.world.Devices = append(rows.world.Devices, device)
 		views := make([]int, len(member.About.Views))
 		for at, view := range member.About.Views {
@@ -60,6 +64,9 @@ func (r *Rows) Take(row *join.Row) {
 	isBelow := isBelow(r.risky, row.Name)
 	if !isBelow && isOutside(row) {
 		return
+	}
+	if r.Places[Case] != 0 {
+		r.cases.take(row)
 	}
 	isCalm := !hasOuts(row) && r.isAtRest(row)
 	if isCalm && !isBelow {
@@ -211,7 +218,12 @@ func (r *Rows) World() forecast.World {
 	r.finish()
 	r.addHolding()
 	for _, name := range r.world.Names {
-		if _, is := r.Unknown[name.Name]; !is && r.mayDropCopies(name.Name) {
+		if _, is := r.Unknown[name.Name]; is {
+			continue
+		}
+		if r.cases.has(name.Name) {
+			r.Unknown[name.Name] = Case
+		} else if r.mayDropCopies(name.Name) {
 			r.Unknown[name.Name] = Copies
 		}
 	}

@@ -193,8 +193,8 @@ func TestWhoNeverTells(t *testing.T) {
 	for at, silent := range map[int]forecast.Places{len(unknownNames) - 2: 1 << 1, len(unknownNames) - 1: 0} {
 		rows := NewRows(folderOf(2))
 		rows.Take(calm("a", unknownNames[at].change))
-		if rows.Unknown["a"] != NeverTold || rows.Silent != silent {
-			t.Errorf("%d: %v, %b", at, rows.Unknown, rows.Silent)
+		if rows.Unknown["a"] != NeverTold || rows.Places[NeverTold] != silent {
+			t.Errorf("%d: %v, %v", at, rows.Unknown, rows.Places)
 		}
 	}
 }

@@ -26,6 +26,7 @@ const (
 	LeftOut    Why = "left-out"         // something of the name isn't audited
 	Moving     Why = "in-motion"        // it changed while it was looked at
 	OddName    Why = "odd-name"         // it isn't in Unicode's form NFC: a scan renames it, or passes it over
+	Case       Why = "case"             // another name differs from it by upper and lower case alone, and a disk takes both for one
 	Damaged    Why = "damaged"          // a disk fails to give what it has
 	NeverTold  Why = "never-told"       // a device may never tell a change of it
 	Copies     Why = "conflict-copies"  // it may come to have more conflict copies than are kept
@@ -36,7 +37,7 @@ const (
 )
 
 // AllWhys are all of them.
-var AllWhys = []Why{Absent, Unlinked, OverWire, Untried, Untold, Paused, Attributes, Writers, OtherIndex, Asked, LeftOut, Moving, OddName, Damaged, NeverTold, Copies,
+var AllWhys = []Why{Absent, Unlinked, OverWire, Untried, Untold, Paused, Attributes, Writers, OtherIndex, Asked, LeftOut, Moving, OddName, Case, Damaged, NeverTold, Copies,
 	Twins, TooMany, Budget, Endless}
 
 // Unknown is why it isn't known what comes of all names of a folder, and of which devices that is.
@@ -153,7 +154,7 @@ func (r *Rows) unknownAt(row *join.Row) Why {
 		if at.Own != nil && at.Own.Invalid && at.Own.Local == nil {
 			why = NeverTold
 		} else if r.isNeverTold(member, row) {
-			r.Silent |= 1 << member
+			r.Places[NeverTold] |= 1 << member
 			why = NeverTold
 		}
 	}
