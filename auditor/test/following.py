@@ -306,6 +306,7 @@ ADVICE = [
     (r"choose for the whole folder what stands above", nothing),
     (r"leave (?:it|them) so, or choose something for the whole folder, as another audit says", nothing),
     (r"nothing, if (?:it|they) may go\. If not, copy (?:it|them) elsewhere", save_all),
+    (r"nothing, if .* (?:is|are) to keep what others delete", nothing),
     (r"nothing, if the (?:changes?|older files?) (?:is|are) wanted", nothing),
     (r"nothing but the start with which the steps above end", nothing),
     (r"nothing: let Syncthing run on all", run_all),

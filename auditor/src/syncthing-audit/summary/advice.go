@@ -3,6 +3,7 @@ package summary
 import (
 	"golang.org/x/exp/slices"
 	"syncthing-audit/damage"
+	"syncthing-audit/forecast"
 	"syncthing-audit/lists"
 	"syncthing-audit/outlook"
 	"syncthing-audit/part"
@@ -52,21 +53,36 @@ func (f *File) beforeStart(named print.Names) []string {
 		}
 		return []string{"nothing, if the " + f.say("change is", "changes are") + " wanted"}
 	case f.foretold.is(outlook.Stays) && !f.isWithoutCopy():
-		return []string{f.toLeave()}
+		return []string{f.toLeave(named)}
 	}
 	return nil
 }
 
 // toLeave says what to do about a name that stays otherwise on some device.
-func (f *File) toLeave() string {
+func (f *File) toLeave(named print.Names) string {
 	it := f.say("it", "them")
-	switch {
+	switch on := f.ignoringDeletions(); {
+	case len(on) > 0 && f.has(func(fault *Fault) bool { return fault.Deletion }):
+		return "nothing, if " + named.All(on) + " is to keep what others delete. If " + f.say("it is", "they are") + " to go there, too, delete " + it + " there; or set the folder's " +
+			"option 'ignoreDelete' to false there, and Syncthing deletes there all that others have deleted. If all are to have " + it + " again, put " + it +
+			" on each of these devices, while Syncthing is stopped on all"
 	case f.hasChoice() && f.foretold.hasSteps:
 		return "leave " + it + " so, or choose something for the whole folder, as another audit says once the steps above are taken"
 	case f.hasChoice():
 		return "choose for the whole folder what stands above, behind 'to choose in', or leave " + it + " so"
 	}
 	return "copy elsewhere what is to stay. Then, while Syncthing is stopped on all of these devices, put what is wanted on each of them"
+}
+
+// ignoringDeletions gives the devices that keep the name since their folder's option has them ignore deletions.
+func (f *File) ignoringDeletions() []string {
+	devices := []string{}
+	for _, kept := range f.foretold.fate.Kept {
+		if kept.Why == forecast.IgnoresDeletions {
+			devices = print.AddOnce(devices, kept.Device)
+		}
+	}
+	return devices
 }
 
 // hasChoice says whether on a device that keeps the name otherwise than others something may be chosen for the whole folder.

@@ -20,10 +20,16 @@ import (
 	"syncthing-audit/print"
 )
 
-// foretellAll has an answer of rows say what happens if nobody does anything: all of its devices run 1.29.5 and share the folder.
-func foretellAll(answer *finding.Answer) {
+// ignoring is a device that sends and receives, and ignores deletions.
+const ignoring = "ignoring"
+
+// foretellAll has an answer of rows say what happens if nobody does anything: all of its devices run 1.29.5 and share the folder. More is configured of it by these.
+func foretellAll(answer *finding.Answer, configure ...func(*finding.Folder)) {
 	shareAll(answer)
 	for _, folder := range answer.Folders {
+		for _, change := range configure {
+			change(folder)
+		}
 		rows, names := read.NewRows(&join.Folder{ID: folder.ID, Members: folder.Members}), []string{}
 		for name := range folder.Rows {
 			names = append(names, name)
@@ -102,6 +108,9 @@ var foretoldSo = []struct {
 		"let Syncthing run"},
 	{"deleted", []*part.Name{with(with(file(2, 2), again), absent), file(1, 1)}, []string{"RecordDiffers 2", "StoreDiffers 2"}, "send-receive",
 		[]string{"to do: nothing, if it may go. If not, copy it elsewhere before Syncthing starts on any of these devices"}, "isn't known"},
+	{"deleted, and the device ignores deletions", []*part.Name{with(with(file(2, 2), again), absent), file(1, 1)}, []string{"RecordDiffers 2", "StoreDiffers 2"}, ignoring,
+		[]string{"1 name on server: by the folder's option 'ignoreDelete' it takes no deletions", "to do: nothing, if server is to keep what others delete. If it is to go there, too, delete it there; or set the folder's option 'ignoreDelete' to false there"},
+		"copy elsewhere what is to stay"},
 	{"behind on a device that only sends", []*part.Name{file(2, 2), file(1, 1)}, []string{"RecordDiffers 2", "StoreDiffers 2"}, sendOnly,
 		[]string{"to choose in docs (Documents) on server", "server keeps what it has (server: it only sends", "to do: choose for the whole folder what stands above"}, "to do: nothing"},
 	{"a local change", []*part.Name{file(1, 1), local(file(2, 2), onFirst...)}, []string{"LocalOnly 2"}, receiveOnly,
@@ -113,9 +122,12 @@ func TestAnEntrySaysWhatIsForetold(t *testing.T) {
 	for _, row := range foretoldSo {
 		answer := answerOf(2, func(folder *finding.Folder) {
 			folder.Members[1].About.Kind = row.kind
+			if row.kind == ignoring {
+				folder.Members[1].About.Kind = "send-receive"
+			}
 			fails(folder, "a", row.row, row.reasons...)
 		})
-		foretellAll(answer)
+		foretellAll(answer, func(folder *finding.Folder) { folder.Members[1].About.Options.IgnoresDeletions = row.kind == ignoring })
 		text := printed(answer)
 		for _, has := range row.has {
 			if !strings.Contains(text, has) {
