@@ -8,6 +8,7 @@ import subprocess
 import tempfile
 import time
 import unittest
+from hashlib import sha256
 from pathlib import Path
 
 from syncthing import FOLDER, SECONDS_TO_WAIT, Device, programs, wait_until_in_step
@@ -91,7 +92,7 @@ def put_replies(documents):
     for document in documents.glob("cut-*.json"):
         replies = [subprocess.run([auditor(), *words], input=document.read_bytes(), capture_output=True).stdout
                    for words in (["check", "--certify"], ["explain", "--certify"], ["firm", "--certify"], ["converge"])]
-        document.with_suffix(".reply").write_bytes(b"".join(replies))
+        document.with_suffix(".reply").write_bytes(b"".join([f"{sha256(document.read_bytes()).hexdigest()}  -\n".encode(), *replies]))
 
 
 def is_on_firmness(line):

@@ -21,6 +21,7 @@ import sys
 import tempfile
 import time
 from concurrent.futures import ThreadPoolExecutor
+from hashlib import sha256
 from pathlib import Path
 from statistics import linear_regression
 
@@ -195,7 +196,7 @@ def answer(document, auditor):
     """Has an exported document answered, as `sum` wants it."""
     answers = [subprocess.run([auditor, *words], input=document.read_bytes(), stdout=subprocess.PIPE).stdout
                for words in (["check", "--certify"], ["explain", "--certify"], ["firm", "--certify"], ["converge"])]
-    document.with_suffix(".reply").write_bytes(b"".join(answers))
+    document.with_suffix(".reply").write_bytes(b"".join([f"{sha256(document.read_bytes()).hexdigest()}  -\n".encode(), *answers]))
 
 
 def measure_sum(room, asked):

@@ -1,6 +1,8 @@
 package command
 
 import (
+	"crypto/sha256"
+	"fmt"
 	"io"
 	"os"
 	"path/filepath"
@@ -21,7 +23,11 @@ const (
 // reply puts the answer to an exported document beside it.
 func reply(t *testing.T, room, text string) {
 	t.Helper()
-	if err := os.WriteFile(filepath.Join(room, "cut-0001.reply"), []byte(text), 0o600); err != nil {
+	written, err := os.ReadFile(filepath.Join(room, "cut-0001.json"))
+	if err == nil {
+		err = os.WriteFile(filepath.Join(room, "cut-0001.reply"), []byte(fmt.Sprintf("%x  -\n%s", sha256.Sum256(written), text)), 0o600)
+	}
+	if err != nil {
 		t.Fatal(err)
 	}
 }

@@ -50,8 +50,8 @@ Says whether Syncthing devices are in step and, if they aren't, which device is 
   report  writes a page to look at: of what the nights of watch left, or of an answer to homes and parts as check has it
   part --begin, --end  make the two looks one by one: begin on all devices, then end on all, then check
   export  writes the check documents of such an answer, for 'syncaudit certify' and 'syncaudit check'
-  sum     joins the answers to exported documents, cut-0001.reply and so on: what 'syncaudit check', then
-          'syncaudit explain' and then 'syncaudit firm' write of each
+  sum     joins the answers to exported documents, cut-0001.reply and so on: what sha256sum, 'syncaudit check', 'syncaudit explain',
+          'syncaudit firm' and 'syncaudit converge' write of each, one after another
   find    looks in directories, such as backups, for files with the bytes that a history has of a name: those before they changed on
           all devices under one time, or else those that were read last
   wanted  says that the files were wanted to go which the audit of TIME found gone: that isn't told any more. What goes later is

@@ -1,7 +1,9 @@
 package exported
 
 import (
+	"crypto/sha256"
 	"errors"
+	"fmt"
 	"io"
 	"os"
 	"path/filepath"
@@ -38,6 +40,15 @@ func answer(t *testing.T, directory, name, text string) {
 	}
 }
 
+// reply writes the answer to an exported document, behind the sum of that.
+func reply(t *testing.T, directory, document, text string) {
+	written, err := os.ReadFile(filepath.Join(directory, document+".json"))
+	if err != nil {
+		t.Fatal(err)
+	}
+	answer(t, directory, document+".reply", fmt.Sprintf("%x  -\n%s", sha256.Sum256(written), text))
+}
+
 // Answers to a document of one name.
 const (
 	counts    = "folder docs: 1 names, 0 deleted, 1 devices"
@@ -60,11 +71,11 @@ func TestAnExportAndItsSum(t *testing.T) {
 		if err != nil || !strings.HasPrefix(string(text), `{"Found":{`) {
 			t.Errorf("%v, %.40s", err, text)
 		}
-		answer(t, directory, "cut-0001.reply", settled)
+		reply(t, directory, "cut-0001", settled)
 		if _, err := SumOf(directory); err == nil || !strings.HasPrefix(err.Error(), "refused: a document has no answer yet: ") {
 			t.Errorf("a sum of one of two answers: %v", err)
 		}
-		answer(t, directory, "cut-0002.reply", unsettled)
+		reply(t, directory, "cut-0002", unsettled)
 		sum, err := SumOf(directory)
 		if err != nil {
 			t.Fatal(err)
@@ -99,6 +110,10 @@ func TestWhatHasNoSum(t *testing.T) {
 		"no JSON":                     {RestName, func(text string) string { return text[1:] }, "rest.jsonl isn't what 'export' writes: "},
 		"no answer":                   {RestName, func(string) string { return "{}\n" }, "rest.jsonl isn't what 'export' writes: a program of 0.17 or before made it: make the export anew"},
 		"the first line alone":        {RestName, func(text string) string { return strings.SplitAfter(text, "\n")[0] }, "rest.jsonl isn't what 'export' writes: unexpected EOF"},
+		"an export of before":         {RestName, func(text string) string { return strings.Replace(text, `"Sum":"`, `"Was":"`, 1) }, "rest.jsonl isn't what 'export' writes: a program of 0.21 or before made it: make the export anew"},
+		"an answer to no document":    {"cut-0001.reply", func(string) string { return settled }, "cut-0001.reply: it doesn't begin with the SHA-256 of its document, as 'sha256sum < cut-0001.json' writes it: it may be the answer to another one"},
+		"an answer to another one":    {"cut-0001.reply", func(text string) string { return fmt.Sprintf("%x%s", sha256.Sum256([]byte("x")), text[64:]) }, "cut-0001.reply: it doesn't begin with the SHA-256 of its document"},
+		"an answer of a sum alone":    {"cut-0001.reply", func(text string) string { return text[:67] }, "cut-0001.reply: "},
 		"an answer of no syncaudit":   {"cut-0001.reply", func(string) string { return "x" }, "cut-0001.reply: "},
 		"an answer to another folder": {"cut-0001.reply", func(text string) string { return strings.ReplaceAll(text, "docs", "pics") }, "cut-0001.reply: "},
 	} {
@@ -106,7 +121,7 @@ func TestWhatHasNoSum(t *testing.T) {
 		if _, _, err := exportOf(t, 1, choice.Names{}, directory, io.Discard); err != nil {
 			t.Fatal(err)
 		}
-		answer(t, directory, "cut-0001.reply", settled)
+		reply(t, directory, "cut-0001", settled)
 		path := filepath.Join(directory, row.name)
 		text, err := os.ReadFile(path)
 		if err != nil {
@@ -317,7 +332,7 @@ func TestAnExportWithoutADevice(t *testing.T) {
 			}
 			continue
 		}
-		answer(t, directory, "cut-0001.reply", settled)
+		reply(t, directory, "cut-0001", settled)
 		sum, err := SumOf(directory)
 		if err != nil || len(sum.LeftOut) != 1 || !strings.Contains(sum.LeftOut[0].Device+sum.LeftOut[0].Why, none) || !strings.Contains(log.String(), "It is left out") {
 			t.Errorf("%s: %+v, %v, %s", what, sum, err, log.String())

@@ -9,6 +9,7 @@ import (
 	"path/filepath"
 
 	"syncthing-audit/finding"
+	"syncthing-audit/part"
 	"syncthing-audit/regular"
 )
 
@@ -25,7 +26,8 @@ type exported struct {
 // exportedDocument is one of the documents.
 type exportedDocument struct {
 	File, Folder string
-	Own          string `json:",omitempty"` // as join.Folder has it
+	Own          string    `json:",omitempty"` // as join.Folder has it
+	Sum          part.Hash // of its bytes: with it begins the answer to this document, and to no other one
 }
 
 // write writes what no document says.
@@ -63,6 +65,11 @@ func (e *exported) readFrom(lines *json.Decoder) error {
 	}
 	if e.Found == nil {
 		return errors.New("a program of 0.17 or before made it: make the export anew")
+	}
+	for _, document := range e.Documents {
+		if document.Sum == (part.Hash{}) {
+			return errors.New("a program of 0.21 or before made it: make the export anew")
+		}
 	}
 	return e.Found.ReadLists(lines)
 }

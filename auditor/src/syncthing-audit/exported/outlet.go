@@ -1,6 +1,7 @@
 package exported
 
 import (
+	"crypto/sha256"
 	"errors"
 	"fmt"
 	"io"
@@ -66,7 +67,7 @@ func (o *outlet) take(next *rows.Piece) error {
 		return nil
 	}
 	name := fmt.Sprintf("cut-%04d.json", o.count)
-	o.written = append(o.written, exportedDocument{name, next.Folder, next.Own})
+	o.written = append(o.written, exportedDocument{name, next.Folder, next.Own, sha256.Sum256(next.Written)})
 	return o.writeNew(name, func(to io.Writer) error {
 		_, err := to.Write(next.Written)
 		return err

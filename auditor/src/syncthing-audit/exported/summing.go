@@ -40,7 +40,13 @@ func replyTo(directory string, entry exportedDocument) (*ask.Reply, error) {
 	if err != nil {
 		return nil, fmt.Errorf("refused: a document has no answer yet: %w", err)
 	}
-	reply, err := ask.ReadReply(entry.Folder, string(text))
+	var reply *ask.Reply
+	sum, answers, _ := strings.Cut(string(text), "\n")
+	if digits, _, _ := strings.Cut(sum, " "); digits == entry.Sum.String() {
+		reply, err = ask.ReadReply(entry.Folder, answers)
+	} else {
+		err = fmt.Errorf("it doesn't begin with the SHA-256 of its document, as 'sha256sum < %s' writes it: it may be the answer to another one", filepath.Base(entry.File))
+	}
 	if err != nil {
 		return nil, fmt.Errorf("refused: %s: %w", path, err)
 	}
