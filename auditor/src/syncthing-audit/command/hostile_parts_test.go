@@ -119,7 +119,7 @@ func halvedParts(device byte) []*hostile {
 // observedParts gives the part of a device that was asked over the wire.
 func observedParts(device byte) []*hostile {
 	head := headOfHostile(device)
-	head.Index, head.Newer, head.Others, head.Folders[0].Paused = nil, nil, nil, false
+	head.Index, head.Newer, head.Others, head.Folders[0].Paused, head.Folders[0].Options = nil, nil, nil, false, nil
 	head.Wire, head.Version = part.NewWire(idOf(9), false), part.VersionOfWire
 	head.Wire.Without = []part.Without{{Folder: "photos", Why: "it isn't shared"}}
 	id := strings.Repeat("0", 32)

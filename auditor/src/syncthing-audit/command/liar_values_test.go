@@ -32,9 +32,9 @@ func placesOfLies(t *testing.T, text string) [][2]int {
 // Whatever one part says in place of any of its values, where there is an answer it tells the rot that another device tells of itself.
 func TestNoValueOfAPartHidesAFaultOfAnother(t *testing.T) {
 	fixture.UseAuditor(t)
-	answered, out := 0, 0
+	out := 0
 	for called, make := range map[string]func(device byte) []*hostile{"stopped": stoppedParts, "running": runningParts, "observed": observedParts, "halved": halvedParts} {
-		room := t.TempDir()
+		room, answered := t.TempDir(), 0
 		parts := writtenParts(t, filepath.Join(room, "1"), make(1))
 		liar := writtenParts(t, filepath.Join(room, "2"), make(2))
 		for at, lying := range make(2) {
@@ -55,8 +55,11 @@ func TestNoValueOfAPartHidesAFaultOfAnother(t *testing.T) {
 			}
 			lying.write(t, liar[at])
 		}
+		if answered < 50 {
+			t.Errorf("%s: only %d parts have an answer", called, answered)
+		}
 	}
-	if answered < 500 || out == 0 {
-		t.Errorf("of %d answers %d are without the device as one of several", answered, out)
+	if out == 0 {
+		t.Error("no part leaves the other device out")
 	}
 }
