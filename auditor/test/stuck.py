@@ -199,7 +199,10 @@ class ADirectoryInPlaceOfADeletedFile(Behind):
 
 
 class HoldsWhatIsIgnored(Exporting):
-    """One device deletes directories in which the other one has what its .stignore keeps out: with (?d), so that it goes with the directory, and without."""
+    """One device deletes directories in which the other one has what its .stignore keeps out: with (?d), so that it goes with the directory, or as Syncthing
+    tries to delete that; and without."""
+
+    ignored = {"goes": {"names": 3, "bytes": 9}, "stays": {"names": 1, "bytes": 4}}
 
     @classmethod
     def synchronise(cls):
@@ -212,8 +215,9 @@ class HoldsWhatIsIgnored(Exporting):
     def setUpClass(cls):
         super().setUpClass()
         (cls.two.files / ".stignore").write_text("(?d)*.cache\n*.keep\n")
-        (cls.two.files / "goes/a.cache").write_text("")
-        (cls.two.files / "stays/a.keep").write_text("to stay")
+        (cls.two.files / "goes/b.cache").mkdir()
+        for name, text in (("goes/a.cache", "some"), ("goes/b.cache/below", "other"), ("stays/a.keep", "to stay"), ("stays/a.cache", "some")):
+            (cls.two.files / name).write_text(text)
         for name in ("goes", "stays"):
             shutil.rmtree(cls.one.files / name)
         cls.one.start()
@@ -223,6 +227,13 @@ class HoldsWhatIsIgnored(Exporting):
     def test_what_is_told_comes_so(self):
         fates = self.foretold()
         self.assertEqual([kept["why"] for kept in fates["stays"]["kept"]], ["has-ignored"])
+        lost = {name: [(thing["devices"], thing["ignored"]) for thing in fates[name]["loses"]] for name in self.ignored}
+        self.assertEqual(lost, {name: [([self.two.id], count)] for name, count in self.ignored.items()})
+        ran = self.on_homes("check", [device.home for device in self.devices], "--syncaudit", self.auditor)
+        two = self.two.id[:7]
+        self.assertIn(f"\n    goes: 3 names (9 bytes) that .stignore ignores with (?d) on {two}; then no device's folder has it; {two} keeps no old versions\n", ran.stdout)
+        self.assertRegex(ran.stdout, rf"(?m)^  for goes stays:\n    1\. on {two}: copy each elsewhere, if it is to stay")
+        self.assertIn(f"no device has it then; with it 3 names (9 bytes) that .stignore ignores with (?d) on {two} go.", " ".join(ran.stdout.split()))
         self.start()
         wait_until("the one is deleted, and the other one fails", lambda: not (self.two.files / "goes").exists() and self.fails("stays"))
         self.stop()

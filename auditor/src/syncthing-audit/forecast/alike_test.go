@@ -108,7 +108,7 @@ func sortedEnds(answer Answer) []string {
 				return all[a].Device < all[b].Device || all[a].Device == all[b].Device && (all[a].Name < all[b].Name || all[a].Name == all[b].Name && all[a].Why < all[b].Why)
 			})
 		}
-		text := fmt.Sprint(end.Stuck, end.Apart, end.Versions)
+		text := fmt.Sprint(end.Stuck, end.Apart, end.Versions, end.Dropped)
 		for i, disk := range end.Disks {
 			var things []string
 			for _, place := range disk {
@@ -139,6 +139,9 @@ func TestOneStandsForAllThatAreAlike(t *testing.T) {
 		world := manyAlike(random)
 		commands := randomCommands(world.Devices, random)
 		world.Devices[seed%2].Versions = VersionsKept
+		for place := range world.Names {
+			world.Names[place].Ignored = []Ignored{{Names: seed % 3}, {Names: 1}}
+		}
 		found := New(Budget{States: 400, Walks: 1, Total: 10000}).OfGroup(world.Devices, world.Copied().Names, commands...)
 		if !found.IsAll {
 			continue

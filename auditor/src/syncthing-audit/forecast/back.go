@@ -92,7 +92,7 @@ type back struct {
 
 func (b *back) name(s *state, n int, names []Name) Name {
 	count := len(s.devices)
-	name := Name{Name: b.nameOf(n, names), Own: make([]*Record, count), Views: make([][]*Record, count), Disk: make([]*Node, count), Holds: b.names[n].holds}
+	name := Name{Name: b.nameOf(n, names), Own: make([]*Record, count), Views: make([][]*Record, count), Disk: make([]*Node, count), Holds: b.names[n].holds, Ignored: b.ignored(s, n, names)}
 	for i := range s.devices {
 		name.Views[i] = make([]*Record, count)
 		name.Own[i] = b.record(s.own(i, n))
@@ -108,6 +108,20 @@ func (b *back) name(s *state, n int, names []Name) Name {
 		}
 	}
 	return name
+}
+
+// ignored gives what .stignore keeps out with (?d), where it didn't go.
+func (b *back) ignored(s *state, n int, names []Name) []Ignored {
+	if b.names[n].drops == 0 {
+		return nil
+	}
+	left := append([]Ignored{}, names[n].Ignored...)
+	for i := range left {
+		if s.get(s.pastCell(i, n))&isDropped != 0 {
+			left[i] = Ignored{}
+		}
+	}
+	return left
 }
 
 // nameOf gives a name, or one as Syncthing gives it to a conflict copy.

@@ -74,6 +74,7 @@ func (p *pull) removeDirectory(n int) Why {
 	if p.place(p.i, n) == belowSomethingElse {
 		return BelowNoDirectory
 	}
+	p.drop(n)
 	why := NoReason
 	if p.names[n].holds.Has(p.i) {
 		why = HasIgnored

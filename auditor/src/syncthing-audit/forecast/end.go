@@ -4,6 +4,8 @@ import (
 	"encoding/binary"
 	"math"
 	"sort"
+
+	"syncthing-audit/lists"
 )
 
 // Now is the time of what Syncthing or a scan makes later.
@@ -15,6 +17,7 @@ type End struct {
 	Stuck []Stuck
 	Apart []Stuck // names that a device needs nothing of, and keeps otherwise than others may have them
 
+	Dropped  []At `json:",omitempty"` // directories of which what .stignore keeps out with (?d) went on the way
 	Versions []At `json:",omitempty"` // files that stood there at first, and went to the device's old versions on the way
 }
 
@@ -50,6 +53,7 @@ type numbered struct {
 	names []int
 	apart []noted
 
+	dropped  []noted
 	versions []noted
 }
 
@@ -61,7 +65,7 @@ type placed struct {
 
 // numberedEnd gives the end that a state is.
 func (s *state) numberedEnd(count int) numbered {
-	end := numbered{disks: make([][]placed, len(s.devices)), apart: s.apart(count), versions: s.keptVersions(count)}
+	end := numbered{disks: make([][]placed, len(s.devices)), apart: s.apart(count), dropped: s.pastOf(isDropped, count), versions: s.pastOf(isArchived, count)}
 	for i := range s.devices {
 		for n := range s.names {
 			if what := s.at(i, n); what.isThere() {
@@ -158,8 +162,11 @@ func (n *numbered) key() string {
 	for _, apart := range n.apart {
 		note(apart.device, apart.n, apart.why)
 	}
-	for _, kept := range n.versions {
-		note(kept.device, kept.n, kept.why)
+	for _, past := range [][]noted{n.dropped, n.versions} {
+		put(int64(len(past)))
+		for _, at := range past {
+			note(at.device, at.n, at.why)
+		}
 	}
 	return string(text)
 }
@@ -179,8 +186,12 @@ func (l *loader) end(from *numbered, names []Name) End {
 	for _, noted := range from.apart {
 		end.Apart = append(end.Apart, Stuck{Device: noted.device, Name: names[noted.n].Name, Why: noted.why})
 	}
-	for _, noted := range from.versions {
-		end.Versions = append(end.Versions, At{Device: noted.device, Name: names[noted.n].Name})
+	at := func(noted noted) At { return At{Device: noted.device, Name: names[noted.n].Name} }
+	if len(from.dropped) > 0 {
+		end.Dropped = lists.Each(from.dropped, at)
+	}
+	if len(from.versions) > 0 {
+		end.Versions = lists.Each(from.versions, at)
 	}
 	return end
 }

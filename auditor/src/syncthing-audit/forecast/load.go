@@ -55,6 +55,7 @@ func newLoader(devices []Device, names []Name) *loader {
 	l := &loader{machine: newMachine(devices), contents: map[Content]int32{}, targets: map[string]int32{},
 		sizeOf: map[int64]int64{0: 0}, content: make([]Content, 1), target: make([]string, 1)}
 	l.nameAll(names)
+	l.keepPast()
 	l.rankTimes(names)
 	l.rankCounters(names)
 	return l
@@ -66,7 +67,7 @@ func (l *loader) nameAll(names []Name) {
 		places[names[place].Name] = place
 	}
 	for place := range names {
-		added := name{parent: -1, root: place, isCopy: isConflictCopy(names[place].Name), holds: names[place].Holds}
+		added := name{parent: -1, root: place, isCopy: isConflictCopy(names[place].Name), holds: names[place].Holds, drops: names[place].ignores()}
 		for above := path.Dir(names[place].Name); above != "."; above = path.Dir(above) {
 			if found, is := places[above]; is {
 				added.parent = found

@@ -21,6 +21,7 @@ type machine struct {
 	sizes         []int64 // of each content
 	nameCells     int
 	drawn         map[int]bool // names for which something was drawn
+	hasPast       bool         // whether states tell what no disk shows
 	first         map[int]node // what stood on the disks at first, by their cells
 }
 
@@ -32,6 +33,7 @@ type name struct {
 	node   int32
 	device int
 	holds  Places
+	drops  Places // devices on which something of it goes that .stignore keeps out with (?d)
 }
 
 type copyKey struct {
@@ -67,9 +69,6 @@ func newMachine(devices []Device) *machine {
 	m.vectors, m.records, m.nodes, m.lists, m.sizes = make([][]Counter, 1), make([]record, 1), make([]node, 1), make([]list, 1), make([]int64, 1)
 	m.vectorNumbers[""] = 0
 	m.nameCells = len(devices) * (4 + len(devices))
-	if hasPast(devices) {
-		m.nameCells += len(devices)
-	}
 	return m
 }
 

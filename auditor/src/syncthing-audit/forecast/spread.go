@@ -10,13 +10,16 @@ import (
 type spreading struct {
 	disks        []map[string][]Place
 	stuck, apart map[string][]Stuck
-	versions     map[string][]At
+	past         [2]map[string][]At
 }
 
 func newSpreading(end *End) *spreading {
-	s := &spreading{stuck: byName(end.Stuck), apart: byName(end.Apart), versions: map[string][]At{}}
-	for _, at := range end.Versions {
-		s.versions[at.Name] = append(s.versions[at.Name], at)
+	s := &spreading{stuck: byName(end.Stuck), apart: byName(end.Apart)}
+	for place, all := range [][]At{end.Dropped, end.Versions} {
+		s.past[place] = map[string][]At{}
+		for _, at := range all {
+			s.past[place][at.Name] = append(s.past[place][at.Name], at)
+		}
 	}
 	for _, disk := range end.Disks {
 		standing := map[string][]Place{}
@@ -45,8 +48,10 @@ func (s *spreading) add(alike *likeness) {
 				disk[to] = append(disk[to], Place{to, place.IsCopy, alike.from.as(alike.to, place.Node)})
 			}
 		}
-		for _, at := range s.versions[from] {
-			s.versions[to] = append(s.versions[to], At{at.Device, to})
+		for _, past := range s.past {
+			for _, at := range past[from] {
+				past[to] = append(past[to], At{at.Device, to})
+			}
 		}
 		rename := func(stuck Stuck) Stuck { return Stuck{stuck.Device, to, stuck.Why} }
 		for _, of := range []map[string][]Stuck{s.stuck, s.apart} {
@@ -67,9 +72,11 @@ func (s *spreading) end(names []string) End {
 	}
 	for _, name := range names {
 		end.Stuck, end.Apart = append(end.Stuck, s.stuck[name]...), append(end.Apart, s.apart[name]...)
-		end.Versions = append(end.Versions, s.versions[name]...)
+		end.Dropped, end.Versions = append(end.Dropped, s.past[0][name]...), append(end.Versions, s.past[1][name]...)
 	}
-	sort.SliceStable(end.Versions, func(a, b int) bool { return end.Versions[a].Device < end.Versions[b].Device })
+	for _, all := range [][]At{end.Dropped, end.Versions} {
+		sort.SliceStable(all, func(a, b int) bool { return all[a].Device < all[b].Device })
+	}
 	for _, all := range [][]Stuck{end.Stuck, end.Apart} {
 		sort.SliceStable(all, func(a, b int) bool { return all[a].Device < all[b].Device })
 	}

@@ -94,6 +94,21 @@ type Name struct {
 	Views [][]*Record // Views[i][j] is what device i knows of device j
 	Disk  []*Node
 	Holds Places `json:",omitempty"` // devices on whose disks the directory has something that .stignore keeps out, and that doesn't go with it
+
+	Ignored []Ignored `json:",omitempty"` // of each device, if of any: what .stignore keeps out with (?d) in the directory on its disk
+}
+
+// Ignored counts names that Syncthing deletes with their directory, or as it tries to delete that.
+type Ignored struct{ Names, Bytes int64 }
+
+// ignores gives the devices on whose disks there are such names.
+func (n *Name) ignores() (places Places) {
+	for place := range n.Ignored {
+		if n.Ignored[place].Names > 0 {
+			places |= 1 << place
+		}
+	}
+	return places
 }
 
 // Record is an entry of an index.

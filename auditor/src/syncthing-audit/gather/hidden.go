@@ -3,7 +3,6 @@ package gather
 import (
 	"bytes"
 	"fmt"
-	"path"
 	"sort"
 
 	"syncthing-audit/disk"
@@ -19,17 +18,9 @@ type hidden struct {
 }
 
 // hide keeps a name back until all others are told.
-func (m *merge) hide(line *part.Name) {
-	m.hold(string(line.Name))
+func (m *merge) hide(line *part.Name, isDeletable bool) {
+	m.held.Take(string(line.Name), line.Disk.Size, isDeletable, func(name string) bool { return m.patterns.Match(name).IsIgnored() })
 	m.hidden = append(m.hidden, hidden{part.HiddenName(m.folder, string(line.Name)), line.Disk.Size, 0})
-}
-
-// hold notes the directory in which an ignored name stands, if Syncthing doesn't delete the name with it. A directory that is ignored itself isn't told.
-func (m *merge) hold(name string) {
-	above := path.Dir(name)
-	if above != "." && !m.patterns.Match(name).IsDeletable() && !m.patterns.Match(above).IsIgnored() {
-		m.holding[above] = true
-	}
 }
 
 // hideLong does so with a name that is too long. What an index has of it is left out with it.

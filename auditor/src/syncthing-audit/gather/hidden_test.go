@@ -116,27 +116,32 @@ func (p patterned) Patterns() (*ignore.Matcher, error) {
 // A part says which directories hold what .stignore keeps out and Syncthing doesn't delete with them, but for directories that are ignored themselves.
 func TestDirectoriesThatHoldWhatIsIgnored(t *testing.T) {
 	room := t.TempDir()
-	for _, name := range []string{"keeps/a.log", "keeps/sub/b.log", "drops/a.cache", "both/a.cache", "both/b.log", "free/a", "ignored/in/deep", "ignored/kept", "whole/ignored/a"} {
+	for _, name := range []string{"keeps/a.log", "keeps/sub/b.log", "drops/a.cache", "both/a.cache", "both/b.log", "free/a", "ignored/in/deep", "ignored/kept", "whole/ignored/a", "whole/x.cache/in/b", "odd/x.cache/keep", "top.cache"} {
 		if err := os.MkdirAll(filepath.Join(room, filepath.Dir(name)), 0o700); err != nil {
 			t.Fatal(err)
 		}
-		if err := os.WriteFile(filepath.Join(room, name), nil, 0o600); err != nil {
+		if err := os.WriteFile(filepath.Join(room, name), []byte("xyz"), 0o600); err != nil {
 			t.Fatal(err)
 		}
 	}
 	pool := disk.NewPool(1)
 	defer pool.Close()
-	read := &Device{Folders: []Folder{patterned{directory{room}, "(?d)*.cache\n!/ignored/kept\n*.log\n/ignored\n/whole/ignored\n"}}, Pool: pool}
+	read := &Device{Folders: []Folder{patterned{directory{room}, "keep\n(?d)*.cache\n!/ignored/kept\n*.log\n/ignored\n/whole/ignored\n"}}, Pool: pool}
 	var holding *part.Holding
+	var deletable *part.Deletable
 	if err := read.Run(read.Head(), func(line part.Line) error {
 		if line.End != nil {
-			holding = line.End.Holding
+			holding, deletable = line.End.Holding, line.End.Deletable
 		}
 		return nil
 	}); err != nil {
 		t.Fatal(err)
 	}
-	if due := (&part.Holding{Names: []part.Bytes{"both", "keeps", "keeps/sub", "whole"}}); !reflect.DeepEqual(holding, due) {
+	if due := (&part.Holding{Names: []part.Bytes{"both", "keeps", "keeps/sub", "odd", "whole"}}); !reflect.DeepEqual(holding, due) {
 		t.Errorf("%+v", holding)
+	}
+	if due := (&part.Deletable{In: []part.DeletableIn{{Directory: "both", Count: part.Count{Names: 1, Bytes: 3}}, {Directory: "drops", Count: part.Count{Names: 1, Bytes: 3}},
+		{Directory: "odd", Count: part.Count{Names: 1}}, {Directory: "whole", Count: part.Count{Names: 3, Bytes: 3}}}}); !reflect.DeepEqual(deletable, due) {
+		t.Errorf("%+v", deletable)
 	}
 }

@@ -27,7 +27,7 @@ type merge struct {
 	to       *disk.Queue
 	folder   string
 	hidden   []hidden
-	holding  map[string]bool // directories in which something is ignored that Syncthing doesn't delete with them
+	held     part.Held // in which directories these stand
 	toIgnore stignore.ToIgnore
 }
 
@@ -36,7 +36,7 @@ var errStopped = errors.New("stopped")
 
 // newMerge begins to read a folder.
 func newMerge(of *Device, folder Folder, about *part.Folder, patterns *ignore.Matcher, to *disk.Queue) *merge {
-	m := &merge{holding: map[string]bool{}, device: of, patterns: patterns, to: to, walker: of.walker(folder), hashed: disk.File{Disk: adapt.Directory(folder.Disk())}, folder: about.ID}
+	m := &merge{device: of, patterns: patterns, to: to, walker: of.walker(folder), hashed: disk.File{Disk: adapt.Directory(folder.Disk())}, folder: about.ID}
 	m.entries = append(m.entries, pull(func(take func(device.Entry) bool) error { return folder.Own(of.Names, take) }))
 	for _, view := range about.Views {
 		view := view
@@ -81,7 +81,8 @@ func (m *merge) run() error {
 
 // tellEnd writes what was counted on the way. Where some names alone were read, it isn't known where a link leads, and what is below a directory.
 func (m *merge) tellEnd(end *part.End) {
-	end.Temporary, end.Holding = &m.walker.Temporary, part.HoldingOf(m.holding)
+	end.Temporary = &m.walker.Temporary
+	m.held.Tell(end)
 	if m.device.Names.IsAll() {
 		m.toIgnore.End()
 		linked := m.walker.Linked()
@@ -127,7 +128,8 @@ func (m *merge) put(name string) bool {
 	if m.device.Look != nil {
 		line.Receiving = m.walker.StampOf(fs.TempName(name))
 	}
-	isMatched := m.patterns.Match(name).IsIgnored()
+	matched := m.patterns.Match(name)
+	isMatched := matched.IsIgnored()
 	if !isMatched {
 		notIgnoredNow(line)
 	}
@@ -135,7 +137,7 @@ func (m *merge) put(name string) bool {
 	case isMatched && !m.isTaken(line.Own):
 		line.Out = append(line.Out, ignored(line))
 		if !isIndexed && line.Disk != nil && len(line.Out) == 1 {
-			m.hide(line)
+			m.hide(line, matched.IsDeletable())
 			return true
 		}
 	case isMatched:

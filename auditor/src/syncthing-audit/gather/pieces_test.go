@@ -69,7 +69,7 @@ func TestHiddenNamesInTheirOrder(t *testing.T) {
 	long := strings.Repeat("x", part.MostNameBytes+1)
 	behind := part.Bytes(shell.BehindNames + "x")
 	for number := 0; number < 20; number++ {
-		m.hide(&part.Name{Name: part.Bytes(fmt.Sprint("a", number)), Disk: &part.Node{Size: int64(number)}})
+		m.hide(&part.Name{Name: part.Bytes(fmt.Sprint("a", number)), Disk: &part.Node{Size: int64(number)}}, false)
 	}
 	m.hideLong(&part.Name{Name: part.Bytes(long), Disk: &part.Node{Size: 5}, Out: []part.LeftOut{{Bytes: 3}, {Bytes: 7}, {Bytes: 6}}})
 	m.hideLong(&part.Name{Name: part.Bytes(long + "y"), Own: &part.Record{Content: &part.Content{Size: 4}}, Out: []part.LeftOut{{Bytes: 3}}})
@@ -97,7 +97,7 @@ func TestHiddenNamesInTheirOrder(t *testing.T) {
 			t.Errorf("%+v, not %+v", line, out)
 		}
 	}
-	m.hide(&part.Name{Name: "b", Disk: &part.Node{}})
+	m.hide(&part.Name{Name: "b", Disk: &part.Node{}}, false)
 	m.to.End(nil)
 	m.to.Stop()
 	if m.sendHidden() {

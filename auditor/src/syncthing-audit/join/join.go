@@ -34,11 +34,12 @@ type Member struct {
 	About *part.Folder
 	Near  int64 // how many of its files have another time than recorded, which its Syncthing takes for the same
 
-	Temporary *part.Count   // its names that Syncthing takes for its temporary files, as far as its part tells them
-	Linked    *part.Count   // its names of files that have links elsewhere, as far as its part tells them
-	Holding   *part.Holding // its directories that hold what .stignore keeps out, as far as its part tells them
-	ToIgnore  int64         // its directories whose records the next scan marks as ignored
-	Unseen    Unseen        // of a device that is seen over the wire
+	Temporary *part.Count     // its names that Syncthing takes for its temporary files, as far as its part tells them
+	Linked    *part.Count     // its names of files that have links elsewhere, as far as its part tells them
+	Holding   *part.Holding   // its directories that hold what .stignore keeps out, as far as its part tells them
+	Deletable *part.Deletable // and that hold what goes with them
+	ToIgnore  int64           // its directories whose records the next scan marks as ignored
+	Unseen    Unseen          // of a device that is seen over the wire
 }
 
 // Folder is a folder with those of its devices that are audited, their numbers rising.
@@ -251,7 +252,7 @@ func (f *Folder) finish() (int64, error) {
 		if err != nil {
 			return 0, err
 		}
-		member.Temporary, member.Linked, member.Holding, member.ToIgnore = end.Temporary, end.Linked, end.Holding, end.ToIgnore
+		member.Temporary, member.Linked, member.Holding, member.Deletable, member.ToIgnore = end.Temporary, end.Linked, end.Holding, end.Deletable, end.ToIgnore
 		total = part.Sum(total, end.Bytes)
 	}
 	return total, nil

@@ -102,7 +102,7 @@ func (s *Stream) Next() (part.Line, error) {
 	case line.End != nil && other.End != nil:
 		end := *line.End
 		end.Names, end.Max, end.Temporary, end.Linked, end.ToIgnore = s.names, other.End.Max, other.End.Temporary, other.End.Linked, other.End.ToIgnore
-		end.Holding = other.End.Holding
+		end.Holding, end.Deletable = other.End.Holding, other.End.Deletable
 		return s.take(part.Line{End: &end}), nil
 	case line.Begin != nil || other.Begin != nil:
 		return part.Line{}, fmt.Errorf("the folders of its two looks don't begin together")

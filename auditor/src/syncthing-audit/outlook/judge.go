@@ -52,6 +52,7 @@ func keptOf(end *forecast.End) map[string]map[int]forecast.Why {
 func (j *judge) name(name *forecast.Name) Name {
 	told := Name{Name: part.Bytes(name.Name), IsAll: j.answer.IsAll, Ends: j.endsOf(name), Loses: j.goesBy(name, byNothing), Kept: j.keptOf(name), Now: thingsNow(j.group.Devices, name)}
 	told.certain = j.losesWithoutMeeting(name, told.Loses)
+	told.Loses = append(told.Loses, j.dropped(name)...)
 	if lists.Has(told.Ends, isEmptyEnd) {
 		told.deleted = filesOf(j.goesBy(name, byRecord))
 	}

@@ -292,7 +292,10 @@ func (n *Name) isBefore(other *Name) bool {
 func (n *Name) bytesLost() int64 {
 	sum := int64(0)
 	for _, thing := range n.Loses {
-		sum += thing.Content.Size
+		sum = part.Sum(sum, thing.Content.Size)
+		if thing.Ignored != nil {
+			sum = part.Sum(sum, thing.Ignored.Bytes)
+		}
 	}
 	return sum
 }

@@ -246,7 +246,7 @@ func (n *Name) goes() []Thing {
 func savesOf(devices []forecast.Device, name *forecast.Name, things []Thing, kinds []damage.Kind) []Step {
 	var steps []Step
 	for _, thing := range things {
-		if !thing.isEmpty() {
+		if step := (Step{Act: Save, Device: thing.Devices[0]}); !thing.isEmpty() && !slices.Contains(steps, step) {
 			steps = append(steps, Step{Act: Save, Device: thing.Devices[0]})
 		}
 	}
@@ -270,10 +270,10 @@ func planOf(group *forecast.World, hand hand, found *advice.Plan, damaged map[st
 			plan.Copies = append(plan.Copies, thing.Devices...)
 		}
 	}
-	plan.Steps = savesOf(group.Devices, name, judge.goesBy(name, byNothing, byUnscanned), nil)
+	plan.Steps = savesOf(group.Devices, name, append(judge.goesBy(name, byNothing, byUnscanned), judge.dropped(name)...), nil)
 	for _, step := range found.Steps {
 		next := Step{Act: step.Act, Device: group.Devices[step.Device].ID}
-		if next.Act != Touch && !plan.does(Save, next.Device) && hasBelow(group, step.Device, name.Name) {
+		if next.Act != Touch && !plan.does(Save, next.Device) && (hasBelow(group, step.Device, name.Name) || holdsIgnored(group, step.Device, name.Name)) {
 			plan.Steps = append([]Step{{Act: Save, Device: next.Device}}, plan.Steps...)
 		}
 		if next.Act == Copy {

@@ -18,6 +18,7 @@ type Thing struct {
 	Target           part.Bytes    `json:"target,omitempty"`
 	Modified         *time.Time    `json:"modified,omitempty"` // of a file; none of what is made later
 	IsCopy           bool          `json:"copy,omitempty"`
+	Ignored          *part.Count   `json:"ignored,omitempty"`      // in place of a directory what .stignore keeps out there with (?d), which goes with it
 	Versions         []Versions    `json:"old_versions,omitempty"` // of what is lost or goes: of each device
 }
 
@@ -94,7 +95,8 @@ func (t Thing) IsSame(other Thing) bool { return t.IsLike(other) && t.IsCopy == 
 
 // IsLike says whether two things are alike, be one of them a copy.
 func (t Thing) IsLike(other Thing) bool {
-	return t.Type == other.Type && t.Content == other.Content && t.Target == other.Target
+	isIgnored := t.Ignored != nil && other.Ignored != nil && t.Devices[0] == other.Devices[0] || t.Ignored == nil && other.Ignored == nil
+	return isIgnored && t.Type == other.Type && t.Content == other.Content && t.Target == other.Target
 }
 
 func (t Thing) isEmpty() bool { return t.Type == forecast.File && t.Content.Size == 0 }

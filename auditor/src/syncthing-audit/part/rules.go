@@ -178,6 +178,9 @@ func (r *rules) finish(line *End) error {
 			return fmt.Errorf("folder %q ends with a count of names below 0", line.Folder)
 		}
 	}
+	if err := line.Deletable.check(); err != nil {
+		return fmt.Errorf("folder %q: %w", line.Folder, err)
+	}
 	r.in = nil
 	r.ended = line.Last
 	return nil

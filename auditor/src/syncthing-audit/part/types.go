@@ -188,10 +188,11 @@ type End struct {
 	Max    int64  `json:"max"`            // the greatest sequence now, to be that of the head
 	Last   bool   `json:"last,omitempty"` // no folder follows
 
-	Temporary *Count   `json:"temporary,omitempty"` // names that Syncthing takes for its temporary files; nothing where an older program made the part
-	Linked    *Count   `json:"linked,omitempty"`    // names of files that have links elsewhere; nothing where some names alone were read, or an older program made the part
-	Holding   *Holding `json:"holding,omitempty"`   // nothing where no directory holds such a name, or an older program made the part
-	ToIgnore  int64    `json:"to_ignore,omitempty"` // directories that .stignore ignores by now, and whose records the next scan marks
+	Temporary *Count     `json:"temporary,omitempty"` // names that Syncthing takes for its temporary files; nothing where an older program made the part
+	Linked    *Count     `json:"linked,omitempty"`    // names of files that have links elsewhere; nothing where some names alone were read, or an older program made the part
+	Holding   *Holding   `json:"holding,omitempty"`   // nothing where no directory holds such a name, or an older program made the part
+	Deletable *Deletable `json:"deletable,omitempty"` // nothing where none holds one that goes with it, or an older program made the part
+	ToIgnore  int64      `json:"to_ignore,omitempty"` // directories that .stignore ignores by now, and whose records the next scan marks
 }
 
 // Count is of names.

@@ -30,6 +30,11 @@ func Foretold(name *outlook.Name, devices []string, called Names, isMany bool) s
 	if len(ends) > 1 {
 		told = "one of several ends, by the order of what happens: " + told
 	}
+	for _, thing := range f.Loses {
+		if thing.Ignored != nil {
+			told += "; with it " + what(thing) + " on " + called(thing.Devices[0]) + oneOf(thing.Ignored.Names, " goes", " go") + inSome(len(f.Ends) > 1)
+		}
+	}
 	if words := f.reasons(); words != "" {
 		told += " (" + words + ")"
 	}

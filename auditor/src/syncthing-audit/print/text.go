@@ -115,6 +115,9 @@ func (p *Person) where(thing outlook.Thing) string {
 
 // what names a thing that stands on a disk.
 func what(thing outlook.Thing) string {
+	if thing.Ignored != nil {
+		return Counted(thing.Ignored.Names, "name", "names") + " (" + Size(thing.Ignored.Bytes) + ") that .stignore ignores with (?d)"
+	}
 	switch thing.Type {
 	case forecast.File:
 		return Size(thing.Content.Size)

@@ -4,7 +4,9 @@ import (
 	"strings"
 	"testing"
 
+	"syncthing-audit/forecast"
 	"syncthing-audit/outlook"
+	"syncthing-audit/part"
 )
 
 // kept gives a thing with what old versions of the devices on which it stands have of it then.
@@ -66,6 +68,23 @@ func TestOldVersionsStandWhereLossesDo(t *testing.T) {
 	if told := readBy(func(p *Person) { p.plans("docs", &of) }); !strings.HasSuffix(told, `
       a: 5 bytes on server (modified 2020-09-13 12:26:40 UTC), and the old versions of server then have it; 7 bytes on laptop (modified 2020-09-13 12:26:40 UTC), and laptop keeps no old versions
       `+noBackup) {
+		t.Error(told)
+	}
+}
+
+// What goes with a directory since .stignore ignores it so is told by its count, in the list and in the entry.
+func TestWhatGoesWithADirectory(t *testing.T) {
+	lost := kept(outlook.Thing{Devices: at(1), Type: forecast.Directory, Ignored: &part.Count{Names: 1, Bytes: 5}}, outlook.HaveNone)
+	name := outlook.Name{Name: "d", Fate: outlook.Lost, Loses: things(lost), Ends: ends(nil), IsAll: true}
+	told := readBy(func(p *Person) { p.lost(&outlook.Outlook{Lost: 1, Listed: []outlook.Name{name}}) })
+	if !strings.Contains(told, "\n    d: 1 name (5 bytes) that .stignore ignores with (?d) on server; then no device's folder has it; server keeps no old versions\n") {
+		t.Error(told)
+	}
+	if told := Foretold(&name, devices, strings.ToLower, false); told != "no device has it then; with it 1 name (5 bytes) that .stignore ignores with (?d) on server goes" {
+		t.Error(told)
+	}
+	name.Ends, lost.Ignored.Names = ends(nil, things(file(5, "aa", 1))), 2
+	if told := Foretold(&name, devices, strings.ToLower, false); !strings.Contains(told, "; with it 2 names (5 bytes) that .stignore ignores with (?d) on server go, in some order") {
 		t.Error(told)
 	}
 }

@@ -1,6 +1,7 @@
 package read
 
 import (
+	"reflect"
 	"testing"
 
 	"syncthing-audit/forecast"
@@ -10,15 +11,6 @@ import (
 
 // A world says which directories hold what .stignore keeps out. Where a device doesn't list all of them, nothing is known of its directories that aren't at rest.
 func TestDirectoriesThatHoldWhatIsIgnored(t *testing.T) {
-	deleted := func(name string) *join.Row {
-		return calm(name, func(row *join.Row) {
-			for _, at := range row.At {
-				at.Own.Type, at.Own.Content, at.Disk.Type, at.Disk.Contents = 1, nil, 1, nil
-				at.Views[0].Record.Type, at.Views[0].Record.Content = 1, nil
-			}
-			row.At[0].Own.Deleted, row.At[0].Own.Version, row.At[0].Own.Sequence, row.At[0].Disk = true, [][2]uint64{{1, 2}}, 10, nil
-		})
-	}
 	for more, why := range map[int64]Why{0: "", 3: LeftOut} {
 		folder := folderOf(2)
 		rows := NewRows(folder)
@@ -31,6 +23,37 @@ func TestDirectoriesThatHoldWhatIsIgnored(t *testing.T) {
 		}
 		if len(holds) != 2 || holds["empty"] != 0 || holds["full"] != 1<<1 || rows.Unknown["empty"] != why {
 			t.Errorf("%d more: %v, %v", more, holds, rows.Unknown)
+		}
+	}
+}
+
+// deleted gives a directory that the first device deleted.
+func deleted(name string) *join.Row {
+	return calm(name, func(row *join.Row) {
+		for _, at := range row.At {
+			at.Own.Type, at.Own.Content, at.Disk.Type, at.Disk.Contents = 1, nil, 1, nil
+			at.Views[0].Record.Type, at.Views[0].Record.Content = 1, nil
+		}
+		row.At[0].Own.Deleted, row.At[0].Own.Version, row.At[0].Own.Sequence, row.At[0].Disk = true, [][2]uint64{{1, 2}}, 10, nil
+	})
+}
+
+// A world says what goes with which directories. Where a device doesn't list all of them, nothing is known of those behind the ones that it lists.
+func TestWhatGoesWithDirectories(t *testing.T) {
+	for more, why := range map[int64]Why{0: "", 3: LeftOut} {
+		folder := folderOf(2)
+		rows := NewRows(folder)
+		for _, name := range []string{"before", "full", "last"} {
+			rows.Take(deleted(name))
+		}
+		folder.Members[1].Deletable = &part.Deletable{In: []part.DeletableIn{{Directory: "another", Count: part.Count{Names: 1}}, {Directory: "full", Count: part.Count{Names: 2, Bytes: 9}}}, More: more}
+		ignored := map[string][]forecast.Ignored{}
+		for _, name := range rows.World().Names {
+			ignored[name.Name] = name.Ignored
+		}
+		if len(ignored) != 3 || ignored["before"] != nil || ignored["last"] != nil || !reflect.DeepEqual(ignored["full"], []forecast.Ignored{{}, {Names: 2, Bytes: 9}}) ||
+			rows.Unknown["before"] != "" || rows.Unknown["full"] != "" || rows.Unknown["last"] != why {
+			t.Errorf("%d more: %v, %v", more, ignored, rows.Unknown)
 		}
 	}
 }

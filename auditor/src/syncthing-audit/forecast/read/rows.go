@@ -230,27 +230,48 @@ func (r *Rows) World() forecast.World {
 	return r.world
 }
 
-// addHolding adds on which disks directories hold what .stignore keeps out. Where a part doesn't list all of these, it isn't known of any directory there.
+// addHolding adds on which disks directories hold what .stignore keeps out. Where a part doesn't list all of these, it isn't known of directories there.
 func (r *Rows) addHolding() {
 	places := make(map[string]int, len(r.world.Names))
 	for place := range r.world.Names {
 		places[r.world.Names[place].Name] = place
 	}
 	for member := range r.members {
-		holding := r.members[member].Holding
-		if holding == nil {
-			continue
-		}
-		for _, name := range holding.Names {
-			if place, is := places[string(name)]; is {
-				r.world.Names[place].Holds |= 1 << member
+		if holding := r.members[member].Holding; holding != nil {
+			for _, name := range holding.Names {
+				if place, is := places[string(name)]; is {
+					r.world.Names[place].Holds |= 1 << member
+				}
 			}
+			r.notListed(member, holding.More, "")
 		}
-		for place := range r.world.Names {
-			name := &r.world.Names[place]
-			if what := name.Disk[member]; holding.More > 0 && what != nil && what.Type == forecast.Directory && r.risky[name.Name] {
-				r.Unknown[name.Name] = LeftOut
+		if deletable := r.members[member].Deletable; deletable != nil {
+			last := ""
+			for _, one := range deletable.In {
+				last = string(one.Directory)
+				if place, is := places[last]; is {
+					r.addIgnored(&r.world.Names[place], member, one.Count)
+				}
 			}
+			r.notListed(member, deletable.More, last)
+		}
+	}
+}
+
+// addIgnored adds what goes with a directory on a disk.
+func (r *Rows) addIgnored(name *forecast.Name, member int, count part.Count) {
+	if name.Ignored == nil {
+		name.Ignored = make([]forecast.Ignored, len(r.members))
+	}
+	name.Ignored[member] = forecast.Ignored{Names: count.Names, Bytes: count.Bytes}
+}
+
+// notListed notes that it isn't known of a device's directories behind a name what they hold, where there are more than its part lists.
+func (r *Rows) notListed(member int, more int64, last string) {
+	for place := range r.world.Names {
+		name := &r.world.Names[place]
+		if what := name.Disk[member]; more > 0 && name.Name > last && what != nil && what.Type == forecast.Directory && r.risky[name.Name] {
+			r.Unknown[name.Name] = LeftOut
 		}
 	}
 }
