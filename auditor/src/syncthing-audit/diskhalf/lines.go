@@ -60,6 +60,7 @@ type walking struct {
 	walker *disk.Walker
 	to     *disk.Queue
 	hidden []hiddenName
+	held   part.Held // in which directories names stand that .stignore ignores
 }
 
 // run puts all names into the queue: those that are told by a hash behind all others.
@@ -137,6 +138,8 @@ func (w *walking) hide(line *part.Name) {
 	if line.Disk != nil {
 		size = line.Disk.Size
 	}
+	patterns := w.folder.patterns
+	w.held.Take(string(line.Name), size, patterns.IsDeletable(string(line.Name)), patterns.IsIgnored)
 	hash := part.HiddenName(w.folder.ID, string(line.Name))
 	w.hidden = append(w.hidden, hiddenName{hash, &part.Name{Name: hash.Bytes(), Disk: &part.Node{Size: size},
 		Out: []part.LeftOut{{Kind: part.Ignored, Why: part.WhyIgnored, Bytes: size}}}})
@@ -152,6 +155,7 @@ func (w *walking) hideLong(line *part.Name) {
 // tellEnd writes what was counted on the way. Where some names alone were read, it isn't known where a link leads.
 func (w *walking) tellEnd(end *part.End) {
 	end.Temporary = &w.walker.Temporary
+	w.held.Tell(end)
 	if w.asked.Names.IsAll() && disk.TellsLinks {
 		linked := w.walker.Linked()
 		end.Linked = &linked

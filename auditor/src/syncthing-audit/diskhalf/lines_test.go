@@ -9,6 +9,7 @@ import (
 	"math/rand"
 	"os"
 	"path/filepath"
+	"reflect"
 	"runtime"
 	"sort"
 	"strings"
@@ -354,5 +355,37 @@ func TestMoreFlags(t *testing.T) {
 	}
 	if _, err := ReadCommand(words, nil); err == nil {
 		t.Error("a flag that no program has is read")
+	}
+}
+
+// The end of a folder says which directories hold what .stignore ignores, and what goes with them.
+func TestWhatDirectoriesHold(t *testing.T) {
+	room := roomWith(t, "goes/a.cache", "goes/x.cache/in", "stays/a.keep", "a.keep")
+	if err := os.WriteFile(filepath.Join(room, ".stignore"), []byte("(?d)*.cache\n*.keep\n"), 0o644); err != nil {
+		t.Fatal(err)
+	}
+	pool := disk.NewPool(1)
+	defer pool.Close()
+	var text bytes.Buffer
+	if _, err := Write(&text, askedFor(room), pool); err != nil {
+		t.Fatal(err)
+	}
+	reader, err := part.NewReader(&text)
+	if err != nil {
+		t.Fatal(err)
+	}
+	ends := 0
+	for line, err := reader.Next(); err == nil; line, err = reader.Next() {
+		if line.End == nil {
+			continue
+		}
+		ends++
+		holding, deletable := &part.Holding{Names: []part.Bytes{"stays"}}, &part.Deletable{In: []part.DeletableIn{{Directory: "goes", Count: part.Count{Names: 3, Bytes: 27}}}}
+		if !reflect.DeepEqual(line.End.Holding, holding) || !reflect.DeepEqual(line.End.Deletable, deletable) {
+			t.Errorf("%+v, %+v", line.End.Holding, line.End.Deletable)
+		}
+	}
+	if ends != 1 {
+		t.Error(ends)
 	}
 }

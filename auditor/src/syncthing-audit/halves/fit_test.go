@@ -109,10 +109,13 @@ func TestTheEndOfBothHalves(t *testing.T) {
 	wire, disks := giving(wireHead()), giving(diskHead("linux"))
 	wire.lines[1].End.Max, wire.lines[1].End.Bytes, wire.lines[1].End.Temporary = 9, 1, &part.Count{Names: 1}
 	disks.lines[1].End.Max, disks.lines[1].End.Bytes, disks.lines[1].End.Temporary, disks.lines[1].End.Linked = 0, 2, &part.Count{Names: 2}, &part.Count{Names: 3}
+	holding, deletable := &part.Holding{Names: []part.Bytes{"a"}}, &part.Deletable{In: []part.DeletableIn{{Directory: "b", Count: part.Count{Names: 1}}}}
+	disks.lines[1].End.Holding, disks.lines[1].End.Deletable = holding, deletable
+	due := &part.End{Folder: "docs", Last: true, Max: 9, Bytes: 2, Temporary: &part.Count{Names: 2}, Linked: &part.Count{Names: 3}, Holding: holding, Deletable: deletable}
 	stream, err := Join(wire, disks)
 	for err == nil {
 		var line part.Line
-		if line, err = stream.Next(); line.End != nil && !reflect.DeepEqual(line.End, &part.End{Folder: "docs", Last: true, Max: 9, Bytes: 2, Temporary: &part.Count{Names: 2}, Linked: &part.Count{Names: 3}}) {
+		if line, err = stream.Next(); line.End != nil && !reflect.DeepEqual(line.End, due) {
 			t.Errorf("%+v", line.End)
 		}
 	}

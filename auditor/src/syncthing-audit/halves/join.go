@@ -147,6 +147,7 @@ func (s *Stream) begin() {
 func (s *Stream) end(wire, disks *part.End) *part.End {
 	end := *wire
 	end.Names, end.Bytes, end.Temporary, end.Linked = s.names, disks.Bytes, disks.Temporary, disks.Linked
+	end.Holding, end.Deletable = disks.Holding, disks.Deletable
 	if s.head.Names.IsAll() {
 		s.toIgnore.End()
 		end.ToIgnore = s.toIgnore.Names

@@ -23,6 +23,8 @@ type pattern struct {
 	stars     int // and braces
 	isIgnored bool
 	foldsCase bool
+
+	isDeletable bool
 }
 
 // How many characters that stand for others a line may have, and all lines together. The package that compiles patterns takes the cube of a line's, and a
@@ -111,7 +113,7 @@ func (p *Patterns) add(line string, foldCase bool) error {
 	return nil
 }
 
-// takePrefixes takes what stands before a pattern, each once and in any order. What is deletable stays so, whichever names are kept out.
+// takePrefixes takes what stands before a pattern, each once and in any order.
 func (p *pattern) takePrefixes(line string) string {
 	seen := map[string]bool{}
 	for {
@@ -128,13 +130,27 @@ func (p *pattern) takePrefixes(line string) string {
 			p.isIgnored = false
 		case "(?i)":
 			p.foldsCase = true
+		case "(?d)":
+			p.isDeletable = true
 		}
 		line = line[len(prefix):]
 	}
 }
 
-// IsIgnored says whether a name is kept out: the first pattern that fits decides.
+// IsIgnored says whether a name is kept out.
 func (p *Patterns) IsIgnored(name string) bool {
+	fitting := p.fitting(name)
+	return fitting != nil && fitting.isIgnored
+}
+
+// IsDeletable says whether a name is kept out, and goes with its directory.
+func (p *Patterns) IsDeletable(name string) bool {
+	fitting := p.fitting(name)
+	return fitting != nil && fitting.isIgnored && fitting.isDeletable
+}
+
+// fitting gives the first pattern that fits a name, which decides; nothing where none does.
+func (p *Patterns) fitting(name string) *pattern {
 	lower := ""
 	for place := range p.patterns {
 		pattern := &p.patterns[place]
@@ -146,10 +162,10 @@ func (p *Patterns) IsIgnored(name string) bool {
 			text = lower
 		}
 		if pattern.fits(text) {
-			return pattern.isIgnored
+			return pattern
 		}
 	}
-	return false
+	return nil
 }
 
 // mostSteps is how many ways to place its stars in a name Syncthing's package may try.

@@ -35,12 +35,17 @@ func drawName(random *rand.Rand) string {
 
 // isIgnored says what Syncthing says of a name, or else this, where its package panics.
 func isIgnored(by *ignore.Matcher, name string, otherwise bool) (is bool) {
+	return asked(func() bool { return by.Match(name).IsIgnored() }, otherwise)
+}
+
+// asked says what Syncthing says, or else this, where its package panics.
+func asked(syncthing func() bool, otherwise bool) (is bool) {
 	defer func() {
 		if recover() != nil {
 			is = otherwise
 		}
 	}()
-	return by.Match(name).IsIgnored()
+	return syncthing()
 }
 
 // quickRoom gives a directory in memory, where there is one.
@@ -55,7 +60,7 @@ func quickRoom(t *testing.T) string {
 
 // Which names a .stignore keeps out is what Syncthing's own package says, with files that are included and lines that are none.
 func TestAsSyncthing(t *testing.T) {
-	random, fitted, refused, takes := rand.New(rand.NewSource(1)), 0, 0, 0
+	random, fitted, refused, takes, deletable := rand.New(rand.NewSource(1)), 0, 0, 0, 0
 	room := quickRoom(t)
 	for round := 0; round < 1500; round++ {
 		lines := [2][]string{}
@@ -100,8 +105,15 @@ func TestAsSyncthing(t *testing.T) {
 			if is != isIgnored(due, name, is) {
 				t.Fatalf("%q: %q is ignored: %v", read, name, is)
 			}
+			goes := patterns.IsDeletable(name)
+			if goes != asked(func() bool { return due.Match(name).IsDeletable() }, goes) {
+				t.Fatalf("%q: %q goes with its directory: %v", read, name, goes)
+			}
 			if is {
 				fitted++
+			}
+			if goes {
+				deletable++
 			}
 		}
 		if patterns.TakesIgnored() {
@@ -111,8 +123,8 @@ func TestAsSyncthing(t *testing.T) {
 			t.Fatalf("%q: a directory that is ignored may be taken: %v", read, patterns.TakesIgnored())
 		}
 	}
-	if fitted < 1000 || refused < 100 || takes < 20 {
-		t.Errorf("%d names fitted, %d files were none, %d take what is ignored", fitted, refused, takes)
+	if fitted < 1000 || refused < 100 || takes < 20 || deletable < 100 {
+		t.Errorf("%d names fitted, of which %d go with their directories, %d files were none, %d take what is ignored", fitted, deletable, refused, takes)
 	}
 }
 
