@@ -45,7 +45,13 @@ type reading struct {
 	lines []string
 	seen  map[string]bool
 	files map[string]bool
+	bytes int // of all files
 }
+
+// mostOfLines is how many bytes all files have together at most: other devices may send one that is included, and a part's head is to have room for the lines.
+const mostOfLines = 4 << 20
+
+var errManyLines = fmt.Errorf("it has over %d bytes, with what it includes", mostOfLines)
 
 // checkInside says whether an open file isn't in the folder. The .stignore itself is no device's but this one's: its user may have it lead elsewhere, and
 // root doesn't follow that.
@@ -76,6 +82,9 @@ func (r *reading) file(path string) error {
 	}
 	scanner, lines := bufio.NewScanner(file), []string{} // which takes no longer line than Syncthing's does
 	for scanner.Scan() {
+		if r.bytes += len(scanner.Bytes()) + len("\n"); r.bytes > mostOfLines {
+			return errManyLines
+		}
 		lines = append(lines, strings.TrimSpace(scanner.Text()))
 	}
 	if err := scanner.Err(); err != nil {

@@ -33,6 +33,7 @@ const (
 	mostWild      = 64
 	mostWildOfAll = 20000
 	mostPattern   = 4096 // bytes: no path is longer
+	mostLines     = 10000
 )
 
 // errTooWild says that patterns take too long.
@@ -40,6 +41,9 @@ var errTooWild = errors.New("it takes too long")
 
 // checkWild says whether lines take too long to be compiled or compared.
 func checkWild(lines []string) error {
+	if len(lines) > mostLines {
+		return fmt.Errorf("it has over %d lines: %w", mostLines, errTooWild)
+	}
 	all := 0
 	for _, line := range lines {
 		wild := 0

@@ -239,6 +239,24 @@ func TestWhatIsNoPatternIsTold(t *testing.T) {
 	}
 }
 
+// Of very many lines, be they of the folder's own file or of one that it includes, which another device may have sent, none is read on.
+func TestVeryManyLines(t *testing.T) {
+	for _, row := range []struct {
+		own, shared int
+		isRead      bool
+	}{{mostOfLines - len("#include shared\n"), 0, true}, {mostOfLines - len("#include shared\n") + 8, 0, false}, {mostOfLines / 2, mostOfLines/2 - 16, true}, {mostOfLines / 2, mostOfLines / 2, false}} {
+		room := t.TempDir()
+		for name, text := range map[string]string{File: "#include shared\n" + strings.Repeat("// note\n", row.own/8), "shared": strings.Repeat("// note\n", row.shared/8)} {
+			if err := os.WriteFile(filepath.Join(room, name), []byte(text), 0o600); err != nil {
+				t.Fatal(err)
+			}
+		}
+		if lines, err := Read(room); (err == nil) != row.isRead || err != nil && err != errManyLines || len(lines) > 0 {
+			t.Errorf("%+v: %d lines, %v", row, len(lines), err)
+		}
+	}
+}
+
 // A line counts once, wherever it stands, and so does an '#include'. Comments and empty lines are none.
 func TestALineCountsOnce(t *testing.T) {
 	room := t.TempDir()

@@ -42,7 +42,20 @@ func TestLinesThatTakeLong(t *testing.T) {
 	if _, err := Parse(lines, false); err != nil {
 		t.Error(err)
 	}
-	if _, err := Parse(append(lines, lines...), false); !errors.Is(err, errTooWild) {
+	for at := range lines {
+		lines[at] = "a*?b?"
+	}
+	if _, err := Parse(lines, false); !errors.Is(err, errTooWild) {
+		t.Error(err)
+	}
+	plain := make([]string, mostLines+1)
+	for at := range plain {
+		plain[at] = "a"
+	}
+	if _, err := Parse(plain, false); !errors.Is(err, errTooWild) {
+		t.Error(err)
+	}
+	if _, err := Parse(plain[1:], false); err != nil {
 		t.Error(err)
 	}
 }
