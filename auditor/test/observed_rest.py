@@ -11,7 +11,7 @@ import ssl
 
 from exporting import main
 from half_devices import Halves
-from syncthing import FOLDER, wait_until, wait_until_in_step
+from syncthing import FOLDER, VERSIONS, wait_until, wait_until_in_step
 
 UNASKED = ["kinds", "scans"]
 
@@ -38,6 +38,11 @@ class ObservedRest(Halves):
         path.write_text("".join(lines))
         return ["--rest", path]
 
+    @classmethod
+    def configure(cls):
+        super().configure()
+        cls.devices[0].keep_versions("simple", keep="3")
+
     @staticmethod
     def folder_of(told):
         """The folder of an answer, and its devices by their ids."""
@@ -51,6 +56,7 @@ class ObservedRest(Halves):
         self.assertEqual((status, told["verdict"], folder["firm"]), (6, "in-step-as-far-as-audited", "not-known"))
         self.assertEqual({one["kind"] for one in folder["not_known_firm"]}, {"over-the-wire"})
         self.assertEqual([devices[device.id]["kind"] for device in self.devices], ["send-receive", "send-receive", "receive-only"])
+        self.assertEqual([devices[device.id]["old_versions"] for device in self.devices], [{"kind": "simple", "place": VERSIONS}, {"kind": "none"}, {"kind": "none"}])
         for one in devices.values():
             self.assertEqual(one["over_the_wire"]["unseen"], ["directories", "permissions", "symlinks", "times", "unscanned"])
             self.assertEqual((one["syncthing_is"], one["syncthing_needs"]), ("idle", {"names": 0, "bytes": 0, "errors": 0}))

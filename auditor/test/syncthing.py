@@ -138,8 +138,8 @@ class Device:
             xml.SubElement(folder, name).text = value
         self.write(tree, path)
 
-    def keep_versions(self, kind, place="", **params):
-        """Writes into the configuration how old versions are kept: in Syncthing's words, and nothing for not at all."""
+    def keep_versions(self, kind, place="", seconds=3600, **params):
+        """Writes into the configuration how old versions are kept, and cleaned after so many seconds: in Syncthing's words, and nothing for not at all."""
         path = self.home / "config.xml"
         tree = xml.parse(path)
         versioning = tree.getroot().find("folder/versioning")
@@ -148,7 +148,7 @@ class Device:
             versioning.set("type", kind)
         for key, value in params.items():
             xml.SubElement(versioning, "param", key=key, val=value)
-        for name, value in (("cleanupIntervalS", "3600"), ("fsPath", place), ("fsType", "basic")):
+        for name, value in (("cleanupIntervalS", str(seconds)), ("fsPath", place), ("fsType", "basic")):
             xml.SubElement(versioning, name).text = value
         self.write(tree, path)
 

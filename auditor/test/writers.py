@@ -5,7 +5,6 @@
 """
 
 import os
-import xml.etree.ElementTree as xml
 
 from exporting import IN_STEP, Exporting, main
 from syncthing import wait_until
@@ -24,22 +23,10 @@ class OldVersionsInside(Exporting):
         os.utime(cls.one.files / "old" / "letter", (YEARS_AGO, YEARS_AGO))
         cls.scan_and_wait()
 
-    def keep_versions_in(self, directory):
-        """Writes into the second device's configuration where its old versions are."""
-        path = self.two.home / "config.xml"
-        tree = xml.parse(path)
-        versioning = tree.getroot().find("folder/versioning")
-        versioning.clear()
-        versioning.set("type", "trashcan")
-        xml.SubElement(versioning, "param", key="cleanoutDays", val="1")
-        for name, value in (("cleanupIntervalS", "5"), ("fsPath", directory), ("fsType", "basic")):
-            xml.SubElement(versioning, name).text = value
-        tree.write(path)
-
     def test_what_is_cleaned_is_deleted_everywhere(self):
         """Nobody touches a file of a firm folder, and real Syncthing deletes one on all devices. The answer says that it may."""
         self.assertNotIn("written by others", self.told())
-        self.keep_versions_in("old")
+        self.two.keep_versions("trashcan", "old", seconds=5, cleanoutDays="1")
         self.assertIn(f"written by others: docs by the old versions of docs on {self.two.id[:7]}: Syncthing writes and deletes in its directory",
                       self.told())
         self.assertIn(IN_STEP, self.told())
