@@ -1,5 +1,6 @@
 -- What a document without faults writes down is a cut, which says what the document lists.
 mod KeysKept
+mod LastFirst
 mod SortingFacts
 mod WrittenFacts
 mod LinksWritten

@@ -4,7 +4,8 @@ ghost use Rattle.std.specs.List.{AllByRecursion};
 ghost use Rattle.std.specs.FinMap.{empty, insert};
 ghost use Rattle.bep_record.specs.Entry.{IsWellFormed};
 ghost use Rattle.bep_record.specs.Node.{IsNode};
-ghost use Rattle.bep_index.specs.Batch.{with_all};
+ghost use Rattle.bep_index.specs.Batch.{NamesDiffer, with_all};
+ghost use Rattle.bep_document.specs.Faultless.{KeysDiffer};
 ghost use Rattle.bep_cut_document.specs.Written.{with_nodes};
 
 use bep_json::NamedParts;
@@ -12,16 +13,20 @@ use bep_map::NameMap;
 use bep_record::{Entry, Items, Node, Record};
 use std::alloc::{AllocError, Global};
 
-// The records, each under its name.
+// The records, each under its name. The last one is put first: names mostly rise, and the place of a name below all others is
+// found by one comparison in each node of the map.
+#[tactic(auto, using(crate::proofs::LastFirst::no_records_left))]
 pub(crate) fn records_by_name(
     alloc: Global,
     entries: Items<Entry>,
 ) -> Result<NameMap<Record>, AllocError>
-    requires { AllByRecursion IsWellFormed entries }
+    requires well_formed { AllByRecursion IsWellFormed entries }
+    requires names { NamesDiffer entries }
     ensures { IfOk result (λ made. made ≡ with_all empty entries) }
 {
     let mut records = NameMap::new(alloc);
-    for entry in entries.into_vec() {
+    let mut rest = entries.into_vec();
+    while let Some(entry) = rest.pop() {
         put_record(&mut records, alloc, entry)?;
     }
     Ok(records)
@@ -51,16 +56,19 @@ pub(crate) fn records_as_listed(
     Ok(Items::new(records))
 }
 
-// The nodes, each under its name.
+// The nodes, each under its name; the last one is put first, as of records.
+#[tactic(auto, using(crate::proofs::LastFirst::no_nodes_left))]
 pub(crate) fn nodes_by_name(
     alloc: Global,
     nodes: Items<NamedParts>,
 ) -> Result<NameMap<Node>, AllocError>
-    requires { AllByRecursion (λ node. IsNode node.parts) nodes }
+    requires nodes { AllByRecursion (λ node. IsNode node.parts) nodes }
+    requires names { KeysDiffer (λ node. node.name) nodes }
     ensures { IfOk result (λ made. made ≡ with_nodes empty nodes) }
 {
     let mut held = NameMap::new(alloc);
-    for node in nodes.into_vec() {
+    let mut rest = nodes.into_vec();
+    while let Some(node) = rest.pop() {
         put_node(&mut held, node)?;
     }
     Ok(held)
