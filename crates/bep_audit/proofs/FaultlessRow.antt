@@ -18,14 +18,16 @@ use Rattle.bep_tables.specs.declared.cut.CutParts.{CutParts}
 use Rattle.bep_tables.specs.Cut.{IsCut, shares_of, tables_of}
 use Rattle.bep_tables.specs.Listed.{Listed}
 use Rattle.bep_tables.specs.Said.{EntriesAreHeld}
-use Rattle.bep_audit.specs.inner.Faultless.{AsksAll, AsksAllHere, AsksAllElsewhere}
-use Rattle.bep_audit.specs.Group.{IsGroupOf, AsksElsewhere}
+use Rattle.bep_audit.specs.Candidates.{own_among}
+use Rattle.bep_audit.specs.inner.Faultless.{node_among, AsksAll, AsksAllHere, AsksAllElsewhere}
+use Rattle.bep_audit.specs.Group.{IsGroupOf, AsksBeside, AsksElsewhere}
 use Rattle.bep_audit.specs.Share.{AsksHere, ShareIsAsked}
 use Rattle.bep_audit.specs.inner.Walk.{FindsHere, FindsLeast}
 use Rattle.bep_audit.proofs.AskedAtRow.{IsOfDevices}
 use Rattle.bep_tables.specs.Laws.{CutSays}
 use Rattle.bep_audit.proofs.FailingDevice.{finds_by_group}
 use Rattle.bep_audit.proofs.FailingRow.{finds_unknown, finds_loser}
+use Rattle.bep_audit.proofs.OwnFacts.{own_said, node_said}
 use Rattle.bep_audit.proofs.GroupRow.{finds_here, order_holds, missing_holds}
 
 -- a node that is lent has the content that is held
@@ -49,7 +51,7 @@ each_elsewhere row group device own all FlightAhead = all.1
 each_elsewhere row group device own all PullAhead = all.2
 each_elsewhere row group device own all _ = tt
 
-module _ (said : CutSays) (asked_here : ShareIsAsked) (held : EntriesAreHeld) (cut : CutParts) (is_cut : IsCut cut) (row : Row) (group : List Listed) (is_group : IsGroupOf cut (key_of row) group) (shares : List Share) (are : shares ≡ shares_of row.folder cut.folders) (met : (share : Share) → Contains shares share → AsksAll row group share) where
+module _ (said : CutSays) (asked_here : ShareIsAsked) (held : EntriesAreHeld) (cut : CutParts) (is_cut : IsCut cut) (row : Row) (group : List Listed) (is_group : IsGroupOf cut (key_of row) group) (shares : List Share) (are : shares ≡ shares_of row.folder cut.folders) (met : (share : Share) → Contains shares share → AsksAll row group share.device) where
   -- no reason on devices fails
   at_devices : (reason : Reason) → IsOfDevices reason → FindsHere (tables_of cut) row reason None
   unfolding AsksAll
@@ -58,7 +60,12 @@ module _ (said : CutSays) (asked_here : ShareIsAsked) (held : EntriesAreHeld) (c
       (finds_by_group said asked_here cut is_cut row held group is_group reason of_devices shares are None
       (λ device share member same.
       let all = met share member in
-      (each_here (get share.own row.entry.name) (get share.store row.entry.name) row.entry all.0 reason, each_elsewhere row group share.device (get share.own row.entry.name) all.1 reason)))
+      let there = subst (λ (held : List Share). Contains held share) are member in
+      let own = own_among share.device group in
+      let node = node_among share.device group in
+      let asked : AsksBeside reason row group share.device own node = (each_here own node row.entry all.0 reason, each_elsewhere row group share.device own all.1 reason) in
+      subst (λ (stored : Option NodeParts). AsksBeside reason row group share.device (get share.own row.entry.name) stored) (node_said held cut is_cut (key_of row) group is_group said.node share there)
+      (subst (λ (recorded : Option Entry). AsksBeside reason row group share.device recorded node) (own_said held cut is_cut (key_of row) group is_group said.own share there) asked)))
 
   -- nor any other
   at_row : IsKnown (tables_of cut) row.folder row.entry.name → IsWinner (tables_of cut) row.folder row.entry.name (row.device, row.entry) → (reason : Reason) → FindsHere (tables_of cut) row reason None

@@ -13,6 +13,7 @@ pub mod AskedAtRow
 pub mod RowWalk
 pub mod FailingRow
 pub mod GroupFacts
+pub mod PickedFacts
 pub mod FailingDevice
 pub mod GroupRow
 pub mod FaultlessRow

@@ -18,19 +18,23 @@ own_held (Record Own entry) = Some entry
 own_held (Record source entry) = None
 own_held (Node node) = None
 
--- the entry's record, if it is the device's own
-abbrev pub own_at : Device → Listed → Option Entry
-own_at device one = if one.device == device then own_held one.holding else None
+-- what is picked of the entry, if it is of the device
+abbrev pub picked_at : {X : Type 0} → (Holding → Option X) → Device → Listed → Option X
+picked_at pick device one = if one.device == device then pick one.holding else None
 
 -- the first, if it is there, or else the other
-abbrev pub first_of : Option Entry → Option Entry → Option Entry
+abbrev pub first_of : {X : Type 0} → Option X → Option X → Option X
 first_of None other = other
-first_of (Some entry) other = Some entry
+first_of (Some found) other = Some found
+
+-- the first that is picked of these entries, as far as they are of the device
+abbrev pub picked_among : {X : Type 0} → (Holding → Option X) → Device → List Listed → Option X
+picked_among pick device [] = None
+picked_among pick device (one ∷ more) = first_of (picked_at pick device one) (picked_among pick device more)
 
 -- the device's own record among these entries
 abbrev pub own_among : Device → List Listed → Option Entry
-own_among device [] = None
-own_among device (one ∷ more) = first_of (own_at device one) (own_among device more)
+own_among = picked_among own_held
 
 -- the own record of a share's device, looked up by the name or among the name's entries
 abbrev pub own_by : Owns → Share → Option Entry

@@ -11,14 +11,16 @@ ghost use Rattle.bep_audit.specs.inner.Faultless.{AsksAll, AsksAllHere, AsksAllE
 ghost use Rattle.bep_audit.specs.inner.Walk.{FindsLeast};
 
 use crate::group::has_known;
+use crate::owns::own_among;
+use crate::stored::node_among;
 use crate::winner::is_winner_in;
 use crate::{is_harmless, is_there, is_valid, says_as_winner, share_is_asked, store_holds};
 use bep_model::Row;
 use bep_record::{DeviceId, Node, Record, Same, is_clean};
 use bep_tables::{Cut, Held, Share, Source, TableEntry, cut_says, entries_are_held};
 
-/// Whether no reason fails at the row's name, as if there were no other row. It looks each device's own record and node
-/// up once. A search for the least failure does so for each reason.
+/// Whether no reason fails at the row's name, as if there were no other row. It finds each device's own record and node
+/// once, among the entries. A search for the least failure looks them up by the name, for each reason.
 pub(crate) fn is_faultless<'a>(cut: &'a Cut, group: &[TableEntry<'a>], row: &Row) -> bool
     requires { IsGroupOf cut.now (key_of row.now) (map listed group.now) }
     ensures { IsTrue result → FindsLeast (tables_of cut.now) (row.now ∷ []) (λ key. key ≡ key_of row.now) None }
@@ -37,13 +39,13 @@ pub(crate) fn is_faultless<'a>(cut: &'a Cut, group: &[TableEntry<'a>], row: &Row
 
 // Whether each of the devices meets what all reasons ask of it.
 fn are_met(shares: &[Share], group: &[TableEntry<'_>], row: &Row) -> bool
-    ensures { IsTrue result ↔ ((share : Share) → Contains shares.now share → AsksAll row.now (map listed group.now) share) }
+    ensures { IsTrue result ↔ ((share : Share) → Contains shares.now share → AsksAll row.now (map listed group.now) share.device) }
 {
     match shares {
         [] => true,
         [first, others @ ..] => {
-            is_met(first, None, group, row)
-                && are_met_beside(first.store.get(&row.entry.entry().name), others, group, row)
+            is_met(first.device, None, group, row)
+                && are_met_beside(node_among(group, first.device), others, group, row)
         }
     }
 }
@@ -56,22 +58,22 @@ fn are_met_beside(
     row: &Row,
 ) -> bool
     requires { IfSome holder (λ one. content_of_node (Some one.now) ≡ content_of row.now.entry) }
-    ensures { IsTrue result ↔ ((share : Share) → Contains shares.now share → AsksAll row.now (map listed group.now) share) }
+    ensures { IsTrue result ↔ ((share : Share) → Contains shares.now share → AsksAll row.now (map listed group.now) share.device) }
 {
-    shares.iter().all(|share| is_met(share, holder, group, row))
+    shares
+        .iter()
+        .all(|share| is_met(share.device, holder, group, row))
 }
 
 // Whether the device does. The holder is another device's node with the winner's content.
 #[tactic(auto, unfolding(crate::specs::inner::Faultless::AsksAll))]
-fn is_met(share: &Share, holder: Option<&Node>, group: &[TableEntry<'_>], row: &Row) -> bool
+fn is_met(device: DeviceId, holder: Option<&Node>, group: &[TableEntry<'_>], row: &Row) -> bool
     requires { IfSome holder (λ one. content_of_node (Some one.now) ≡ content_of row.now.entry) }
-    ensures { IsTrue result ↔ AsksAll row.now (map listed group.now) share.now }
+    ensures { IsTrue result ↔ AsksAll row.now (map listed group.now) device }
 {
-    let winner = &row.entry;
-    let name = &winner.entry().name;
-    let own = share.own.get(name);
-    meets_here(own, share.store.get(name), holder, winner)
-        && meets_elsewhere(group, row, share.device, own)
+    let own = own_among(group, device);
+    let node = node_among(group, device);
+    meets_here(own, node, holder, &row.entry) && meets_elsewhere(group, row, device, own)
 }
 
 // Whether the device meets it by its own record and its node.

@@ -32,6 +32,7 @@ mod owns;
 mod rows;
 mod share;
 mod spot;
+mod stored;
 mod verdict;
 mod walk;
 mod winner;

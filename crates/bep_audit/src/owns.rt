@@ -2,7 +2,7 @@
 ghost use Rattle.std.specs.Prelude.{◌≡◌, map};
 ghost use Rattle.std.specs.Option.{option_copied};
 ghost use Rattle.bep_tables.specs.Listed.{listed};
-ghost use Rattle.bep_audit.specs.Candidates.{own_at, own_among, own_by};
+ghost use Rattle.bep_audit.specs.Candidates.{own_held, own_among, own_by, picked_at};
 
 use bep_record::{DeviceId, Name, Record};
 use bep_tables::{Held, Share, Source, TableEntry};
@@ -29,7 +29,7 @@ impl<'s, 'a> Owns<'s, 'a> {
 }
 
 // The device's own record among the entries.
-fn own_among<'a>(group: &[TableEntry<'a>], device: DeviceId) -> Option<&'a Record>
+pub(crate) fn own_among<'a>(group: &[TableEntry<'a>], device: DeviceId) -> Option<&'a Record>
     ensures { option_copied result ≡ own_among device (map listed group.now) }
 {
     for entry in group {
@@ -42,7 +42,7 @@ fn own_among<'a>(group: &[TableEntry<'a>], device: DeviceId) -> Option<&'a Recor
 
 // The entry's record, if it is the device's own.
 fn own_at<'a>(entry: &TableEntry<'a>, device: DeviceId) -> Option<&'a Record>
-    ensures { option_copied result ≡ own_at device (listed entry.now) }
+    ensures { option_copied result ≡ picked_at own_held device (listed entry.now) }
 {
     if entry.device != device {
         return None;

@@ -1,6 +1,5 @@
 -- What all reasons together ask of a device beside a row (this project's profile).
-use Rattle.std.specs.Prelude.{◌≡◌, List, Option}
-use Rattle.std.specs.FinMap.{get}
+use Rattle.std.specs.Prelude.{◌≡◌, List, Option, Some, None}
 use Rattle.bep_record.specs.declared.entry.Entry.{Entry}
 use Rattle.bep_record.specs.declared.node.NodeParts.{NodeParts}
 use Rattle.bep_record.specs.Content.{content_of}
@@ -8,11 +7,20 @@ use Rattle.bep_record.specs.Node.{IsClean}
 use Rattle.bep_model.specs.declared.row.Row.{Row}
 use Rattle.bep_model.specs.Settled.{content_of_node}
 use Rattle.bep_model.specs.Tables.{Device}
-use Rattle.bep_tables.specs.declared.share.Share.{Share}
 use Rattle.bep_tables.specs.declared.table.entry.Source.TheVariants.{View, Flight, Pull}
-use Rattle.bep_tables.specs.Listed.{Listed}
+use Rattle.bep_tables.specs.Listed.{Holding, Record, Node, Listed}
+use Rattle.bep_audit.specs.Candidates.{own_among, picked_among}
 use Rattle.bep_audit.specs.Group.{PassesFrom, GroupPasses}
 use Rattle.bep_audit.specs.Share.{AsksRecord, AsksContent, AsksValid}
+
+-- what is held, if it is a node
+abbrev pub node_held : Holding → Option NodeParts
+node_held (Record source entry) = None
+node_held (Node node) = Some node
+
+-- the device's node among these entries
+abbrev pub node_among : Device → List Listed → Option NodeParts
+node_among = picked_among node_held
 
 -- what they ask of its own record and its node
 unfoldable pub AsksAllHere : Option Entry → Option NodeParts → Entry → Type 0
@@ -37,8 +45,8 @@ PassesElsewhere device row own one =
     × PassesFrom Flight device row own one
     × PassesFrom Pull device row own one
 
--- what they ask of it
-unfoldable pub AsksAll : Row → List Listed → Share → Type 0
-AsksAll row group share =
-    AsksAllHere (get share.own row.entry.name) (get share.store row.entry.name) row.entry
-    × AsksAllElsewhere row group share.device (get share.own row.entry.name)
+-- what they ask of it, of which these are the entries of the row's name
+unfoldable pub AsksAll : Row → List Listed → Device → Type 0
+AsksAll row group device =
+    AsksAllHere (own_among device group) (node_among device group) row.entry
+    × AsksAllElsewhere row group device (own_among device group)

@@ -1,6 +1,4 @@
-use Rattle.std.proofs.Common.{◌∙◌, IsTrue, ap, map}
-use Rattle.std.specs.FinMap.{get}
-use Rattle.bep_record.specs.declared.entry.Entry.{Entry}
+use Rattle.std.proofs.Common.{IsTrue, map}
 use Rattle.bep_tables.specs.declared.share.Share.{Share}
 use Rattle.bep_tables.specs.Listed.{listed}
 use Rattle.bep_audit.specs.inner.Faultless.{AsksAll, AsksAllHere}
@@ -12,11 +10,10 @@ pub are_met_beside-requires : goal.are_met_beside-requires
 unfolding AsksAll AsksAllHere
 are_met_beside-requires c =
     let met = c.is_met.ensures.0 c.if-is_met.true in
-    let store = c.first-item.result.store in
-    holds_as_lent c.get.result _ _ (c.get.ensures ∙ ap (λ (entry : Entry). get store entry.name) c.entry.ensures.value) met.0.3
+    holds_as_lent c.node_among.result _ _ c.node_among.ensures met.0.3
 
 pub returns-then-is_met : goal.returns-then-is_met
 returns-then-is_met c =
-    let P = λ (share : Share). AsksAll c.args.row.now (map listed c.args.group.now) share in
+    let P = λ (share : Share). AsksAll c.args.row.now (map listed c.args.group.now) share.device in
     each_from_first P (IsTrue c.are_met_beside.result) c.args.shares.now c.first-item.result c.in-len1-up.len_at_least c.first-item.is
     (c.is_met.ensures.0 c.if-is_met.true) c.are_met_beside.ensures

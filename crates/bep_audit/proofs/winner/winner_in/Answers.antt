@@ -31,7 +31,7 @@ returns c = λ name is_group.
     let is_cut = c.shares.ensures.a_cut in
     let own = λ (share : Share). own_among share.device (map listed c.args.group.now) in
     let said = winner_said laws.own cut folder name shares is_cut c.shares.ensures.value in
-    let owns = ap (owned_by own) c.shares.ensures.value ∙ group_owns laws.own c.entries_are_held.ensures.held cut is_cut (folder, name) (map listed c.args.group.now) is_group ∙ ap (owned_by (λ (share : Share). get share.own name)) (sym c.shares.ensures.value) in
+    let owns = ap (owned_by own) c.shares.ensures.value ∙ group_owns c.entries_are_held.ensures.held cut is_cut (folder, name) (map listed c.args.group.now) is_group laws.own ∙ ap (owned_by (λ (share : Share). get share.own name)) (sym c.shares.ensures.value) in
     let all : ◌≡◌ {A = ℕ × List Candidate} (chooser_of shares, owned_by own shares) _ = (λ i. (chooser_of shares, owns i)) ∙ said in
     found_by (tables_of cut) folder name c.winner_among.result
     (winner_is_named laws.found laws.has_folder laws.own cut folder name is_cut)
