@@ -77,7 +77,8 @@ class ConflictOfAConflictCopy(Exporting):
         cls.scan_and_wait()
 
     def test_no_copy_is_kept(self):
-        """The answer says so, and real Syncthing keeps none. Of the file it keeps one, and deletes the older copy, since 'Max Conflicts' is 1."""
+        """The answer says so, and real Syncthing keeps none. Of the file it keeps one, and deletes the older copy, since 'Max Conflicts' is 1: so the answer foretells
+        nothing of that copy either, which is at rest."""
         for place, device in enumerate(self.devices):
             device.choose(maxConflicts="1")
             for name in ("text", self.copy):
@@ -85,6 +86,7 @@ class ConflictOfAConflictCopy(Exporting):
                 os.utime(device.files / name, (time.time() + place,) * 2)
         fates = self.foretold()
         self.assertEqual([fates[name]["fate"] in ("lost", "not-known") for name in ("text", self.copy)], [True, True])
+        self.assertEqual(fates[self.older]["why"], "conflict-copies", "the older copy is at rest, and goes")
         self.start()
         wait_until("the older copy is deleted", self.is_older_deleted)
         wait_until_in_step(self.one, self.two)

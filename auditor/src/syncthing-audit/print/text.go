@@ -206,7 +206,7 @@ var unknowns = map[string]struct{ why, toKnow string }{
 	"case":             {"another name differs from it by upper and lower case alone, and a disk takes both for one", "rename one of them, and audit again"},
 	"damaged":          {"a disk fails to give what it has", "see what the disk still gives, and audit again"},
 	"never-told":       {"a device may never tell a change of it", "once what is to stay is saved, stop Syncthing there, and " + part.ResetDeltas + "; then let all finish, and audit again"},
-	"conflict-copies":  {"it may come to have more conflict copies than are kept", ""},
+	"conflict-copies":  {"it may come to have more conflict copies than are kept, and then the oldest go", ""},
 	"same-bytes":       {"a device may take its bytes from another name that has the same", ""},
 	"too-many":         {"more names differ than are looked at", "audit some of the names alone (--names), or mend the first ones and audit again"},
 	"budget":           {"there are too many orders to try", ""},

@@ -21,6 +21,7 @@ type plain struct {
 	risky   []string
 	outs    []string
 	copies  map[string]int
+	resting []*join.Row // conflict copies at rest
 }
 
 // shares says whether a device shares the folder with another one.
@@ -206,6 +207,7 @@ func (p *plain) take(row *join.Row) {
 	if isCalm && !isBelow {
 		if name, _, is := strings.Cut(row.Name, ".sync-conflict-"); is {
 			p.copies[name]++
+			p.resting = append(p.resting, row)
 		}
 		return
 	}
@@ -247,10 +249,23 @@ func (p *plain) take(row *join.Row) {
 // end notes the names that may come to have more copies than are kept.
 func (p *plain) end() {
 	for name := range p.kept {
-		for _, member := range p.folder.Members {
-			if most := member.Head.Folders[0].Options.MaxConflicts; p.copies[name] > 0 && most >= 0 && p.copies[name]+len(p.folder.Members) > most && p.unknown[name] == "" {
-				p.unknown[name] = Copies
-			}
+		if p.mayDrop(name) && p.unknown[name] == "" {
+			p.unknown[name] = Copies
 		}
 	}
+	for _, row := range p.resting {
+		if name, _, _ := strings.Cut(row.Name, ".sync-conflict-"); p.kept[name] != nil && p.mayDrop(name) {
+			p.kept[row.Name], p.unknown[row.Name], p.calm[row.Name] = row, Copies, true
+		}
+	}
+}
+
+// mayDrop says whether a device may come to have more copies of a name than it keeps.
+func (p *plain) mayDrop(name string) bool {
+	for _, member := range p.folder.Members {
+		if most := member.Head.Folders[0].Options.MaxConflicts; p.copies[name] > 0 && most >= 0 && p.copies[name]+len(p.folder.Members) > most {
+			return true
+		}
+	}
+	return false
 }

@@ -198,6 +198,9 @@ func (r *reader) root(of forecast.Content) forecast.Content {
 // finish gives the same bytes the same content everywhere.
 func (r *reader) finish() {
 	for _, name := range r.names {
+		if name == nil {
+			continue
+		}
 		for place := range name.Own {
 			for _, record := range append([]*forecast.Record{name.Own[place]}, name.Views[place]...) {
 				if record != nil {

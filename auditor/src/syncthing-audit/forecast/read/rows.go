@@ -27,6 +27,7 @@ type Rows struct {
 	room    int
 	risky   map[string]bool         // names of the world that may be something else than a directory somewhere
 	copies  map[string]int          // conflict copies that are at rest, by what they are copies of
+	resting map[string]bool         // those of them that stay in the world where one more copy may take their place
 	bytes   filter                  // of names that are at rest
 	out     map[string]bool         // names that aren't told as a whole
 	Places  map[Why]forecast.Places // the devices of which it is that some names aren't known
@@ -36,7 +37,7 @@ type Rows struct {
 // NewRows begins with a folder.
 func NewRows(folder *join.Folder) *Rows {
 	rows := &Rows{reader: newReader(folder.ID, len(folder.Members)), members: folder.Members, All: unknownOf(folder.Members), Unknown: map[string]Why{},
-		Count: map[Why]int64{}, Calm: map[string]bool{}, Damage: map[string][]damage.Kind{}, Places: map[Why]forecast.Places{}, room: MostCells, risky: map[string]bool{}, copies: map[string]int{}, out: map[string]bool{}}
+		Count: map[Why]int64{}, Calm: map[string]bool{}, Damage: map[string][]damage.Kind{}, Places: map[Why]forecast.Places{}, room: MostCells, risky: map[string]bool{}, copies: map[string]int{}, resting: map[string]bool{}, out: map[string]bool{}}
 	for place, member := range folder.Members {
 		rows.places[member.Head.Device] = place
 		device, err := rows.device(member.Head)
@@ -71,6 +72,10 @@ func (r *Rows) Take(row *join.Row) {
 	isCalm := !hasOuts(row) && r.isAtRest(row)
 	if isCalm && !isBelow {
 		r.pass(row)
+		if r.mayBeDropped(row.Name) {
+			r.resting[row.Name] = true
+			r.takeRow(row)
+		}
 		return
 	}
 	why := r.unknownAt(row)
@@ -117,10 +122,9 @@ func upper(name string) string {
 func (r *Rows) cells() int { return len(r.members) * (len(r.members) + 2) }
 
 func (r *Rows) keep(row *join.Row, why Why, isCalm bool) {
-	r.room -= r.cells()
+	r.takeRow(row)
 	for member, at := range row.At {
 		if at != nil {
-			r.takeName(member, at, r.members[member].About.Views)
 			r.noteDamage(row, member)
 		}
 	}
@@ -132,6 +136,16 @@ func (r *Rows) keep(row *join.Row, why Why, isCalm bool) {
 	}
 	if why != "" || !isDirectoryAnyway(row) {
 		r.risky[row.Name] = true
+	}
+}
+
+// takeRow takes a row into the world.
+func (r *Rows) takeRow(row *join.Row) {
+	r.room -= r.cells()
+	for member, at := range row.At {
+		if at != nil {
+			r.takeName(member, at, r.members[member].About.Views)
+		}
 	}
 }
 
@@ -215,6 +229,7 @@ func (r *Rows) World() forecast.World {
 	if len(r.All) > 0 {
 		return forecast.World{Devices: r.world.Devices}
 	}
+	r.dropResting()
 	r.finish()
 	r.addHolding()
 	for _, name := range r.world.Names {
@@ -272,6 +287,33 @@ func (r *Rows) notListed(member int, more int64, last string) {
 		name := &r.world.Names[place]
 		if what := name.Disk[member]; more > 0 && name.Name > last && what != nil && what.Type == forecast.Directory && r.risky[name.Name] {
 			r.Unknown[name.Name] = LeftOut
+		}
+	}
+}
+
+// mostResting is how many conflict copies that are at rest stay in the world at most.
+const mostResting = 1000
+
+// mayBeDropped says whether a name at rest is a conflict copy that a device may take away once there are too many.
+func (r *Rows) mayBeDropped(name string) bool {
+	if len(r.All) > 0 || r.room < r.cells() || len(r.resting) == mostResting || forecast.RootOfCopy(name) == "" {
+		return false
+	}
+	for _, device := range r.world.Devices {
+		if device.MaxConflicts >= 0 {
+			return true
+		}
+	}
+	return false
+}
+
+// dropResting takes the conflict copies at rest out of the world again that stay as they are. Of the others it isn't known.
+func (r *Rows) dropResting() {
+	for name := range r.resting {
+		if root := forecast.RootOfCopy(name); r.names[root] != nil && r.mayDropCopies(root) {
+			r.Unknown[name], r.Calm[name] = Copies, true
+		} else {
+			r.names[name] = nil
 		}
 	}
 }
