@@ -185,6 +185,41 @@ class BehindALargeRename(Exporting):
         self.assertEqual(self.verdict(), "settled")
 
 
+class BehindARenameIntoDirectories(Exporting):
+    """The first device moved the files of a directory into five new ones, and put copies of one file into each, while the second one was off."""
+
+    files, copies, directories = 500, 450, 5
+
+    def test_what_is_told_comes_so(self):
+        (self.one.files / "was").mkdir()
+        for number in range(self.files):
+            (self.one.files / "was" / f"{number:03}").write_text(f"text {number}")
+        self.start()
+        self.scan_and_wait()
+        self.two.stop()
+        new = [f"is {number % self.directories}/{number:03}" for number in range(self.files)]
+        copies = [f"is {number % self.directories}/copy {number:03}" for number in range(self.copies)]
+        for number in range(self.directories):
+            (self.one.files / f"is {number}").mkdir()
+        for number, name in enumerate(new):
+            (self.one.files / "was" / f"{number:03}").rename(self.one.files / name)
+        for name in copies:
+            (self.one.files / name).write_text("one text")
+        (self.one.files / "was").rmdir()
+        self.one.scan()
+        self.one.stop()
+        fates = self.foretold()
+        old = ["was", *(f"was/{number:03}" for number in range(self.files))]
+        self.assertEqual({fates[name]["fate"] for name in old}, {"deleted"})
+        self.assertEqual({fates[name]["fate"] for name in (*new, *copies)}, {"right"})
+        self.start()
+        wait_until("the old directory is gone", lambda: not (self.two.files / "was").exists())
+        wait_until_in_step(self.one, self.two)
+        self.stop()
+        self.assert_came(fates, *old, *new, *copies)
+        self.assertEqual(self.verdict(), "settled")
+
+
 class BehindWithoutCopies(Exporting):
     """A folder whose 'Max Conflicts' is 0."""
 

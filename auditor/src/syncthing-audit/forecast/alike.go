@@ -12,6 +12,9 @@ import (
 // Names that hang together by their directories alone often are alike: as those of a directory that was renamed. Each step of a world takes all names at once,
 // so such names go the same ways, and what a directory does depends on whether something is below it, and not on how much. So one of them stands for all. A
 // drawn step may take each of them another way: names for which something is drawn stand for themselves alone.
+//
+// Names of the same bytes hang together, too, since one may be renamed from another one, or get its bytes from there. Where they are alike two of them stand for all:
+// what one of many may get from another one, one of two may. If that is so in some order, all of them stand for themselves.
 
 // fewNames is up to how many names that hang together are foretold one by one, alike or not.
 const fewNames = 16
@@ -20,6 +23,7 @@ const fewNames = 16
 type likeness struct {
 	key      string
 	from, to *words
+	second   *words // of names of the same bytes: the other one that stands for all
 }
 
 // A sieve leaves one of each names that are alike, with what isn't like anything.
@@ -55,7 +59,7 @@ func (s *sieve) parts(names []Name) []Name {
 		sortNames(part)
 		words, key := s.wordsOf(part)
 		if other := first[key]; other != nil && !s.apart[key] {
-			s.likenesses = append(s.likenesses, likeness{key, other, words})
+			s.likenesses = append(s.likenesses, likeness{key, other, words, nil})
 			continue
 		}
 		first[key] = words
@@ -67,12 +71,33 @@ func (s *sieve) parts(names []Name) []Name {
 // part sifts names that hang together: what is below the highest directories falls apart without them.
 func (s *sieve) part(names []Name) []Name {
 	above := newTies(names).above(names)
-	if len(above) == 0 {
+	switch {
+	case len(above) == 0 && len(names) > fewNames:
+		return s.ofSameBytes(names)
+	case len(above) == 0:
 		return names
 	}
 	isAbove := func(name Name) bool { return above[name.Name] }
 	below := lists.Where(names, func(name Name) bool { return !above[name.Name] })
 	return append(lists.Where(names, isAbove), s.parts(below)...)
+}
+
+// ofSameBytes sifts names that share bytes: of those that are alike, and have the same bytes, two are left.
+func (s *sieve) ofSameBytes(names []Name) []Name {
+	var left []Name
+	seen := map[string][]*words{}
+	for _, unit := range tiesBy(names, func(*Name, func(Content)) {}).of(names) {
+		words, key := s.wordsOf(unit)
+		key = "same bytes " + key
+		same := fmt.Sprint(key, words.contents)
+		if found := seen[same]; len(found) == 2 && !s.apart[key] {
+			s.likenesses = append(s.likenesses, likeness{key, found[0], words, found[1]})
+			continue
+		}
+		seen[same] = append(seen[same], words)
+		left = append(left, unit...)
+	}
+	return left
 }
 
 // wordsOf gives the words of names that hang together, and a text that they share with others which are alike, and below the same directories.
@@ -96,15 +121,23 @@ func (s *sieve) wordsOf(names []Name) (*words, string) {
 	return &words{textsOf(names), l.content, l.target, l.timesByRank, int(l.epoch)}, key
 }
 
-// separates has names stand for themselves alone if something was drawn for them, and says whether they stood for others.
-func (s *sieve) separates(drawn []string) bool {
+// separates has names stand for themselves alone if they may go otherwise than those that are like them, and says whether they stood for others.
+func (s *sieve) separates(noted notedNames) bool {
 	found := false
-	for _, alike := range s.likenesses {
-		if lists.Has(drawn, func(name string) bool { return slices.Contains(alike.from.names, name) }) {
+	for place := range s.likenesses {
+		if alike := &s.likenesses[place]; alike.isAmong(noted) {
 			s.apart[alike.key], found = true, true
 		}
 	}
 	return found
+}
+
+// isAmong says whether one of the names that stand for others is one of these.
+func (l *likeness) isAmong(noted notedNames) bool {
+	isOne := func(name string) bool {
+		return slices.Contains(l.from.names, name) || l.second != nil && slices.Contains(l.second.names, name)
+	}
+	return lists.Has(noted.drawn, isOne) || l.second != nil && lists.Has(noted.tied, isOne)
 }
 
 // ties are names that hang together by something else than what is above all of them.
@@ -114,7 +147,10 @@ type ties struct {
 	bytes  groups // by bytes and copies alone
 }
 
-func newTies(names []Name) *ties {
+func newTies(names []Name) *ties { return tiesBy(names, (*Name).eachFile) }
+
+// tiesBy gives the ties by names, and by the bytes of which a call is made.
+func tiesBy(names []Name, eachBytes func(*Name, func(Content))) *ties {
 	t := &ties{newGroups(len(names)), make(map[string]int, len(names)), newGroups(len(names))}
 	for place := range names {
 		t.places[names[place].Name] = place
@@ -125,7 +161,7 @@ func newTies(names []Name) *ties {
 		t.bytes.join(one, other)
 	}
 	for place := range names {
-		names[place].eachFile(func(content Content) {
+		eachBytes(&names[place], func(content Content) {
 			if other, is := first[content]; is {
 				tie(place, other)
 			} else {

@@ -13,7 +13,9 @@ import (
 var kindsOfParts = [][]string{{"d/%d"}, {"d/%d", "e/%d"}, {"d/%d", "e/%d"}, {"d/%d", "e/%d", "e/%d b"}, {"d/%d", "d/%d/a", "e/%d", "e/%d/a"}, {"d/%d", "d/%d/a", "d/%d/b", "e/%d/a"}}
 
 // manyAlike draws a world of two or three directories with many names below that are alike, but for some at fault. All hang together.
-func manyAlike(random *rand.Rand) World {
+func manyAlike(random *rand.Rand) World { return manyOf(random, kindsOfParts) }
+
+func manyOf(random *rand.Rand, kinds [][]string) World {
 	world := World{}
 	for i := 0; i < 2+random.Intn(2); i++ {
 		world.Devices = append(world.Devices, randomDevice(uint64(10*(i+1)), random))
@@ -23,7 +25,7 @@ func manyAlike(random *rand.Rand) World {
 		above.Name = name
 		world.Names = append(world.Names, above)
 	}
-	kind := kindsOfParts[random.Intn(len(kindsOfParts))]
+	kind := kinds[random.Intn(len(kinds))]
 	patterns := make([]Name, len(kind))
 	for place := range kind {
 		patterns[place] = randomName(kind[place], world.Devices, random)

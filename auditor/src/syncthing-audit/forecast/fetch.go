@@ -33,6 +33,16 @@ func (p *pull) takeInAnyOrder(last []int) {
 	}
 }
 
+// noteTied notes that some of these names may get their bytes from others of them. One name by itself gets none.
+func (m *machine) noteTied(names ...int) {
+	if len(names) < 2 {
+		return
+	}
+	for _, n := range names {
+		m.tied[n] = true
+	}
+}
+
 // noteDrawn notes that something is drawn for names.
 func (p *pull) noteDrawn(names ...int) {
 	for _, n := range names {
@@ -80,6 +90,7 @@ func (p *pull) dependOnOrder(queue []int) map[int]bool {
 	for _, n := range queue {
 		due[n] = true
 		if content := p.wanted(n).content; len(p.buckets[content]) > 0 {
+			p.noteTied(append([]int{n}, p.buckets[content]...)...)
 			takers[content]++
 		}
 	}
@@ -138,7 +149,7 @@ func (p *pull) putInPlace(n int, what node) Why {
 // fetch says whether the device gets the bytes of a file: from its own disk, or from a device that has them.
 func (p *pull) fetch(n int) bool {
 	entry := p.wanted(n)
-	if p.sizes[entry.content] == 0 || p.hasBytes(n, entry.content) {
+	if p.sizes[entry.content] == 0 {
 		return true
 	}
 	_, have := p.old.global(p.i, n)
@@ -150,6 +161,12 @@ func (p *pull) fetch(n int) bool {
 			is := p.givesBytes(j, n, entry.content)
 			good, bad = good || is, bad || !is
 		}
+	}
+	if !good || bad {
+		p.noteTied(append([]int{n}, p.holdersOf(entry.content)...)...)
+	}
+	if p.hasBytes(n, entry.content) {
+		return true
 	}
 	for len(sources) > 0 {
 		place := 0
@@ -172,15 +189,20 @@ func (p *pull) hasBytes(n int, content int32) bool {
 	if what := p.at(p.i, n); what.kind == File && what.content == content {
 		return true
 	}
-	if p.holders == nil {
-		p.holders = p.old.byContent(p.i)
-	}
-	for _, other := range p.holders[content] {
+	for _, other := range p.holdersOf(content) {
 		if what := p.at(p.i, other); what.kind == File && what.content == content {
 			return true
 		}
 	}
 	return false
+}
+
+// holdersOf gives the files that the device recorded with these bytes.
+func (p *pull) holdersOf(content int32) []int {
+	if p.holders == nil {
+		p.holders = p.old.byContent(p.i)
+	}
+	return p.holders[content]
 }
 
 func (p *pull) givesBytes(j, n int, content int32) bool {

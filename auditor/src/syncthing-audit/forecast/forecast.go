@@ -82,6 +82,7 @@ type result struct {
 	endless int
 	states  int
 	drawn   []int // names for which something was drawn
+	tied    []int // names that may get their bytes from another name, and those from which they may
 }
 
 // New gives a forecaster.
@@ -128,9 +129,9 @@ func (f *Forecaster) OfGroup(devices []Device, names []Name, commands ...Command
 		if len(left) > MostTogether {
 			return Answer{Names: textsOf(names), IsOver: true}
 		}
-		answer, drawn := f.ofEach(devices, left, commands)
+		answer, noted := f.ofEach(devices, left, commands)
 		switch {
-		case sieve.separates(drawn):
+		case sieve.separates(noted):
 		case len(answer.Ends)*len(names)*len(devices) > mostPlaces:
 			return Answer{Names: textsOf(names), IsOver: true}
 		default:
@@ -139,15 +140,21 @@ func (f *Forecaster) OfGroup(devices []Device, names []Name, commands ...Command
 	}
 }
 
-// ofEach gives an answer for names of which each is looked at, and the names for which something is drawn.
-func (f *Forecaster) ofEach(devices []Device, names []Name, commands []Command) (Answer, []string) {
+// notedNames are names that may go otherwise than those that are like them.
+type notedNames struct {
+	drawn []string // for which something is drawn
+	tied  []string // that may get their bytes from another name, and those from which they may
+}
+
+// ofEach gives an answer for names of which each is looked at, and those that may go otherwise than those that are like them.
+func (f *Forecaster) ofEach(devices []Device, names []Name, commands []Command) (Answer, notedNames) {
 	l := newLoader(devices, names)
 	first := l.start(names)
 	shape := l.shape(first) + fmt.Sprint(commands)
 	found, is := f.known[shape]
 	if !is {
 		if f.budget.Most > 0 && f.done >= f.budget.Most {
-			return Answer{Names: textsOf(names), IsOver: true}, nil
+			return Answer{Names: textsOf(names), IsOver: true}, notedNames{}
 		}
 		found = f.find(first, len(names), commands)
 		f.known[shape] = found
@@ -156,7 +163,8 @@ func (f *Forecaster) ofEach(devices []Device, names []Name, commands []Command) 
 	for place := range found.ends {
 		answer.Ends = append(answer.Ends, l.end(&found.ends[place], names))
 	}
-	return answer, lists.Each(found.drawn, func(n int) string { return names[n].Name })
+	named := func(n int) string { return names[n].Name }
+	return answer, notedNames{lists.Each(found.drawn, named), lists.Each(found.tied, named)}
 }
 
 // Shape gives a text that two groups of names share if they are alike: what becomes of one becomes of the other, by the places of their names.
@@ -203,6 +211,9 @@ func (f *Forecaster) find(first *state, count int, commands []Command) *result {
 	}
 	for n := range first.drawn {
 		found.drawn = append(found.drawn, first.rootAmong(n, count))
+	}
+	for n := range first.tied {
+		found.tied = append(found.tied, first.rootAmong(n, count))
 	}
 	seen := map[string]bool{}
 	for _, end := range ends {

@@ -22,6 +22,7 @@ type machine struct {
 	nameCells     int
 	drawn         map[int]bool // names for which something was drawn
 	hasPast       bool         // whether states tell what no disk shows
+	tied          map[int]bool // names that may get their bytes from another name, and those from which they may
 	first         map[int]node // what stood on the disks at first, by their cells
 }
 
@@ -65,7 +66,7 @@ type node struct {
 
 func newMachine(devices []Device) *machine {
 	m := &machine{devices: devices, copies: map[copyKey]int{}, vectorNumbers: map[string]int32{}, orders: map[[2]int32]int{},
-		recordNumbers: map[record]int32{}, nodeNumbers: map[node]int32{}, listNumbers: map[string]int32{}, drawn: map[int]bool{}, first: map[int]node{}}
+		recordNumbers: map[record]int32{}, nodeNumbers: map[node]int32{}, listNumbers: map[string]int32{}, drawn: map[int]bool{}, tied: map[int]bool{}, first: map[int]node{}}
 	m.vectors, m.records, m.nodes, m.lists, m.sizes = make([][]Counter, 1), make([]record, 1), make([]node, 1), make([]list, 1), make([]int64, 1)
 	m.vectorNumbers[""] = 0
 	m.nameCells = len(devices) * (4 + len(devices))

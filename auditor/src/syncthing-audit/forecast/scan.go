@@ -144,7 +144,10 @@ func (s *state) findRename(i, n int, entry *record, r *renames) {
 		return
 	}
 	for _, other := range r.files[entry.content] {
-		if other != n && !r.used[other] && !s.at(i, other).isThere() {
+		if other == n || s.at(i, other).isThere() {
+			continue
+		}
+		if s.noteTied(n, other); !r.used[other] {
 			r.used[other] = true
 			s.update(i, other, s.gone(i, other, r.old.own(i, other)), r.before)
 			return

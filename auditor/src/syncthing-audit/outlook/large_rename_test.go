@@ -77,3 +77,34 @@ func TestALargeRename(t *testing.T) {
 		}
 	}
 }
+
+// However many copies of a file a device made, and into however many directories it moved files, it is known what becomes of each. Where many copies of one file were
+// renamed it isn't: one may be renamed from another one.
+func TestManyCopiesAndDirectories(t *testing.T) {
+	with := func(row *join.Row, number int) *join.Row {
+		eachContent(row, func(content *part.Content) { content.Hash = part.Hash{byte(number), byte(number >> 8), 1} })
+		return row
+	}
+	for why, contents := range map[string]int{"renamed": 500, "copies": 1} {
+		all := []*join.Row{}
+		for number := 0; number < 5; number++ {
+			all = append(all, movedTo(calmDirectory(fmt.Sprint("e", number), 3)))
+		}
+		for number := 0; number < 500; number++ {
+			all = append(all, with(movedTo(calm(fmt.Sprintf("e%d/%05d", number%5, number), 3, 0)), number%contents))
+		}
+		made := len(all)
+		all = append(all, movedAway(calmDirectory("d", 3)))
+		for number := 0; number < 500; number++ {
+			all = append(all, with(movedAway(calm(fmt.Sprintf("d/%05d", number), 3, 0)), number%contents))
+		}
+		for _, rows := range [][]*join.Row{append([]*join.Row{}, all[:made]...), all} {
+			slices.SortFunc(rows, func(a, b *join.Row) bool { return a.Name < b.Name })
+			told := outlookBy(forecast.Usual, folderOf("send-receive", "send-receive", "send-receive"), rows)
+			isKnown := contents > 1 || len(rows) == made
+			if isKnown && (told.Right != int64(made) || told.Names != int64(len(rows)) || told.Walked > 0) || !isKnown && told.NotKnown != told.Names {
+				t.Errorf("%s, %d names: %v, %d walked", why, len(rows), countsOf(told), told.Walked)
+			}
+		}
+	}
+}
