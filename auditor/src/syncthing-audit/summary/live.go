@@ -4,6 +4,7 @@ import (
 	"fmt"
 	"strings"
 
+	"golang.org/x/exp/slices"
 	"syncthing-audit/finding"
 	"syncthing-audit/lists"
 	"syncthing-audit/part"
@@ -65,11 +66,19 @@ func toRest(live *finding.Live) string {
 	}
 	switch live.Waits {
 	case 0:
+		if slices.IndexFunc(live.Names, isReceived) >= 0 {
+			return "audit again. If one is still being received then, see whether the disk is full there, and whether Syncthing's page lists 'Failed Items'"
+		}
 		return "audit again"
 	case live.Moving:
 		return "audit again after a scan by Syncthing, as with --rescan"
 	}
 	return "audit again, and for what waits for a scan after one by Syncthing, as with --rescan"
+}
+
+// isReceived says whether a device was receiving a name. One that fails at it, as on a full disk, looks the same, and begins again and again.
+func isReceived(moving finding.Moving) bool {
+	return slices.IndexFunc(moving.At, func(at finding.Moved) bool { return slices.Contains(at.Why, part.MovedReceiving) }) >= 0
 }
 
 // moving prints the names in motion, and what hasn't been heard of.

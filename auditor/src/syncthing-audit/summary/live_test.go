@@ -44,6 +44,16 @@ func TestAdviceForWhatWaitsForAScan(t *testing.T) {
 	}
 }
 
+// A device that fails to receive a name, as on a full disk, begins again and again: so an audit alone is no way to come to rest.
+func TestAdviceForWhatIsBeingReceived(t *testing.T) {
+	for why, told := range map[string]bool{part.MovedReceiving: true, part.MovedDisk: false} {
+		live := stillFor(0, finding.Moving{Name: "c", At: []finding.Moved{{Device: server, Why: []string{part.MovedRecord, why}}}})
+		if advice := toRest(live); strings.Contains(advice, "see whether the disk is full there, and whether Syncthing's page lists 'Failed Items'") != told || !strings.HasPrefix(advice, "audit again") {
+			t.Errorf("%s: %s", why, advice)
+		}
+	}
+}
+
 // waitingAlone gives a name that waits for a scan, and of which no details were kept.
 func waitingAlone() *finding.Live {
 	live := stillFor(0, finding.Moving{Name: "c", At: []finding.Moved{{Device: server, Why: []string{part.MovedUnscanned}}}})
