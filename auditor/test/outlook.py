@@ -16,7 +16,7 @@ from pathlib import Path
 
 from exporting import auditor, built, go_environment, main
 from foretold import NOTHING, compare, ends_of, foretell, make_parts, real_places, shapes_of
-from quick import Quick, come_to_an_end, remove, rest, start, stop, tree_of
+from quick import Quick, come_to_an_end, node_of, remove, rest, start, stop, tree_of
 from storm import Round
 from syncthing import FOLDER
 
@@ -74,7 +74,9 @@ class BadDays(unittest.TestCase):
                 one.rage()
                 before = {device.name: tree_of(device.files) for device in one.devices}
                 said = self.outlook(one.devices)
-                return one, before, said, list(one.ends(1))
+                ends = list(one.ends(1))
+                one.versions = {device.id: [(name, node_of(path)) for name, path in device.all_versions()] for device in one.devices}
+                return one, before, said, ends
             finally:
                 stop(one.devices)
 
@@ -93,6 +95,7 @@ class BadDays(unittest.TestCase):
             for name in known:
                 came = tuple(shape.get(name, NOTHING) for shape in shapes)
                 untrue += self.untrue(name, came, fates.get(name), [before[device.name].get(name) for device in one.devices], ids)
+        untrue += self.untrue_versions(fates, one.versions, ends[-1])
         print(f"NOTE: bad day {seed}, {one.kinds}: {len(fates)} names, " + ", ".join(f"{said[fate]} {fate}" for fate in (*KNOWN, "not_known")))
         self.assertGreater(len(fates) - said["not_known"], 20, said["why_not_known"])
         self.assertFalse(untrue, f"seed {seed}: " + "\n".join(untrue[:5]))
@@ -117,6 +120,17 @@ class BadDays(unittest.TestCase):
             came = {str(ends[0][device.name].get(name)) for device in one.devices}
             self.assertEqual(len(came), 1, f"seed {seed}, {name}: {came}, {[plan for plan in plans if name in plan['names']]}")
             self.assertNotEqual(came, {"None"}, f"seed {seed}, {name}")
+
+    def untrue_versions(self, fates, versions, end):
+        """What isn't among a device's old versions, though it was told to be there, and is on no disk."""
+        standing, untrue, told = [node for disk in end.values() for node in disk.values()], [], 0
+        for name, thing, one in ((name, thing, one) for name, fate in fates.items() for thing in fate.get("loses", []) for one in thing["old_versions"]):
+            node = ["file", thing.get("size"), thing.get("content")]
+            if one["have"] == "yes" and thing.get("size") and node not in standing:
+                told += 1
+                untrue += [] if (name, node) in versions[one["device"]] else [f"{name} isn't among the old versions of {one['device']}"]
+        print(f"NOTE: of what is lost, {told} are among old versions")
+        return untrue
 
     def untrue(self, name, came, fate, before, ids):
         """What is untrue of what was said of a name."""

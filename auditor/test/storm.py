@@ -31,6 +31,7 @@ from syncthing import programs
 
 KINDS = ["sendreceive", "sendreceive", "sendreceive", "sendonly", "receiveonly", "receiveonly"]
 NAMES = ["alpha", "beta", "gamma", "delta", "omega"]
+VERSIONS_OF = {"beta": "simple", "gamma": "simple"}  # how devices keep old versions
 
 
 class Round:
@@ -52,7 +53,7 @@ class Round:
     def begin(self):
         """Brings all devices into step, and has some history."""
         for device in self.devices:
-            device.set_up(self.linked(device), "sendreceive")
+            device.set_up(self.linked(device), "sendreceive", VERSIONS_OF.get(device.name, ""))
         self.storm.make_all()
         start(self.devices)
         rest(self.devices)
@@ -64,7 +65,7 @@ class Round:
             rest(self.devices)
         stop(self.devices)
         for device in self.devices:
-            device.set_up(self.linked(device), self.kinds[device.name])
+            device.set_up(self.linked(device), self.kinds[device.name], VERSIONS_OF.get(device.name, ""))
 
     def plan(self, phases):
         """When which names are changed on which devices."""

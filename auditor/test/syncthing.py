@@ -152,13 +152,14 @@ class Device:
             xml.SubElement(versioning, name).text = value
         self.write(tree, path)
 
+    def all_versions(self, place=VERSIONS):
+        """The names of which old versions are in a directory, each with the path of one."""
+        root = self.files / place
+        return [(re.sub(r"~[0-9]{8}-[0-9]{6}", "", str(path.relative_to(root))), path) for path in sorted(root.rglob("*"), reverse=True) if path.is_file()]
+
     def old_versions(self, place=VERSIONS):
-        """The paths of the old versions in a directory, by the names of which they are: the first one of each."""
-        root, made = self.files / place, {}
-        for path in sorted(root.rglob("*")):
-            if path.is_file():
-                made.setdefault(re.sub(r"~[0-9]{8}-[0-9]{6}", "", str(path.relative_to(root))), path)
-        return made
+        """The path of the first old version of each name in a directory."""
+        return dict(self.all_versions(place))
 
     def start(self):
         """Starts the process and waits for its API."""
