@@ -19,6 +19,7 @@ import (
 	"syncthing-audit/inputs"
 	"syncthing-audit/observing"
 	"syncthing-audit/outside"
+	"syncthing-audit/part"
 	"syncthing-audit/places"
 	"syncthing-audit/shell"
 	"syncthing-audit/summary"
@@ -184,6 +185,8 @@ func (n *night) optionsOfParts() commandline.Options {
 			options.Parts = append(options.Parts, path)
 			if age := n.began.Sub(head.Made).Hours(); age > from.Hours {
 				n.faults = append(n.faults, outside.Sprintf("the part of %s is %.0f hours old: %s", calledOf(head), age, shell.Quoted(path)))
+			} else if -age > part.MostAhead.Hours() {
+				n.faults = append(n.faults, outside.Sprintf("the part of %s says that it was made %.0f hours from now, so how old it is isn't known: set the device's clock: %s", calledOf(head), -age, shell.Quoted(path)))
 			}
 		}
 	}

@@ -219,6 +219,7 @@ func TestThePartsOfANight(t *testing.T) {
 	id := protocol.DeviceID{7: 1}.String()
 	for name, head := range map[string]*part.Head{
 		"new": {Name: "new", Made: r.began.Add(-30 * time.Hour)}, "old": {Name: "old\x1b", Made: r.began.Add(-31 * time.Hour)}, "unnamed": {Made: r.began.Add(-100 * time.Hour)},
+		"ahead": {Name: "ahead", Made: r.began.Add(2 * time.Hour)}, "nearly": {Name: "nearly", Made: r.began.Add(part.MostAhead)},
 		"slice": {Name: "slice", Made: r.began, Names: choice.Names{Slice: 1, Slices: 2}},
 	} {
 		head.Device, head.Folders, head.Others = id, []part.Folder{{ID: "docs", Kind: "send-receive", IndexID: 1}}, []part.Other{}
@@ -232,11 +233,12 @@ func TestThePartsOfANight(t *testing.T) {
 	for _, path := range asked.Parts {
 		paths = append(paths, filepath.Base(path))
 	}
-	if strings.Join(paths, " ") != "damaged.part new.part old.part unnamed.part" || asked.Signers != filepath.Join(r.directory, "signers") || asked.History != filepath.Join(r.directory, "state/history of parts") {
+	if strings.Join(paths, " ") != "ahead.part damaged.part nearly.part new.part old.part unnamed.part" || asked.Signers != filepath.Join(r.directory, "signers") || asked.History != filepath.Join(r.directory, "state/history of parts") {
 		t.Errorf("%q, %+v", paths, asked)
 	}
 	quoted := func(name string) string { return shell.Quoted(filepath.Join(r.directory, "parts", name)) }
-	due := []string{"a fault before", quoted("away.part") + " is no file, so it isn't read", "the part of old? is 31 hours old: " + quoted("old.part"),
+	due := []string{"a fault before", quoted("away.part") + " is no file, so it isn't read",
+		"the part of ahead says that it was made 2 hours from now, so how old it is isn't known: set the device's clock: " + quoted("ahead.part"), "the part of old? is 31 hours old: " + quoted("old.part"),
 		"the part of slice has " + (choice.Names{Slice: 1, Slices: 2}).Words() + ", and tonight's audit is of " + (choice.Names{}).Words() + ": " + quoted("slice.part"),
 		"the part of " + id + " is 100 hours old: " + quoted("unnamed.part")}
 	if !reflect.DeepEqual(r.faults, due) {

@@ -40,6 +40,9 @@ var Kinds = []string{Ignored, Unreadable, Changing, Special, OddName, OddTarget,
 // KindEncrypted is the kind of a folder whose device has it encrypted, of which no document is made.
 const KindEncrypted = "encrypted"
 
+// MostAhead is how far a device's clock may be ahead of another one without that being told. Of a part that was made later nobody knows how old it is.
+const MostAhead = time.Hour
+
 // Head says whose part it is and what it holds.
 type Head struct {
 	Version      int       `json:"version"`

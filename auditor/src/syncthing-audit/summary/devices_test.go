@@ -43,6 +43,8 @@ func TestOldParts(t *testing.T) {
 		{[]time.Duration{time.Hour, mostAge}, lastLine},
 		{[]time.Duration{time.Hour, mostAge + time.Minute},
 			"\nread more than a day ago: server 2020-09-12 12:26:40 UTC; what changed on a disk since isn't seen" + lastLine},
+		{[]time.Duration{-part.MostAhead, -part.MostAhead - time.Minute},
+			"\nread in a time that is still to come, by the device's clock: server 2020-09-13 13:28:40 UTC; how long ago that was isn't known" + lastLine},
 	} {
 		answer := answerOf(2, func(*finding.Folder) {})
 		for place := range answer.Devices {

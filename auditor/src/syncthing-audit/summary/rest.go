@@ -123,6 +123,9 @@ func (p *printer) devices(s *Summary) {
 	p.ofDevices(s, "read more than a day ago: %s; what changed on a disk since isn't seen", func(device *Device) (string, bool) {
 		return " " + p.When(device.Read), !device.Read.IsZero() && p.now.Sub(device.Read) > mostAge
 	})
+	p.ofDevices(s, "read in a time that is still to come, by the device's clock: %s; how long ago that was isn't known", func(device *Device) (string, bool) {
+		return " " + p.When(device.Read), !p.now.IsZero() && device.Read.Sub(p.now) > part.MostAhead
+	})
 	unsigned := lists.Where(s.Devices, func(device Device) bool { return device.IsUnsigned })
 	p.ofDevices(s, "not signed: "+counted(int64(len(unsigned)), "part", "parts")+" of %s. No signature was checked, so whoever could write a part may have said this for its device (--allowed-signers FILE checks)",
 		func(device *Device) (string, bool) { return "", device.IsUnsigned })
