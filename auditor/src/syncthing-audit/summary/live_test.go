@@ -83,7 +83,7 @@ var textsOfRunningDevices = []struct {
 		finding.Moving{Name: "c", At: []finding.Moved{{Device: server, Why: []string{part.MovedReceiving}}}}),
 		`docs (Documents): in step and firm as far as audited; still for 1,312 s: 1,204 names (4 deleted), 335.2 MB hashed on laptop, server; in motion: 2
 
-in motion in docs: 2 names, not audited: audit again
+in motion in docs: 2 names, not audited: audit again. If one is still being received then, see whether the disk is full there, and whether Syncthing's page lists 'Failed Items'
   'a b': laptop: its record changed, what stands on the disk changed; server: what it knows of others' records changed
   c: server: it is being received
 ` + strings.TrimPrefix(lastLine, "\n")},
