@@ -18,8 +18,8 @@ type actions struct {
 // wrongAt is why names on a device are told above all entries.
 type wrongAt struct{ why, device string }
 
-// note notes what the entry of a folder's name tells to do.
-func (a *actions) note(file *File, folder string) {
+// note notes what the entry of a folder's name tells to do, where some device holds so many names of the folder.
+func (a *actions) note(file *File, folder string, held int64) {
 	a.entries++
 	for _, device := range file.toMakeSafe() {
 		a.safe[device] = true
@@ -29,8 +29,15 @@ func (a *actions) note(file *File, folder string) {
 		if a.wrong[at] == nil {
 			a.wrong[at] = &First{Why: at.why, Devices: []string{at.device}}
 		}
-		a.wrong[at].Names++
-		a.wrong[at].folders = print.AddOnce(a.wrong[at].folders, folder)
+		a.wrong[at].add(folder, held)
+	}
+}
+
+// add adds a name of a folder.
+func (f *First) add(folder string, held int64) {
+	f.Names++
+	if !slices.Contains(f.folders, folder) {
+		f.folders, f.held = append(f.folders, folder), f.held+held
 	}
 }
 

@@ -154,3 +154,15 @@ func TestObserversAreNamed(t *testing.T) {
 		}
 	}
 }
+
+// A device may say that its part is of the year 1, which Go takes for no time: that is long ago, too.
+func TestAPartOfTheYearOne(t *testing.T) {
+	now := time.Unix(later, 0)
+	answer := answerOf(2, func(*finding.Folder) {})
+	answer.Devices[0].Made, answer.Devices[1].Made = now, time.Time{}
+	var written strings.Builder
+	Of(answer).Print(&written, time.UTC, now)
+	if !strings.Contains(written.String(), "\nread more than a day ago: server 0001-01-01 00:00:00 UTC; what changed on a disk since isn't seen\n") {
+		t.Error(written.String())
+	}
+}

@@ -14,6 +14,7 @@ type First struct {
 	Names   int64    `json:"names,omitempty"` // how many names it is about, where these are counted
 	Text    string   `json:"text"`
 	folders []string // that have these names
+	held    int64    // names that some device holds in these folders
 }
 
 // Why something comes first, in the order in which it is told.
@@ -59,7 +60,7 @@ func (f *First) words() string {
 		return counted(f.Names, "file is", "files are") + " older than recorded, as after a backup was put back. A scan sends the older bytes to all devices, in place of the newer ones. " +
 			"See whether that is wanted before Syncthing starts or scans there"
 	}
-	return "see that the disk of " + strings.Join(f.folders, ", ") + " is mounted before Syncthing starts or scans there: " + counted(f.Names, "name is", "names are") + " missing"
+	return "see that the disk of " + strings.Join(f.folders, ", ") + " is mounted before Syncthing starts or scans there: " + f.ofHeld() + " missing"
 }
 
 // firstOlder tells on which devices the index went back. A plain start there gives sequences anew, and what changes under these nobody hears of.
@@ -76,6 +77,12 @@ func (s *Summary) firstOlder(named print.Names) []First {
 			". Once all are idle, audit again. If a copy of the home was read, make it anew in place of that"})
 	}
 	return lines
+}
+
+// ofHeld says how many of the folders' names these are: a disk that isn't mounted lacks all, or all below a directory.
+func (f *First) ofHeld() string {
+	all := "of " + counted(f.held, "name", "names")
+	return counted(f.Names, all+" is", all+" are")
 }
 
 // firstScans tells on which devices a scan or a pull was under way: no later step keeps back what a scan found already.

@@ -68,8 +68,8 @@ func TestADiskThatMayNotBeMounted(t *testing.T) {
 		isKnown bool
 		told    string
 	}{
-		{[]*part.Name{file(1, 1), with(file(1, 1), absent)}, []string{"StoreDiffers 2"}, true, "first, on server: see that the disk of docs (Documents) is mounted before Syncthing starts or scans there: 2 names are missing"},
-		{[]*part.Name{file(1, 1), with(file(1, 1), absent)}, []string{"StoreDiffers 2"}, false, "first, on server: see that the disk of docs (Documents) is mounted before Syncthing starts or scans there: 2 names are missing"},
+		{[]*part.Name{file(1, 1), with(file(1, 1), absent)}, []string{"StoreDiffers 2"}, true, "first, on server: see that the disk of docs (Documents) is mounted before Syncthing starts or scans there: 2 of 1,200 names are missing"},
+		{[]*part.Name{file(1, 1), with(file(1, 1), absent)}, []string{"StoreDiffers 2"}, false, "first, on server: see that the disk of docs (Documents) is mounted before Syncthing starts or scans there: 2 of 1,200 names are missing"},
 		{[]*part.Name{with(file(1, 1), absent), with(file(1, 1), absent)}, []string{"StoreDiffers 1", "StoreDiffers 2"}, true, "first, on laptop: see that the disk of docs (Documents) is mounted"},
 		{[]*part.Name{with(file(2, 2), gone), with(file(1, 1), absent)}, []string{"RecordDiffers 2", "StoreDiffers 2"}, true, ""},
 	} {

@@ -84,6 +84,7 @@ type folding struct {
 	off   []part.Sharing               // devices that share the folder and aren't audited in it
 	going going                        // bytes that stand under a name which goes
 	name  string                       // of the folder, for a person
+	held  int64                        // names of the folder that some device holds
 }
 
 // take takes the next name.
@@ -97,7 +98,7 @@ func (f *folding) take(file *File) {
 	file.sortDevices(f.named)
 	file.Same = sameOtherBytes(file.Faults)
 	f.going.add(file)
-	f.to.note(file, f.name)
+	f.to.note(file, f.name, f.held)
 	isAlike, key := file.canBeTold(), f.keyOf(file)
 	if !file.hasDetails && (!isAlike || !f.alike.Has(key) && f.kinds >= mostKinds) {
 		file.shorten()

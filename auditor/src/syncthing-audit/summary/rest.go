@@ -121,7 +121,7 @@ const mostAge = 24 * time.Hour
 // whose parts anybody may have made who could write them, and which devices have another version of Syncthing than those with which this program was tried.
 func (p *printer) devices(s *Summary) {
 	p.ofDevices(s, "read more than a day ago: %s; what changed on a disk since isn't seen", func(device *Device) (string, bool) {
-		return " " + p.When(device.Read), !device.Read.IsZero() && p.now.Sub(device.Read) > mostAge
+		return " " + p.When(device.Read), p.now.Sub(device.Read) > mostAge
 	})
 	p.ofDevices(s, "read in a time that is still to come, by the device's clock: %s; how long ago that was isn't known", func(device *Device) (string, bool) {
 		return " " + p.When(device.Read), !p.now.IsZero() && device.Read.Sub(p.now) > part.MostAhead

@@ -204,7 +204,7 @@ func Of(answer *finding.Answer) *Summary {
 	summary.actions = &actions{safe: map[string]bool{}, wrong: map[wrongAt]*First{}, waits: map[string]*waiting{}}
 	names := []*folding{}
 	for _, folder := range answer.Folders {
-		all := &folding{named: named, going: going{}, off: offOf(folder), to: summary.actions, name: shell.Folder(folder.ID, folder.Label)}
+		all := &folding{named: named, going: going{}, off: offOf(folder), to: summary.actions, name: shell.Folder(folder.ID, folder.Label), held: folder.Names - folder.Deleted}
 		summary.Folders, names = append(summary.Folders, folderOf(answer, folder, all)), append(names, all)
 	}
 	for place, folder := range summary.Folders { // what is told of one name depends on what is told of all others

@@ -104,7 +104,7 @@ a  (in docs, 300.0 kB)
 	{"a missing file", 2, func(folder *finding.Folder) {
 		fails(folder, "a", []*part.Name{file(1, 1), with(file(1, 1), func(at *part.Name) { at.Disk = nil })}, "StoreDiffers 2")
 	}, lineOfFolder + `
-first, on server: see that the disk of docs (Documents) is mounted before Syncthing starts or scans there: 1 name is missing
+first, on server: see that the disk of docs (Documents) is mounted before Syncthing starts or scans there: 1 of 1,200 names is missing
 
 a  (in docs, 300.0 kB)
   server: missing on the disk
