@@ -20,7 +20,7 @@ audit_kinds() {
 }
 
 expect "the man page of syncthing-audit has other commands: $(audit_commands | paste -sd ' ')" \
-  [ "$(audit_commands | paste -sd ' ')" = 'part check run watch report observe disk export sum find' ]
+  [ "$(audit_commands | paste -sd ' ')" = 'part check run watch report observe disk export sum find wanted' ]
 expect "too few flags in the man page of syncthing-audit: $(audit_flags | paste -sd ' ')" [ "$(audit_flags | wc -l)" -ge 10 ]
 expect "not fourteen kinds in the man page of syncthing-audit" [ "$(audit_kinds | sort -u | wc -l)" = 14 ]
 for file in "${of_audit[@]}"; do
@@ -49,7 +49,7 @@ while IFS='|' read -r words expected; do
   eval "set -- $words"
   expect "bash completes '$words' as '$(completed "$@")', and not as '$expected'" [ "$(completed "$@")" = "$expected" ]
 done << END
-''|--about --help --version check disk export find observe part report run sum watch
+''|--about --help --version check disk export find observe part report run sum wanted watch
 ch|check
 part -|--about --begin --data --end --folder --heed-input --help --home --jobs --leave-out --map --names --observer --paths --progress --rescan --show --sign --slice --still --strict --tokens -o
 run --re|--remote-program --rescan
@@ -75,5 +75,5 @@ if command -v fish > /dev/null 2>&1; then
   offered=$(fish --no-config -c "source auditor/completions/syncthing-audit.fish; complete -C 'syncthing-audit check --l'" 2>&1 | cut -f 1 | sort | paste -sd ' ')
   expect "fish completes 'check --l' as '$offered'" [ "$offered" = '--leave-out --lines' ]
   offered=$(fish --no-config -c "source auditor/completions/syncthing-audit.fish; complete -C 'syncthing-audit '" 2>&1 | cut -f 1 | sort | paste -sd ' ')
-  expect "fish completes commands as '$offered'" [ "$offered" = 'check disk export find observe part report run sum watch' ]
+  expect "fish completes commands as '$offered'" [ "$offered" = 'check disk export find observe part report run sum wanted watch' ]
 fi

@@ -55,7 +55,9 @@ func stoppedParts(device byte) []*hostile {
 	out := &part.Name{Name: "f/", Out: []part.LeftOut{{Kind: part.Unreadable, Why: "it can't be read", Below: true}}}
 	damaged := &part.Name{Name: "g/", Out: []part.LeftOut{{Kind: part.Damaged, Why: "its names can't be had", Below: true}}}
 	lines := linesOf(hostileFile("a", 1, 7), lost, linked, hostileFile("d~20261128.sync-conflict-20261128-100000-ABCDEFG", 4, 1), out, damaged)
-	lines[len(lines)-1].End.Holding = &part.Holding{Names: []part.Bytes{"f"}}
+	end := lines[len(lines)-1].End
+	end.Holding = &part.Holding{Names: []part.Bytes{"f"}}
+	end.Deletable = &part.Deletable{In: []part.DeletableIn{{Directory: "f", Count: part.Count{Names: 1, Bytes: 5}}}}
 	return []*hostile{{headOfHostile(device), lines}}
 }
 

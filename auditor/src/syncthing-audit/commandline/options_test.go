@@ -251,7 +251,7 @@ func TestObservers(t *testing.T) {
 // The help of a command has its own calls and what it does, each line whole, and nothing of other commands.
 func TestHelpOfACommand(t *testing.T) {
 	for command, due := range map[string][2]string{
-		"sum":   {"usage: syncthing-audit sum DIR\n\n  sum ", "write of each\n\n"},
+		"sum":   {"usage: syncthing-audit sum DIR\n\n  sum ", "one after another\n\n"},
 		"watch": {"usage: syncthing-audit watch CONFIG\n\n  watch ", "all is\n\n"},
 		"part": {"usage: syncthing-audit part [--home DIR [--data DIR]] [--folder ID ..] [--names PREFIX] [--slice K/N] [--sign KEY] -o FILE\n" +
 			"       syncthing-audit part (--begin [--rescan] | --end --tokens FILE ..) [--home DIR [--data DIR]] [--folder ID ..] -o FILE\n" +

@@ -167,7 +167,8 @@ func (w *writing) places() []of {
 	return all
 }
 
-// nameOf gives a script's name: its round, and the device's name as far as it can stand there, with the beginning of its id.
+// nameOf gives a script's name: its round, and the device's name as far as it can stand there, with the beginning of its id. A name that may be taken for
+// another one's has that behind it already.
 func (w *writing) nameOf(at of) string {
 	isOther := func(letter rune) rune {
 		if letter < 128 && (letter == '-' || letter >= '0' && letter <= '9' || letter >= 'A' && letter <= 'Z' || letter >= 'a' && letter <= 'z') {
@@ -175,6 +176,7 @@ func (w *writing) nameOf(at of) string {
 		}
 		return '_'
 	}
-	name := strings.Map(isOther, w.called(at.device))
+	called := strings.TrimSuffix(w.called(at.device), fmt.Sprintf(" (%.7s)", at.device))
+	name := strings.Map(isOther, called)
 	return fmt.Sprintf("%d-%.40s-%.7s.sh", at.round, name, at.device)
 }
