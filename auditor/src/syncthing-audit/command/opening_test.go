@@ -11,7 +11,6 @@ var mayOpen = map[string]string{
 	"listening/listening.go":     "the kernel's table of listeners",
 	"directory/place.go":         "the system's id",
 	"directory/plain_windows.go": "a directory",
-	"directory/case.go":          "the directory in which a folder's marker was found",
 	"leftover/staged.go":         "the directory that was made for a run",
 	"leftover/whole.go":          "a directory, to have its names be on the disk",
 	"inputs/looks.go":            "a part that the caller names: a shell may give a pipe",

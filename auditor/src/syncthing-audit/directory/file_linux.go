@@ -58,7 +58,7 @@ func (f File) Stat() (os.FileInfo, error) {
 // ReadAt reads as many bytes, or says why there are fewer.
 func (f File) ReadAt(to []byte, offset int64) (int, error) {
 	for done := 0; ; {
-		count := 0
+		var count int
 		err := uninterrupted(func() (err error) {
 			count, err = unix.Pread(f.Number, to[done:], offset+int64(done))
 			return err

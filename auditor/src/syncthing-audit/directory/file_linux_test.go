@@ -67,3 +67,23 @@ func TestAFailedLookNamesItsFile(t *testing.T) {
 		t.Errorf("a look at no file fails with %v", err)
 	}
 }
+
+// A file that is leased is opened once the lease is given back: the first call says that it would wait, and the second one waits.
+func TestALeasedFileIsWaitedFor(t *testing.T) {
+	file, err := openFile("above", "file", func(name string, flags int) (int, error) {
+		if flags&unix.O_NONBLOCK != 0 {
+			return -1, unix.EWOULDBLOCK
+		}
+		return 7, nil
+	})
+	if err != nil || file.Number != 7 {
+		t.Errorf("%+v, %v", file, err)
+	}
+}
+
+// Nothing is opened below a directory that isn't there.
+func TestNothingIsOpenedBelowNoDirectory(t *testing.T) {
+	if _, err := NewBeneath(filepath.Join(t.TempDir(), "none")).OpenToRead("file"); !errors.Is(err, os.ErrNotExist) {
+		t.Error(err)
+	}
+}

@@ -35,8 +35,14 @@ func TestKindsOfNames(t *testing.T) {
 		if err != nil {
 			t.Fatal(err)
 		}
-		if told := fmt.Sprintf("%v %v %v %o", info.IsDir(), info.IsRegular(), info.IsSymlink(), info.Permissions()); told != due {
-			t.Errorf("%s: %s, not %s", name, told, due)
+		about, err := os.Lstat(path(name))
+		if err != nil {
+			t.Fatal(err)
+		}
+		for _, one := range []Info{info, InfoOf(about)} { // as Go itself has it, too
+			if told := fmt.Sprintf("%v %v %v %o", one.IsDir(), one.IsRegular(), one.IsSymlink(), one.Permissions()); told != due {
+				t.Errorf("%s: %s, not %s", name, told, due)
+			}
 		}
 		if name == "file" && (info.Size() != 4 || !info.ModTime().Equal(when) || info.About().Size() != 4) {
 			t.Errorf("%d bytes of %v", info.Size(), info.ModTime())
