@@ -95,7 +95,8 @@ class RotWithAnotherMode(Rotten):
         entry, = [" ".join(entry.split()) for entry in text.split("\n\n") if entry.startswith("text")]
         for told in (f"{self.two.id[:7]}: other bytes on the disk; size and time are as recorded",
                      "permissions differ (they don't count for the verdict)", "0644 recorded, 0600 on the disk",
-                     f"if nothing is done: all devices then have what {self.two.id[:7]} has now; what {self.one.id[:7]} has now goes."):
+                     f"if nothing is done: all devices then have what {self.two.id[:7]} has now; what {self.one.id[:7]} has now goes, "
+                     f"and {self.one.id[:7]} keeps no old versions."):
             self.assertIn(told, entry)
 
     def assert_the_next_scan_sends_them(self):
