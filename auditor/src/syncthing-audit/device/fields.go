@@ -65,7 +65,7 @@ func AddCounter(to *protocol.Vector, text []byte) (isPlain bool, err error) {
 	var counter protocol.Counter
 	isPlain = true
 	for fields := message.FieldsOf(text, &err); fields.Next(); {
-		field := message.Field{Number: fields.Number, Value: fields.Value, Text: fields.Text}
+		field := fields.Field
 		switch field.Number {
 		case message.CounterID:
 			counter.ID = protocol.ShortID(field.Value)
@@ -85,7 +85,7 @@ func AddBlock(to *protocol.FileInfo, text []byte) (isPlain bool, err error) {
 	var block protocol.BlockInfo
 	isPlain = true
 	for fields := message.FieldsOf(text, &err); fields.Next(); {
-		field := message.Field{Number: fields.Number, Value: fields.Value, Text: fields.Text}
+		field := fields.Field
 		isDue := isNumber(field)
 		switch field.Number {
 		case message.BlockOffset:

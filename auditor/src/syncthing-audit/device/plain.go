@@ -31,7 +31,7 @@ func (r *plainReader) read(name, text []byte) *protocol.FileInfo {
 	r.file = protocol.FileInfo{Blocks: r.file.Blocks[:0], Version: protocol.Vector{Counters: r.file.Version.Counters[:0]}}
 	r.blocks, r.err = r.blocks[:0], nil
 	for fields := message.FieldsOf(text, &r.err); fields.Next(); {
-		if !r.take(message.Field{Number: fields.Number, Value: fields.Value, Text: fields.Text}) {
+		if !r.take(fields.Field) {
 			return nil
 		}
 	}

@@ -13,11 +13,9 @@ type Field struct {
 
 // Fields are those of a message, one by one: a message of very many fields takes no room for them.
 type Fields struct {
-	Number protowire.Number
-	Value  uint64
-	Text   []byte
-	rest   []byte
-	err    *error
+	Field // the one that was gone to
+	rest  []byte
+	err   *error
 }
 
 // FieldsOf begins before the first field of a message. There are none once there is an error, and the first error is put there.
@@ -88,7 +86,7 @@ func longer(from []byte) (value uint64, length int) {
 // Each gives the fields of a message to take. The first error ends it.
 func Each(message []byte, take func(Field) error) (err error) {
 	for fields := FieldsOf(message, &err); fields.Next(); {
-		err = take(Field{fields.Number, fields.Value, fields.Text})
+		err = take(fields.Field)
 	}
 	return err
 }
