@@ -49,11 +49,12 @@ func (h *History) emptiedAt(folder string, second time.Time) (found time.Time, e
 
 // intended gives the audits that found what somebody wanted to go.
 func (h *History) intended(folder string) (times []time.Time, err error) {
-	return times, h.eachEmptied(folder, func(at time.Time, of emptiedValue) {
+	err = h.eachEmptied(folder, func(at time.Time, of emptiedValue) {
 		if of.Intended {
 			times = append(times, at)
 		}
 	})
+	return times, err // in a statement of its own: in one with the call, Go may read times before that
 }
 
 func (h *History) eachEmptied(folder string, take func(time.Time, emptiedValue)) error {
