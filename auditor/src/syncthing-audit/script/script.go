@@ -26,7 +26,10 @@ type File struct {
 
 // Of gives the scripts of an answer, those first that are to be run first. The time tells the audit's own steps from those of another one.
 func Of(told *summary.Summary, now time.Time) []File {
-	all := &writing{called: told.Called(), first: len(told.First), audit: now.UTC().Format("20060102T150405Z"), scripts: map[of]*script{}}
+	all := &writing{called: told.Called(), chosen: map[string]string{}, first: len(told.First), audit: now.UTC().Format("20060102T150405Z"), scripts: map[of]*script{}}
+	for _, device := range told.Devices {
+		all.chosen[device.ID] = device.Name
+	}
 	for _, folder := range told.Folders {
 		if folder.Outlook == nil {
 			continue
@@ -55,6 +58,7 @@ type of struct {
 // writing are the scripts of an answer.
 type writing struct {
 	called  print.Names
+	chosen  map[string]string // the name that each device has chosen, if any
 	audit   string
 	scripts map[of]*script
 	number  int   // of the last step
@@ -167,8 +171,7 @@ func (w *writing) places() []of {
 	return all
 }
 
-// nameOf gives a script's name: its round, and the device's name as far as it can stand there, with the beginning of its id. A name that may be taken for
-// another one's has that behind it already.
+// nameOf gives a script's name: its round, and the device's name as far as it can stand there, with the beginning of its id.
 func (w *writing) nameOf(at of) string {
 	isOther := func(letter rune) rune {
 		if letter < 128 && (letter == '-' || letter >= '0' && letter <= '9' || letter >= 'A' && letter <= 'Z' || letter >= 'a' && letter <= 'z') {
@@ -176,7 +179,9 @@ func (w *writing) nameOf(at of) string {
 		}
 		return '_'
 	}
-	called := strings.TrimSuffix(w.called(at.device), fmt.Sprintf(" (%.7s)", at.device))
-	name := strings.Map(isOther, called)
-	return fmt.Sprintf("%d-%.40s-%.7s.sh", at.round, name, at.device)
+	name := w.chosen[at.device]
+	if name == "" {
+		name = w.called(at.device)
+	}
+	return fmt.Sprintf("%d-%.40s-%.7s.sh", at.round, strings.Map(isOther, name), at.device)
 }
