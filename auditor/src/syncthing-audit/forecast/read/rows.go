@@ -283,9 +283,12 @@ func (r *Rows) addIgnored(name *forecast.Name, member int, count part.Count) {
 
 // notListed notes that it isn't known of a device's directories behind a name what they hold, where there are more than its part lists.
 func (r *Rows) notListed(member int, more int64, last string) {
+	if more == 0 {
+		return
+	}
 	for place := range r.world.Names {
 		name := &r.world.Names[place]
-		if what := name.Disk[member]; more > 0 && name.Name > last && what != nil && what.Type == forecast.Directory && r.risky[name.Name] {
+		if what := name.Disk[member]; name.Name > last && what != nil && what.Type == forecast.Directory && r.risky[name.Name] {
 			r.Unknown[name.Name] = LeftOut
 		}
 	}
