@@ -92,7 +92,7 @@ func (p *printer) changed(s *Summary, count int64, all []history.Changed, on str
 	p.Line("%s %s", counted(count, "file has other bytes than before", "files have other bytes than before, each"), on)
 	listed(p, mostNews, count, all, "--json has "+thousands(int64(len(all)))+" of them", func(file history.Changed) string {
 		devices, name := p.Called.All(file.Devices), shell.Path(string(file.Name))
-		find := "syncthing-audit find --history " + shell.Path(s.Since.Directory) + " --folder " + shell.Path(file.Folder) + " " + name + " DIR"
+		find := s.onHistory("find", file.Folder) + " " + name + " DIR"
 		return fmt.Sprintf("%s in %s: its bytes changed between %s and %s on %s%s. A program that puts a file's time back after it wrote looks the same", shell.Quoted(string(file.Name)),
 			file.Folder, p.day(file.Before), p.day(file.Since), devices, toDo(find, p.day(file.Since), devices, versions(p.Called, s.folder(file.Folder))))
 	})
