@@ -2,13 +2,14 @@
 ghost use Rattle.std.specs.Prelude.{◌≡◌, ◌≢◌, ◌↔◌, All, IsTrue, MatchOption};
 ghost use Rattle.bep_record.specs.Text.{IsPlainText};
 
+use memchr::memchr;
 use std::str;
 
 // Whether no byte is NUL.
 fn has_no_nul(bytes: &[u8]) -> bool
     ensures { IsTrue result ↔ All (λ b. b ≢ 0) bytes.now }
 {
-    bytes.iter().all(|b| *b != 0)
+    memchr(0, bytes).is_none()
 }
 
 /// The bytes as a text, `None` where they aren't UTF-8 or have a NUL byte.
