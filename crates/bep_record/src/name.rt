@@ -1,5 +1,5 @@
 //! The names of files.
-ghost use Rattle.std.specs.Prelude.{◌≡◌, ◌⊎◌, ◌↔◌, ℕ, List, All, IsTrue, IfOk, IfErr, IsErrOf, OnOk, MatchOption, Some, nat_eq, refl};
+ghost use Rattle.std.specs.Prelude.{◌≡◌, ◌⊎◌, ◌↔◌, ℕ, List, All, IsTrue, IfOk, IfErr, IsErrOf, OnOk, Some, nat_eq, refl};
 ghost use Rattle.std.specs.Ordering.{nat_cmp};
 ghost use Rattle.std.specs.Hash as fed;
 ghost use Rattle.std.specs.Cmp.Lexicographic.{pointwise, slice_cmp, nat_list_eq_equiv, nat_list_cmp_total, texts_ties, texts_po};
@@ -11,12 +11,13 @@ ghost use Rattle.bep_record.specs.Name.{IsName, IsPart, parts_of};
 
 use crate::error::RecordError;
 use crate::limits::MAX_NAME_LEN;
-use crate::text::plain_text;
+use crate::text::has_no_nul;
 use std::alloc::{AllocError, Global};
 use std::cmp::Ordering;
 use std::fmt;
 use std::hash::{Hash, Hasher};
 use std::marker::Model;
+use std::str;
 
 /// The name of a file in a folder: 1 to 1024 bytes of UTF-8 without NUL, whose parts between slashes are neither empty
 /// nor `.` nor `..`. Names are compared by their bytes.
@@ -58,18 +59,15 @@ fn has_good_parts(text: &str) -> bool
     text.split('/').all(|part| is_part(part))
 }
 
-// The bytes as the text of a name, `None` where they are no name.
-fn name_text(bytes: &[u8]) -> Option<&str>
-    ensures { MatchOption result (¬ IsName bytes.now) (λ text. (text.now ≡ bytes.now) × IsName bytes.now) }
+// Whether the text is a name.
+fn is_name(text: &str) -> bool
+    ensures { IsTrue result ↔ IsName text.now }
 {
+    let bytes = text.as_bytes();
     if bytes.is_empty() || bytes.len() > MAX_NAME_LEN {
-        return None;
+        return false;
     }
-    let text = plain_text(bytes)?;
-    if !has_good_parts(text) {
-        return None;
-    }
-    Some(text)
+    has_no_nul(bytes) && has_good_parts(text)
 }
 
 impl Name {
@@ -82,9 +80,24 @@ impl Name {
         ensures only { IfErr result (λ e. (e ≡ RecordError.NameBad) ⊎ (e ≡ RecordError.Memory)) }
         ensures out_of_memory { IsErrOf result RecordError.Memory → IsName bytes.now }
     {
-        let Some(text) = name_text(bytes) else {
+        match str::from_utf8(bytes) {
+            Ok(text) => Name::of_text(alloc, text),
+            Err(_) => Err(RecordError::NameBad),
+        }
+    }
+
+    /// The name with this text, as `read` makes it of its bytes.
+    pub fn of_text(alloc: Global, text: &str) -> Result<Name, RecordError>
+        ensures ok { IfOk result (λ name. name ≡ text.now) }
+        ensures a_name { OnOk result (IsName text.now) }
+
+        ensures bad { IsErrOf result RecordError.NameBad ↔ (¬ IsName text.now) }
+        ensures only { IfErr result (λ e. (e ≡ RecordError.NameBad) ⊎ (e ≡ RecordError.Memory)) }
+        ensures out_of_memory { IsErrOf result RecordError.Memory → IsName text.now }
+    {
+        if !is_name(text) {
             return Err(RecordError::NameBad);
-        };
+        }
         let text = String::from_str(alloc, text)?;
         Ok(Name { text })
     }

@@ -5,8 +5,8 @@ ghost use Rattle.bep_record.specs.Text.{IsPlainText};
 use memchr::memchr;
 use std::str;
 
-// Whether no byte is NUL.
-fn has_no_nul(bytes: &[u8]) -> bool
+/// Whether no byte is NUL.
+pub(crate) fn has_no_nul(bytes: &[u8]) -> bool
     ensures { IsTrue result ↔ All (λ b. b ≢ 0) bytes.now }
 {
     memchr(0, bytes).is_none()
