@@ -14,10 +14,9 @@ use crate::limits::MAX_NAME_LEN;
 use crate::text::has_no_nul;
 use std::alloc::{AllocError, Global};
 use std::cmp::Ordering;
-use std::fmt;
 use std::hash::{Hash, Hasher};
 use std::marker::Model;
-use std::str;
+use std::{fmt, str};
 
 /// The name of a file in a folder: 1 to 1024 bytes of UTF-8 without NUL, whose parts between slashes are neither empty
 /// nor `.` nor `..`. Names are compared by their bytes.
