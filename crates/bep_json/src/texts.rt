@@ -27,7 +27,7 @@ impl Readable for Name {
         let Some(text) = as_str(value) else {
             return Err(ReadError::Range);
         };
-        match Name::read(alloc, text.as_bytes()) {
+        match Name::of_text(alloc, text) {
             Ok(name) => Ok(name),
             Err(RecordError::NameBad) => Err(ReadError::Range),
             Err(_) => Err(ReadError::Memory),

@@ -44,6 +44,20 @@ impl<'a> Group<'a> {
         self.first.compare(entry.folder, entry.name).is_eq()
     }
 
+    // The same as an entry of its folder and name, which are lent from its first entry. So whoever compares the entries of a
+    // group reads the bytes of one name, and not those of each device's.
+    fn with_key(&self, entry: &TableEntry<'a>) -> TableEntry<'a>
+        requires { self.now.0 ≡ key_in entry.now }
+        ensures { listed result ≡ listed entry.now }
+    {
+        TableEntry {
+            folder: self.first.folder,
+            name: self.first.name,
+            device: entry.device,
+            held: entry.held.again(),
+        }
+    }
+
     // Its number.
     fn number(&self) -> usize
         ensures { result ≡ self.now.1 }
@@ -186,10 +200,12 @@ impl<'a> Groups<'a> {
         requires { place_of self.old.places (key_in entry.now) ≡ Some place }
         ensures { OnOk result (Took (listed entry.now ∷ []) self.old self.new) }
     {
-        let at = self.groups[place].number();
+        let group = &self.groups[place];
+        let at = group.number();
+        let entry = group.with_key(entry);
         let next = one_more(at)?;
         self.groups[place].renumber(next);
-        put_at(&mut self.entries, at, entry);
+        put_at(&mut self.entries, at, &entry);
         self.next = place + 1;
         Ok(())
     }

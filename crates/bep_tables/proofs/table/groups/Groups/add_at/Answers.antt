@@ -5,8 +5,8 @@ use Rattle.bep_tables.specs.inner.Groups.{AreFull, Grouping, Spot, Took, groupin
 use Rattle.bep_tables.proofs.GroupFacts.{full_there, no_spot, took_there}
 use Rattle.bep_tables.proofs.table.groups.Groups.add_at.Goals as goal
 
-pub index-requires : goal.index-requires
-index-requires c =
+pub index-group-requires : goal.index-group-requires
+index-group-requires c =
     let groups = c.self.inside.groups.items in
     let places = c.self.inside.places.entries in
     let entries = c.self.inside.entries.items in
@@ -35,6 +35,16 @@ overflow_add-self c =
     let here = (c.self.invariant.filled (key_in entry) c.args.place there).0 in
     omega (arith, here, c.self.inside.groups.ok, c.self.inside.groups.small)
 
+pub with_key-entry-requires : goal.with_key-entry-requires
+with_key-entry-requires c =
+    let groups = c.self.inside.groups.items in
+    let places = c.self.inside.places.entries in
+    let entry = c.args.entry.now in
+    let there : place_of places (key_in entry) ≡ Some c.args.place = ap (λ (all : Grouping). place_of all.places (key_in entry)) c.self.view_is ∙ c.requires in
+    let here = c.self.invariant.filled (key_in entry) c.args.place there in
+    let read : c.index-group.result.now ≡ spot_at groups c.args.place = get_or_read groups c.args.place c.index-group.result.now here.0 c.index-group.ensures no_spot in
+    ap (λ (s : Spot). s.0) read ∙ here.1
+
 pub invariant_of-self : goal.invariant_of-self
 invariant_of-self c =
     let groups = c.self.inside.groups.items in
@@ -44,7 +54,7 @@ invariant_of-self c =
     let there : place_of places (key_in entry) ≡ Some c.args.place = ap (λ (all : Grouping). place_of all.places (key_in entry)) c.self.view_is ∙ c.requires in
     let here = (c.self.invariant.filled (key_in entry) c.args.place there).0 in
     let spot = spot_at groups c.args.place in
-    let read : c.index.result.now ≡ spot = get_or_read groups c.args.place c.index.result.now here c.index.ensures no_spot in
+    let read : c.index-group.result.now ≡ spot = get_or_read groups c.args.place c.index-group.result.now here c.index-group.ensures no_spot in
     let write : c.index_mut.result.now ≡ spot = get_or_read groups c.args.place c.index_mut.result.now here c.index_mut.ensures.value no_spot in
     let at : c.number-at.result ≡ spot.1 = c.number-at.ensures ∙ ap (λ (s : Spot). s.1) read in
     let moved : c.renumber.new.self ≡ (spot.0, spot.1 + 1) =
@@ -62,7 +72,7 @@ returns c =
     let there : place_of places (key_in entry) ≡ Some c.args.place = ap (λ (all : Grouping). place_of all.places (key_in entry)) c.self.view_is ∙ c.requires in
     let here = (c.self.invariant.filled (key_in entry) c.args.place there).0 in
     let spot = spot_at groups c.args.place in
-    let read : c.index.result.now ≡ spot = get_or_read groups c.args.place c.index.result.now here c.index.ensures no_spot in
+    let read : c.index-group.result.now ≡ spot = get_or_read groups c.args.place c.index-group.result.now here c.index-group.ensures no_spot in
     let write : c.index_mut.result.now ≡ spot = get_or_read groups c.args.place c.index_mut.result.now here c.index_mut.ensures.value no_spot in
     let at : c.number-at.result ≡ spot.1 = c.number-at.ensures ∙ ap (λ (s : Spot). s.1) read in
     let moved : c.renumber.new.self ≡ (spot.0, spot.1 + 1) =
@@ -71,7 +81,8 @@ returns c =
     ∙ ap (λ n. (spot.0, n)) (c.in_ok-next.ensures ∙ ap (λ n. n + 1) at) in
     let put : map listed c.put_at.new.list.items ≡ set (map listed entries) spot.1 (listed entry) =
     c.put_at.ensures
-    ∙ ap (λ n. set (map listed entries) n (listed entry)) at in
+    ∙ ap (λ n. set (map listed entries) n (listed c.with_key-entry.result)) at
+    ∙ ap (λ one. set (map listed entries) spot.1 one) c.with_key-entry.ensures in
     subst (λ (all : Grouping). Took (listed entry ∷ []) all (grouping (set groups c.args.place c.renumber.new.self) places c.put_at.new.list.items)) c.self.view_is
     (subst (λ (s : Spot). Took (listed entry ∷ []) (grouping groups places entries) (grouping (set groups c.args.place s) places c.put_at.new.list.items)) (sym moved)
     (took_there groups places entries entry c.self.invariant c.args.place there c.put_at.new.list.items put))
