@@ -1,12 +1,11 @@
 -- The names of a grouped cut's entries are its known names.
 use Rattle.std.proofs.Common.{◌≡◌, ◌⊎◌, ◌↔◌, Bool, true, false, cond, List, [], ◌∷◌, ◌++◌, Option, Some, None, IsTrue, is_some, map, Contains, refl, sym, ap, subst, ◌∙◌, inl, inr, ⊎_elim, nat_eq}
-use Rattle.std.specs.Prelude.{fold}
 use Rattle.std.specs.Ordering.{nat_cmp, eq_by_cmp, is_eq}
 use Rattle.std.specs.Cmp.{Equal-is}
 use Rattle.std.specs.Cmp.Lexicographic.{slice_cmp, pointwise, nat_list_cmp_total, bytes_decides}
 use Rattle.std.specs.FinMap.{get, insert, contains_key, get-empty, get-insert, same_map, empty}
+use Rattle.std.proofs.lemmas.Bool.{false≢true}
 use Rattle.std.proofs.lemmas.Cmp.{tied_itself}
-use Rattle.std.proofs.lemmas.List.Sums.{fold-append}
 use Rattle.std.proofs.lemmas.Map.Lookups.{exact_bytes}
 use Rattle.bep_facts.specs.Members.{not_in_none, Contains-first, Contains-more, Contains-cons_cases}
 use Rattle.bep_facts.specs.Orders.{texts_total, texts_exact}
@@ -21,7 +20,7 @@ use Rattle.bep_tables.specs.Laws.{NamesAreKnown}
 use Rattle.bep_tables.specs.Listed.{Listed, IsGrouped, key_at, listed, is_of, group_of, cut_listed}
 use Rattle.bep_tables.specs.Names.{Names, known_names}
 use Rattle.bep_audit.specs.Group.{IsGroupOf, HasEntry, GroupIsKnown}
-use Rattle.bep_report.specs.inner.Known.{EndsWith, names_among, with_entry}
+use Rattle.bep_report.specs.inner.Known.{begins_with, names_among, with_entry}
 
 -- ---- a name that is added again
 
@@ -43,15 +42,10 @@ entry_twice folder m last one same = subst (λ (key : Folder × FileName). added
     twice true = insert_twice m last.name
     twice false = refl
 
-pub again_adds_nothing : (folder : Folder) (list : List Listed) (one : Listed) → EndsWith (key_at one) list → with_entry folder (names_among folder list) one ≡ names_among folder list
-again_adds_nothing folder list one ends =
-    let last = fold-append (with_entry folder) empty ends.0 (ends.1 ∷ []) in
-    subst (λ l. with_entry folder (names_among folder l) one ≡ names_among folder l) (sym ends.2)
-    (subst (λ names. with_entry folder names one ≡ names) (sym last) (entry_twice folder (names_among folder ends.0) ends.1 one ends.3))
-
--- the names of the entries so far and of the next one
-pub names_more : (folder : Folder) (list : List Listed) (one : Listed) → names_among folder (list ++ one ∷ []) ≡ with_entry folder (names_among folder list) one
-names_more folder list one = fold-append (with_entry folder) empty list (one ∷ [])
+pub again_adds_nothing : (folder : Folder) (list : List Listed) (one : Listed) → begins_with (key_at one) list ≡ true → with_entry folder (names_among folder list) one ≡ names_among folder list
+again_adds_nothing folder [] one begins = absurd (false≢true begins)
+again_adds_nothing folder (first ∷ more) one begins =
+    entry_twice folder (names_among folder more) first one (texts_exact (key_at first) (key_at one) ((Equal-is _).0 begins))
 
 -- ---- whose names are there
 
@@ -85,36 +79,25 @@ entry_adds folder m one name = cases (pointwise nat_eq one.folder folder) refl
       λ either. ⊎_elim (λ was. was) (λ key. absurd (let is : pointwise nat_eq one.folder folder ≡ true = (bytes_decides one.folder folder).1 (ap (λ k. k.0) key) in cc)) either,
     )
 
-has_names : (folder : Folder) (list : List Listed) (m : Names) (name : FileName) → IsTrue (contains_key (fold (with_entry folder) m list) name) ↔ (IsTrue (contains_key m name) ⊎ HasKey list (folder, name))
-has_names folder [] m name = (λ is. inl is, λ either. ⊎_elim (λ is. is) (λ has. absurd (not_in_none has.0 has.1)) either)
-has_names folder (one ∷ more) m name =
-    let rest = has_names folder more (with_entry folder m one) name in
-    let here = entry_adds folder m one name in (
-      λ is.
-          ⊎_elim
-          (λ was. ⊎_elim (λ old. inl old) (λ key. inr (one, Contains-first one more, key)) (here.0 was))
-          (λ later. inr (later.0, Contains-more one more later.0 later.1, later.2))
-          (rest.0 is),
-      λ either.
-          ⊎_elim
-          (λ old. rest.1 (inl (here.1 (inl old))))
-          (λ has.
-          ⊎_elim
-          (λ same. rest.1 (inl (here.1 (inr (ap key_at same ∙ has.2)))))
-          (λ later. rest.1 (inr (has.0, later, has.2)))
-          (Contains-cons_cases one more has.0 has.1))
-          either,
-    )
+nothing : (name : FileName) → IsTrue (contains_key (empty {X = Unit {0}} {R = slice_cmp nat_cmp}) name) → ⊥
+nothing name is = let none : contains_key (empty {X = Unit {0}} {R = slice_cmp nat_cmp}) name ≡ false = ap is_some (get-empty (slice_cmp nat_cmp) name) in cc
 
 names_of_entries : (folder : Folder) (list : List Listed) (name : FileName) → IsTrue (contains_key (names_among folder list) name) ↔ HasKey list (folder, name)
-names_of_entries folder list name =
-    let all = has_names folder list empty name in (
-      λ is. ⊎_elim (λ none. absurd (nothing none)) (λ has. has) (all.0 is),
-      λ has. all.1 (inr has),
+names_of_entries folder [] name = (λ is. absurd (nothing name is), λ has. absurd (not_in_none has.0 has.1))
+names_of_entries folder (one ∷ more) name =
+    let rest = names_of_entries folder more name in
+    let here = entry_adds folder (names_among folder more) one name in (
+      λ is.
+          ⊎_elim
+          (λ was. let later = rest.0 was in (later.0, Contains-more one more later.0 later.1, later.2))
+          (λ key. (one, Contains-first one more, key))
+          (here.0 is),
+      λ has.
+          ⊎_elim
+          (λ same. here.1 (inr (ap key_at same ∙ has.2)))
+          (λ later. here.1 (inl (rest.1 (has.0, later, has.2))))
+          (Contains-cons_cases one more has.0 has.1),
     )
-  where
-    nothing : IsTrue (contains_key (empty {X = Unit {0}} {R = slice_cmp nat_cmp}) name) → ⊥
-    nothing is = let none : contains_key (empty {X = Unit {0}} {R = slice_cmp nat_cmp}) name ≡ false = ap is_some (get-empty (slice_cmp nat_cmp) name) in cc
 
 -- ---- the known names
 

@@ -2,7 +2,7 @@
 ghost use Rattle.std.specs.Prelude.{◌≡◌, IfOk, IsTrue, OnOk, map};
 ghost use Rattle.bep_tables.specs.Listed.{IsGrouped, cut_listed, key_at, listed};
 ghost use Rattle.bep_tables.specs.Names.{known_names};
-ghost use Rattle.bep_report.specs.inner.Known.{AddsNothing, EndsWith, with_entry};
+ghost use Rattle.bep_report.specs.inner.Known.{AddsNothing, begins_with, with_entry};
 
 use bep_audit::group_says;
 use bep_map::NameMap;
@@ -10,7 +10,8 @@ use bep_record::FolderName;
 use bep_tables::{Cut, TableEntry, names_are_known};
 use std::alloc::{AllocError, Global};
 
-// The names that are known in the folder. The entries of a name stand together, and the first one adds it.
+// The names that are known in the folder. The entries of a name stand together, and the last one adds it. The last name is
+// added first: the place of a name below all others is found by one comparison in each node of the map.
 pub(crate) fn known_in(
     alloc: Global,
     cut: &Cut,
@@ -24,36 +25,37 @@ pub(crate) fn known_in(
     group_says();
     cut.is_a_cut();
     let mut names = NameMap::new(alloc);
-    for place in 0..table.len() {
+    let mut place = table.len();
+    while place > 0 {
+        let later = &table[place..];
+        place -= 1;
         let entry = &table[place];
-        if !adds_nothing(folder, &table[..place], entry) {
+        if !adds_nothing(folder, later, entry) {
             add_entry(&mut names, alloc, folder, entry)?;
         }
     }
     Ok(names)
 }
 
-// Whether the entry is of another folder, or of the name of the one before.
+// Whether the entry is of another folder, or of the name of the one behind it.
 #[tactic(auto, unfolding(crate::specs::inner::Known::with_entry))]
-fn adds_nothing(folder: &FolderName, seen: &[TableEntry<'_>], entry: &TableEntry<'_>) -> bool
-    ensures { IsTrue result → AddsNothing folder.now (map listed seen.now) (listed entry.now) }
+fn adds_nothing(folder: &FolderName, later: &[TableEntry<'_>], entry: &TableEntry<'_>) -> bool
+    ensures { IsTrue result → AddsNothing folder.now (map listed later.now) (listed entry.now) }
 {
     if *entry.folder != *folder {
         return true;
     }
-    is_again(seen, entry)
+    comes_again(later, entry)
 }
 
-// Whether the last of these entries is of this one's folder and name.
-fn is_again(seen: &[TableEntry<'_>], entry: &TableEntry<'_>) -> bool
-    ensures { IsTrue result → EndsWith (key_at (listed entry.now)) (map listed seen.now) }
+// Whether the first of these entries is of this one's folder and name.
+fn comes_again(later: &[TableEntry<'_>], entry: &TableEntry<'_>) -> bool
+    ensures { result ≡ begins_with (key_at (listed entry.now)) (map listed later.now) }
 {
-    let count = seen.len();
-    if count == 0 {
-        return false;
+    match later {
+        [] => false,
+        [next, ..] => next.compare(entry.folder, entry.name).is_eq(),
     }
-    let last = &seen[count - 1];
-    last.compare(entry.folder, entry.name).is_eq()
 }
 
 // Adds the entry's name, if it is of the folder.
