@@ -136,7 +136,7 @@ func risingTo(count int64) (all []int64) {
 // Of many names that hang together, most of which are alike, one stands for all that are: what is foretold of all is what is foretold where each is looked at.
 func TestOneStandsForAllThatAreAlike(t *testing.T) {
 	compared, saved, several := 0, 0, 0
-	for _, seed := range append(risingTo(60), 2204, 8018) { // the last ones have files below what is no directory
+	for _, seed := range append(risingTo(60), 2204, 8018, 9230) { // the last ones have files below what is no directory, and directories that are made for others
 		random := rand.New(rand.NewSource(seed))
 		world := manyAlike(random)
 		commands := randomCommands(world.Devices, random)

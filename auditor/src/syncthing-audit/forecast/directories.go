@@ -10,7 +10,7 @@ func (p *pull) makeParents(n int) Why {
 	}
 	for above := p.names[n].parent; above >= 0; above = p.names[above].parent {
 		if !p.disk(p.i, above).isThere() {
-			p.write(p.i, above, node{kind: Directory, mode: usualDirectory})
+			p.write(p.i, above, node{kind: Directory, mode: usualDirectory, time: presentTime})
 		}
 	}
 	p.scans[p.names[n].parent] = true
@@ -31,7 +31,7 @@ func (p *pull) makeDirectory(n int) Why {
 	if why := p.clear(n); why != NoReason {
 		return why
 	}
-	p.write(p.i, n, node{kind: Directory, mode: p.modeOf(entry, usualDirectory)})
+	p.write(p.i, n, node{kind: Directory, mode: p.modeOf(entry, usualDirectory), time: presentTime})
 	return p.done(n, *entry)
 }
 
