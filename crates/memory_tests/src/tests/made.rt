@@ -38,7 +38,7 @@ pub(crate) fn docs(alloc: Global) -> Option<FolderName> {
 
 /// The name.
 pub(crate) fn name(alloc: Global) -> Option<Name> {
-    Name::read(alloc, b"a").ok()
+    Name::of_text(alloc, "a").ok()
 }
 
 /// The bytes of the file.
