@@ -10,11 +10,16 @@ func (p *pull) makeParents(n int) Why {
 	}
 	for above := p.names[n].parent; above >= 0; above = p.names[above].parent {
 		if !p.disk(p.i, above).isThere() {
-			p.write(p.i, above, node{kind: Directory, mode: usualDirectory, time: presentTime})
+			p.write(p.i, above, newDirectory(usualDirectory))
 		}
 	}
 	p.scans[p.names[n].parent] = true
 	return NoReason
+}
+
+// newDirectory gives a directory that is made now.
+func newDirectory(mode int32) node {
+	return node{kind: Directory, mode: mode, time: presentTime}
 }
 
 // makeDirectory is Syncthing's handleDir.
@@ -31,7 +36,7 @@ func (p *pull) makeDirectory(n int) Why {
 	if why := p.clear(n); why != NoReason {
 		return why
 	}
-	p.write(p.i, n, node{kind: Directory, mode: p.modeOf(entry, usualDirectory), time: presentTime})
+	p.write(p.i, n, newDirectory(p.modeOf(entry, usualDirectory)))
 	return p.done(n, *entry)
 }
 
