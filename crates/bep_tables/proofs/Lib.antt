@@ -9,3 +9,4 @@ mod Said
 mod ListingFacts
 mod Regrouped
 mod Rooms
+mod Rising

@@ -3,6 +3,7 @@ ghost use Rattle.std.specs.Prelude.{◌≡◌, IfOk};
 ghost use Rattle.bep_tables.specs.Listed.{IsGrouped, cut_listed};
 
 mod entry;
+mod falling;
 mod groups;
 mod laws;
 mod listing;

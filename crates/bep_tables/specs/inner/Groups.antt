@@ -1,5 +1,5 @@
 -- Groups of entries, one for each folder and name, and a map that says where each stands.
-use Rattle.std.specs.Prelude.{◌≡◌, ◌<◌, ◌≤◌, ◌+◌, ◌++◌, ℕ, Bool, ◌&&◌, List, [], Option, Some, None, Contains, length, map, get_or, ltb}
+use Rattle.std.specs.Prelude.{◌≡◌, ◌<◌, ◌≤◌, ◌+◌, ◌++◌, ◌∷◌, ℕ, Bool, ◌&&◌, List, [], Option, Some, None, Contains, length, map, get_or, ltb}
 use Rattle.std.specs.Ordering.{is_eq}
 use Rattle.std.specs.BTreeMap.{is_at}
 use Rattle.std.specs.List.{flat_map, sum_by}
@@ -7,6 +7,7 @@ use Rattle.std.specs.List.Sorted.{IsStrictlySortedBy}
 use Rattle.std.specs.Map.{lookup, keys_of}
 use Rattle.bep_model.specs.Tables.{Folder, FileName}
 use Rattle.bep_model.specs.Settled.{key_cmp}
+use Rattle.bep_tables.specs.declared.table.falling.Falling.{Falling}
 use Rattle.bep_tables.specs.declared.table.entry.TableEntry.{TableEntry}
 use Rattle.bep_tables.specs.Listed.{Listed, key_at, listed, group_of}
 use Rattle.bep_tables.specs.inner.TableOrder.{entry_cmp}
@@ -18,6 +19,11 @@ key_in one = key_at (listed one)
 -- where the group of the folder and name stands, by these pairs of an entry and a place
 abbrev pub place_of : List (TableEntry × ℕ) → Folder × FileName → Option ℕ
 place_of places key = lookup (is_at (λ (one : TableEntry). key_cmp key (key_in one))) places
+
+-- the pairs of a map that has the last folder and name first, from the first folder and name to the last
+abbrev pub rising : List (Falling × ℕ) → List (TableEntry × ℕ)
+rising [] = []
+rising (pair ∷ more) = rising more ++ (pair.0.entry, pair.1) ∷ []
 
 -- a group: its folder and name, and its number
 abbrev pub Spot : Type 0

@@ -3,9 +3,10 @@ ghost use Rattle.std.specs.Prelude.{◌≡◌, ◌+◌, ◌-◌, ◌^◌, ◌∷
 ghost use Rattle.std.specs.Ordering.{is_eq};
 ghost use Rattle.bep_model.specs.Settled.{key_cmp};
 ghost use Rattle.bep_tables.specs.Listed.{IsGrouped, Listed, listed};
-ghost use Rattle.bep_tables.specs.inner.Groups.{AreFull, Counted, Filled, Took, begins_with, grouping, key_in, numbered, place_of};
+ghost use Rattle.bep_tables.specs.inner.Groups.{AreFull, Counted, Filled, Took, begins_with, grouping, key_in, numbered, place_of, rising};
 
 use super::TableEntry;
+use super::falling::Falling;
 use std::alloc::{AllocError, Global};
 use std::collections::BTreeMap;
 use std::marker::Model;
@@ -44,8 +45,8 @@ impl<'a> Group<'a> {
         self.first.compare(entry.folder, entry.name).is_eq()
     }
 
-    // The same as an entry of its folder and name, which are lent from its first entry. So whoever compares the entries of a
-    // group reads the bytes of one name, and not those of each device's.
+    // The entry, with the folder and the name lent from the group's first entry. Whoever compares the entries of a group then
+    // reads the bytes of one name, and not those of each device's.
     fn with_key(&self, entry: &TableEntry<'a>) -> TableEntry<'a>
         requires { self.now.0 ≡ key_in entry.now }
         ensures { listed result ≡ listed entry.now }
@@ -104,15 +105,16 @@ fn push_copies<'a>(
 fn rooms<'a>(
     alloc: Global,
     groups: &mut Vec<Group<'a>>,
-    places: &BTreeMap<TableEntry<'a>, usize>,
+    places: &BTreeMap<Falling<'a>, usize>,
 ) -> Result<Vec<TableEntry<'a>>, AllocError>
-    requires { AreFull groups.old.items places.now.entries }
-    ensures full { AreFull groups.new.items places.now.entries }
+    requires { AreFull groups.old.items (rising places.now.entries) }
+    ensures full { AreFull groups.new.items (rising places.now.entries) }
     ensures room { IfOk result (λ made. (all : List Listed) →
-        Counted all (grouping groups.old.items places.now.entries []) → Filled all [] (grouping groups.new.items places.now.entries made.items)) }
+        Counted all (grouping groups.old.items (rising places.now.entries) []) → Filled all [] (grouping groups.new.items (rising places.now.entries) made.items)) }
 {
     let mut list = Vec::with_capacity(alloc, counted(groups.as_slice()))?;
-    for (_first, place) in places.iter() {
+    let mut left = places.iter();
+    while let Some((_first, place)) = left.next_back() {
         let group = &mut groups[*place];
         group.take_room(&mut list)?;
     }
@@ -151,25 +153,38 @@ fn put_at<'a>(list: &mut Vec<TableEntry<'a>>, place: usize, entry: &TableEntry<'
     list[place] = entry.again();
 }
 
+// Where the entry's group stands by this map of places, if there is one.
+fn found<'a>(places: &BTreeMap<Falling<'a>, usize>, entry: &TableEntry<'a>) -> Option<usize>
+    ensures { result ≡ place_of (rising places.now.entries) (key_in entry.now) }
+{
+    if places.len() == 0 {
+        return None;
+    }
+    places.get(&Falling::of(entry)).copied()
+}
+
 // Groups of entries, and where the group of each folder and name stands. All entries are added twice: first they are
 // counted, and then, when there is room for them, each is put behind those of its group. So no second list of them is made.
 // The lists of a cut mostly have their names in one order, so the group behind the last one is looked at first.
+//
+// The map of places has the last folder and name first, since names mostly rise: it finds the place of a key before all others
+// by one comparison in each node.
 #[derive(Drop)]
 pub(crate) struct Groups<'a> {
     groups: Vec<Group<'a>>,
-    places: BTreeMap<TableEntry<'a>, usize>,
+    places: BTreeMap<Falling<'a>, usize>,
     next: usize,
     entries: Vec<TableEntry<'a>>,
 }
 
 impl<'a> Model for Groups<'a> {
-    ghost use Rattle.bep_tables.specs.inner.Groups.{AreFull, Grouping, grouping};
+    ghost use Rattle.bep_tables.specs.inner.Groups.{AreFull, Grouping, grouping, rising};
 
     ghost Value = { Grouping };
 
-    ghost view = { λ all. grouping all.groups.items all.places.entries all.entries.items };
+    ghost view = { λ all. grouping all.groups.items (rising all.places.entries) all.entries.items };
 
-    ghost invariant = { λ all. AreFull all.groups.items all.places.entries };
+    ghost invariant = { λ all. AreFull all.groups.items (rising all.places.entries) };
 }
 
 impl<'a> Groups<'a> {
@@ -217,7 +232,7 @@ impl<'a> Groups<'a> {
     {
         let place = self.groups.len();
         self.groups.reserve(1)?;
-        match self.places.insert(entry.again(), place) {
+        match self.places.insert(Falling::of(entry), place) {
             Ok(_) => {}
             Err(_) => return Err(AllocError),
         }
@@ -236,7 +251,7 @@ impl<'a> Groups<'a> {
         if self.stands_at(next, entry) {
             return Some(next);
         }
-        places.get(entry).copied()
+        found(places, entry)
     }
 
     // Where to look first: behind the group of the last entry, or at the first one.

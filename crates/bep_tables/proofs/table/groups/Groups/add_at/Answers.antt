@@ -1,14 +1,14 @@
 use Rattle.std.proofs.Common.{◌≡◌, ◌+◌, ◌∷◌, ◌∙◌, [], Some, ap, map, set, subst, sym, arith}
 use Rattle.std.proofs.lemmas.List.{get_or_read}
 use Rattle.bep_tables.specs.Listed.{listed}
-use Rattle.bep_tables.specs.inner.Groups.{AreFull, Grouping, Spot, Took, grouping, key_in, place_of, spot_at}
+use Rattle.bep_tables.specs.inner.Groups.{AreFull, Grouping, Spot, Took, grouping, key_in, place_of, rising, spot_at}
 use Rattle.bep_tables.proofs.GroupFacts.{full_there, no_spot, took_there}
 use Rattle.bep_tables.proofs.table.groups.Groups.add_at.Goals as goal
 
 pub index-group-requires : goal.index-group-requires
 index-group-requires c =
     let groups = c.self.inside.groups.items in
-    let places = c.self.inside.places.entries in
+    let places = rising c.self.inside.places.entries in
     let entries = c.self.inside.entries.items in
     let entry = c.args.entry.now in
     let there : place_of places (key_in entry) ≡ Some c.args.place = ap (λ (all : Grouping). place_of all.places (key_in entry)) c.self.view_is ∙ c.requires in
@@ -18,7 +18,7 @@ index-group-requires c =
 pub index_mut-requires : goal.index_mut-requires
 index_mut-requires c =
     let groups = c.self.inside.groups.items in
-    let places = c.self.inside.places.entries in
+    let places = rising c.self.inside.places.entries in
     let entries = c.self.inside.entries.items in
     let entry = c.args.entry.now in
     let there : place_of places (key_in entry) ≡ Some c.args.place = ap (λ (all : Grouping). place_of all.places (key_in entry)) c.self.view_is ∙ c.requires in
@@ -28,7 +28,7 @@ index_mut-requires c =
 pub overflow_add-self : goal.overflow_add-self
 overflow_add-self c =
     let groups = c.self.inside.groups.items in
-    let places = c.self.inside.places.entries in
+    let places = rising c.self.inside.places.entries in
     let entries = c.self.inside.entries.items in
     let entry = c.args.entry.now in
     let there : place_of places (key_in entry) ≡ Some c.args.place = ap (λ (all : Grouping). place_of all.places (key_in entry)) c.self.view_is ∙ c.requires in
@@ -38,7 +38,7 @@ overflow_add-self c =
 pub with_key-entry-requires : goal.with_key-entry-requires
 with_key-entry-requires c =
     let groups = c.self.inside.groups.items in
-    let places = c.self.inside.places.entries in
+    let places = rising c.self.inside.places.entries in
     let entry = c.args.entry.now in
     let there : place_of places (key_in entry) ≡ Some c.args.place = ap (λ (all : Grouping). place_of all.places (key_in entry)) c.self.view_is ∙ c.requires in
     let here = c.self.invariant.filled (key_in entry) c.args.place there in
@@ -48,7 +48,7 @@ with_key-entry-requires c =
 pub invariant_of-self : goal.invariant_of-self
 invariant_of-self c =
     let groups = c.self.inside.groups.items in
-    let places = c.self.inside.places.entries in
+    let places = rising c.self.inside.places.entries in
     let entries = c.self.inside.entries.items in
     let entry = c.args.entry.now in
     let there : place_of places (key_in entry) ≡ Some c.args.place = ap (λ (all : Grouping). place_of all.places (key_in entry)) c.self.view_is ∙ c.requires in
@@ -66,7 +66,7 @@ invariant_of-self c =
 pub returns : goal.returns
 returns c =
     let groups = c.self.inside.groups.items in
-    let places = c.self.inside.places.entries in
+    let places = rising c.self.inside.places.entries in
     let entries = c.self.inside.entries.items in
     let entry = c.args.entry.now in
     let there : place_of places (key_in entry) ≡ Some c.args.place = ap (λ (all : Grouping). place_of all.places (key_in entry)) c.self.view_is ∙ c.requires in
