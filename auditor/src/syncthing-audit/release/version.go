@@ -2,4 +2,4 @@
 package release
 
 // Version is that of the release to which the program belongs.
-const Version = "0.22.1"
+const Version = "0.22.2"
