@@ -9,6 +9,7 @@
 #![tactic(auto)]
 
 mod certificate;
+mod deleted;
 mod error;
 mod input;
 mod known;

@@ -1,22 +1,19 @@
 //! The report on a cut.
-ghost use Rattle.std.specs.Prelude.{◌≡◌};
-ghost use Rattle.std.specs.FinMap.{keys};
 ghost use Rattle.bep_audit.specs.Loose.{firm_shown};
 ghost use Rattle.bep_audit.specs.Shown.{verdict_shown};
 ghost use Rattle.bep_lines.specs.Lines.{firm_verdict_line, verdict_line};
-ghost use Rattle.bep_report.specs.Report.{is_stored, count_deleted, firm_report_text, folder_text, folders_text, report_text};
+ghost use Rattle.bep_report.specs.Report.{firm_report_text, folder_text, folders_text, report_text};
 ghost use Rattle.bep_lines.specs.Text.{AppendsWhole};
 ghost use Rattle.bep_tables.specs.Listed.{IsGrouped, cut_listed};
 
+use crate::deleted::count_deleted;
 use crate::known::known_in;
 use bep_audit::{FirmVerdict, Verdict};
 use bep_lines::{
     firm_word_of, or_as_before, push_firm, push_folder, push_not_firm, push_not_settled,
     push_settled, word_of,
 };
-use bep_map::NameMap;
-use bep_record::Name;
-use bep_tables::{Cut, Share, SharedFolder, Table};
+use bep_tables::{Cut, SharedFolder, Table};
 use std::alloc::{AllocError, Global};
 
 /// Appends the report on the cut: the line of the verdict, then a line for each folder, names rising. Fails for memory
@@ -153,25 +150,4 @@ fn push_held(
     let shares = held.shares.as_slice();
     let deleted = count_deleted(shares, &names);
     push_folder(text, &held.folder, names.len(), deleted, shares.len())
-}
-
-// How many of the names no store holds.
-fn count_deleted(shares: &[Share], names: &NameMap<()>) -> usize
-    ensures { result ≡ count_deleted shares.now (keys names.now) }
-{
-    let most = names.len();
-    let mut count = 0;
-    for (name, _known) in names.iter() {
-        if !is_stored(shares, name) {
-            count += 1;
-        }
-    }
-    prove!(count <= most);
-    count
-}
-
-fn is_stored(shares: &[Share], name: &Name) -> bool
-    ensures { result ≡ is_stored shares.now name.now }
-{
-    shares.iter().any(|share| share.store.contains(name))
 }
