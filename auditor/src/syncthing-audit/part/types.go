@@ -281,6 +281,7 @@ type Node struct {
 	Lost        string    `json:"lost,omitempty"`   // why the disk fails to give the file's bytes; its contents are those of no file then
 	Unread      int64     `json:"unread,omitempty"` // bytes at a file's end that weren't hashed: its contents are those of no other file then
 	Stamp       string    `json:"stamp,omitempty"`  // of a look: another one for each file and directory, and for each write to a file
+	Link        int64     `json:"link,omitempty"`   // of a file with several names (hard links): a number that they share, and no other file has
 
 	Data []byte `json:"-"` // in memory alone, for documents with bytes
 }
