@@ -12,23 +12,25 @@ type inode struct{ device, number uint64 }
 // links counts the names of files that have more than one.
 type links map[inode]*linked
 
-// linked is a file with more than one link: how many it has, and how many of them were met.
+// linked is a file with more than one link: how many it has, how many of them were met, and which of such files it is, from 1.
 type linked struct {
 	links, met int64
 	bytes      int64
+	number     int64
 }
 
-// add adds the name of a file.
-func (l links) add(about os.FileInfo) {
+// add adds the name of a file, and gives its number; 0 where the file has no other name.
+func (l links) add(about os.FileInfo) int64 {
 	file, count := linksOf(about)
 	if count < 2 || !about.Mode().IsRegular() {
-		return
+		return 0
 	}
 	if l[file] == nil {
-		l[file] = &linked{}
+		l[file] = &linked{number: int64(len(l)) + 1}
 	}
 	l[file].links, l[file].bytes = count, about.Size()
 	l[file].met++
+	return l[file].number
 }
 
 // elsewhere counts the names of files that have links which weren't met.

@@ -3,6 +3,7 @@ package disk
 import (
 	"os"
 	"path/filepath"
+	"reflect"
 	"testing"
 
 	"github.com/syncthing/syncthing/lib/fs"
@@ -41,6 +42,32 @@ func TestLinksThatLeadOutOfAFolder(t *testing.T) {
 	link("twice", filepath.Join(outside, "twice"))
 	if made := counted(); made != (part.Count{Names: 3, Bytes: 15}) {
 		t.Errorf("%+v lead out of the folder, and not 3 names", made)
+	}
+}
+
+// All names of one file have one number, and those of another file another one. A file with one name has none.
+func TestNamesOfOneFile(t *testing.T) {
+	folder, outside := t.TempDir(), t.TempDir()
+	for _, name := range []string{"a1", "b1", "c"} {
+		if err := os.WriteFile(filepath.Join(folder, name), []byte(name), 0o600); err != nil {
+			t.Fatal(err)
+		}
+	}
+	for to, from := range map[string]string{filepath.Join(folder, "a2"): "a1", filepath.Join(folder, "b2"): "b1", filepath.Join(outside, "b3"): "b1"} {
+		if err := os.Link(filepath.Join(folder, from), to); err != nil {
+			t.Fatal(err)
+		}
+	}
+	met := map[string]int64{}
+	walker := &Walker{Disk: adapt.Directory(fs.NewFilesystem(fs.FilesystemTypeBasic, folder)), Take: func(found Found) error {
+		met[found.Name] = found.Node.Link
+		return nil
+	}}
+	if err := walker.Walk(); err != nil {
+		t.Fatal(err)
+	}
+	if want := map[string]int64{"a1": 1, "a2": 1, "b1": 2, "b2": 2, "c": 0}; !reflect.DeepEqual(met, want) {
+		t.Errorf("%v", met)
 	}
 }
 

@@ -157,7 +157,7 @@ func (w *Walker) found(name string, info directory.Info) Found {
 		return out(part.Special, "it is no file, directory or symlink")
 	}
 	if w.Stamps || info.IsRegular() {
-		found.Stamp = w.stamp(info.About())
+		found.Stamp, node.Link = w.stamp(info.About())
 	}
 	if w.Stamps {
 		node.Stamp = found.Stamp.String()
@@ -178,13 +178,12 @@ func (w *Walker) StampOf(name string) string {
 	return stampOf(about).String()
 }
 
-// stamp gives the stamp of what was found, and counts the links that its file has.
-func (w *Walker) stamp(about os.FileInfo) Stamp {
+// stamp gives the stamp of what was found, and which file with several names it is. It counts the links that the file has.
+func (w *Walker) stamp(about os.FileInfo) (Stamp, int64) {
 	if w.links == nil {
 		w.links = links{}
 	}
-	w.links.add(about)
-	return stampOf(about)
+	return stampOf(about), w.links.add(about)
 }
 
 // Linked counts the names of files that have links elsewhere, outside the names that were walked.

@@ -53,11 +53,11 @@ func (a *Answer) HowConverging(folder *Folder) Converging {
 }
 
 // mayGetOtherRecords says whether something that no row tells may bring records to the folder beside those that it has: an index
-// that is to be repaired, a scan that records owners or attributes, other permissions on a disk, which a scan records as a change, or
-// something else of Syncthing that writes into the folder's directory.
+// that is to be repaired, a scan that records owners or attributes, other permissions on a disk, which a scan records as a change,
+// something else of Syncthing that writes into the folder's directory, or a file with several names: a time that is set at one of them is set at all.
 func (f *Folder) mayGetOtherRecords() bool {
 	return f.hasOtherPermissions() || slices.IndexFunc(f.Members, func(member join.Member) bool {
-		return member.Device != nil && member.About != nil && (member.Head.ToRepair || member.About.ScansAttributes || len(member.About.Writers) > 0)
+		return member.Device != nil && member.About != nil && (member.Head.ToRepair || member.About.ScansAttributes || len(member.About.Writers) > 0 || member.Links > 0)
 	}) >= 0
 }
 

@@ -319,6 +319,7 @@ func TestWhatElseBringsRecords(t *testing.T) {
 		"a repair later":      {func(f *Folder) { f.Members[1].Head.ToRepair = true }, true},
 		"attributes":          {func(f *Folder) { f.Members[1].About.ScansAttributes = true }, true},
 		"a writer":            {func(f *Folder) { f.Members[0].About.Writers = []string{"versions"} }, true},
+		"names of one file":   {func(f *Folder) { f.Members[1].Links = 2 }, true},
 		"other permissions":   {permissions(true, 2), true},
 		"the same":            {permissions(true, 1), false},
 		"nothing on the disk": {permissions(false, 2), false},

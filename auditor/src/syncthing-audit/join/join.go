@@ -33,6 +33,7 @@ type Member struct {
 	*Device
 	About *part.Folder
 	Near  int64 // how many of its files have another time than recorded, which its Syncthing takes for the same
+	Links int64 // how many of its names are of files that have several
 
 	Temporary *part.Count     // its names that Syncthing takes for its temporary files, as far as its part tells them
 	Linked    *part.Count     // its names of files that have links elsewhere, as far as its part tells them
@@ -229,6 +230,7 @@ func (f *Folder) next() (*Row, error) {
 		}
 		f.Members[place].isLine = false
 		f.Members[place].takeTime(next)
+		f.Members[place].countLink(next)
 	}
 	f.fill(row)
 	f.addLater(row)
@@ -240,6 +242,12 @@ func (m *Member) takeTime(name *part.Name) {
 	if m.About.TimeWindow > 0 && len(name.Out) == 0 && len(name.Moved) == 0 && name.HasNearTime(m.About.Window()) {
 		name.TakeTime()
 		m.Near++
+	}
+}
+
+func (m *Member) countLink(name *part.Name) {
+	if name.Disk != nil && name.Disk.Link != 0 {
+		m.Links++
 	}
 }
 

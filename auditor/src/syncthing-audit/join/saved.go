@@ -12,6 +12,7 @@ type savedMember struct {
 	From  string
 	About *part.Folder
 	Near  int64 `json:",omitempty"`
+	Links int64 `json:",omitempty"`
 
 	Temporary *part.Count `json:",omitempty"`
 	Linked    *part.Count `json:",omitempty"`
@@ -20,7 +21,7 @@ type savedMember struct {
 }
 
 func (m Member) MarshalJSON() ([]byte, error) {
-	saved := savedMember{m.Head, m.From, m.About, m.Near, m.Temporary, m.Linked, m.ToIgnore, nil}
+	saved := savedMember{m.Head, m.From, m.About, m.Near, m.Links, m.Temporary, m.Linked, m.ToIgnore, nil}
 	if m.Unseen != (Unseen{}) {
 		saved.Unseen = &m.Unseen
 	}
@@ -36,7 +37,7 @@ func (m *Member) UnmarshalJSON(text []byte) error {
 	if read.Head != nil {
 		m.Number = read.Head.Number()
 	}
-	m.About, m.Near, m.Temporary, m.Linked, m.ToIgnore = read.About, read.Near, read.Temporary, read.Linked, read.ToIgnore
+	m.About, m.Near, m.Links, m.Temporary, m.Linked, m.ToIgnore = read.About, read.Near, read.Links, read.Temporary, read.Linked, read.ToIgnore
 	if read.Unseen != nil {
 		m.Unseen = *read.Unseen
 	}

@@ -40,6 +40,7 @@ const (
 	nodeLost    protowire.Number = 2004
 	nodeUnread  protowire.Number = 2005
 	nodeStamp   protowire.Number = 2006
+	nodeLink    protowire.Number = 2007
 
 	contentSize      protowire.Number = 1
 	contentBlockSize protowire.Number = 2

@@ -76,7 +76,8 @@ func (n *Node) append(to []byte) []byte {
 	}
 	to = appendWords(to, nodeLost, n.Lost)
 	to = message.AppendNumber(to, nodeUnread, uint64(n.Unread))
-	return appendWords(to, nodeStamp, n.Stamp)
+	to = appendWords(to, nodeStamp, n.Stamp)
+	return message.AppendNumber(to, nodeLink, uint64(n.Link))
 }
 
 func (s *Seen) append(to []byte) []byte {

@@ -97,7 +97,7 @@ func someName(random *rand.Rand) *Name {
 		name.Views = append(name.Views, Seen{View: small(), Same: number()}, Seen{Record: record()})
 	}
 	if is() {
-		name.Disk = &Node{Type: small(), ModifiedS: number(), ModifiedNs: small(), Size: number(), Target: words(), Permissions: random.Uint32(), Lost: words(), Unread: number(), Stamp: words()}
+		name.Disk = &Node{Type: small(), ModifiedS: number(), ModifiedNs: small(), Size: number(), Target: words(), Permissions: random.Uint32(), Lost: words(), Unread: number(), Stamp: words(), Link: number()}
 		for next := random.Intn(3); next > 0; next-- {
 			name.Disk.Contents = append(name.Disk.Contents, content())
 		}

@@ -79,6 +79,9 @@ func checkFolder(folder *Folder, isOverWire bool) error {
 	if folder.TimeWindow < 0 || folder.TimeWindow > math.MaxInt32 {
 		return errors.New("its window for times is none")
 	}
+	if folder.Marker != "" && limits.CheckName(folder.Marker) != nil {
+		return fmt.Errorf("its marker is %q", folder.Marker)
+	}
 	if isOverWire && (folder.Rest == nil) != (folder.Options == nil) {
 		return errors.New("what Syncthing itself was asked of it is told in part")
 	}
@@ -298,6 +301,8 @@ func checkNode(node *Node, isOut, hasBytes bool) error {
 		return fmt.Errorf("its type is %d", node.Type)
 	case node.ModifiedNs < 0 || node.ModifiedNs > 999999999 || node.Size < 0 || node.Unread < 0 || node.Unread > node.Size:
 		return errors.New("its time or size is none")
+	case node.Link < 0 || node.Link > 0 && !isFile(node.Type):
+		return errors.New("it has several names and is no file")
 	case node.Type == symlink && !isOut && limits.CheckTarget(node.Target) != nil:
 		return limits.CheckTarget(node.Target)
 	case node.Target != "" && node.Type != symlink:

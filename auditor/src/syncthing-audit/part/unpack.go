@@ -160,6 +160,8 @@ func (u *unpacker) node(text []byte, to *room) *Node {
 			node.Unread = int64(field.Value)
 		case nodeStamp:
 			node.Stamp = u.words(field.Text)
+		case nodeLink:
+			node.Link = int64(field.Value)
 		}
 	}
 	return node

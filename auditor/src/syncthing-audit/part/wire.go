@@ -152,7 +152,7 @@ func checkWireName(name *Name, wire *Wire, isOfRecords bool) error {
 		return errors.New("it has records in views, which an observer isn't told")
 	case name.Disk == nil:
 		return nil
-	case !isFile(name.Disk.Type) || name.Disk.ModifiedS != 0 || name.Disk.ModifiedNs != 0 || name.Disk.Permissions != 0 || name.Disk.Stamp != "" || name.Disk.Lost != "":
+	case !isFile(name.Disk.Type) || name.Disk.ModifiedS != 0 || name.Disk.ModifiedNs != 0 || name.Disk.Permissions != 0 || name.Disk.Stamp != "" || name.Disk.Lost != "" || name.Disk.Link != 0:
 		return errors.New("more is told of its disk than an observer sees")
 	}
 	return nil

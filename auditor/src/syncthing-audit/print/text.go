@@ -204,6 +204,7 @@ var unknowns = map[string]struct{ why, toKnow string }{
 	"in-motion":        {"it changed while it was looked at, or between two parts, or waits for a scan", "audit again once it is at rest"},
 	"odd-name":         {"the name isn't in Unicode's form NFC, in which Syncthing has names", "rename it, and audit again"},
 	"case":             {"another name differs from it by upper and lower case alone, and a disk takes both for one", "rename one of them, and audit again"},
+	"linked":           {"it is one file with another name that isn't at rest (a hard link), so that a time which is set at one is set at both", "put a copy of the file, with its time, in the place of each but one of its names, and audit again"},
 	"damaged":          {"a disk fails to give what it has", "see what the disk still gives, and audit again"},
 	"never-told":       {"a device may never tell a change of it", "once what is to stay is saved, stop Syncthing there, and " + part.ResetDeltas + "; then let all finish, and audit again"},
 	"conflict-copies":  {"it may come to have more conflict copies than are kept, and then the oldest go", ""},

@@ -9,46 +9,54 @@ import (
 )
 
 // cases finds names that stand somewhere and differ by upper and lower case alone.
-type cases struct {
-	seen  filter
-	twice map[key]bool
-}
+type cases struct{ folds repeats }
 
 // foldOf is the same for names that differ by case alone.
-func foldOf(name string) key {
-	sum := sha256.Sum256([]byte(norm.NFC.String(strings.ToLower(name))))
-	var fold key
-	copy(fold[:], sum[:])
-	return fold
+func foldOf(name string) key { return keyOf(norm.NFC.String(strings.ToLower(name))) }
+
+// keyOf gives the key of a text.
+func keyOf(text string) key {
+	sum := sha256.Sum256([]byte(text))
+	var begins key
+	copy(begins[:], sum[:])
+	return begins
 }
 
 // take takes the name of a row, each once.
 func (c *cases) take(row *join.Row) {
-	if !mayStand(row) {
-		return
+	if mayStand(row) {
+		c.folds.take(foldOf(row.Name))
 	}
-	fold := foldOf(row.Name)
-	if !c.seen.hasKey(fold) {
-		c.seen.addKey(fold)
-		return
-	}
-	if c.twice == nil {
-		c.twice = map[key]bool{}
-	}
-	c.twice[fold] = true
 }
 
 // has says whether a name, or a directory above it, differs from another one by case alone.
 func (c *cases) has(name string) bool {
-	if len(c.twice) == 0 {
+	if len(c.folds.again) == 0 {
 		return false
 	}
 	for ; name != ""; name = upper(name) {
-		if c.twice[foldOf(name)] {
+		if c.folds.again[foldOf(name)] {
 			return true
 		}
 	}
 	return false
+}
+
+// repeats finds keys that come more than once.
+type repeats struct {
+	seen  filter
+	again map[key]bool
+}
+
+func (r *repeats) take(next key) {
+	if !r.seen.hasKey(next) {
+		r.seen.addKey(next)
+		return
+	}
+	if r.again == nil {
+		r.again = map[key]bool{}
+	}
+	r.again[next] = true
 }
 
 // mayStand says whether a name stands on a disk, or is to be there by some record.

@@ -32,6 +32,7 @@ type Rows struct {
 	out     map[string]bool         // names that aren't told as a whole
 	Places  map[Why]forecast.Places // the devices of which it is that some names aren't known
 	cases   cases                   // where a disk ignores case
+	links   links                   // where a file has several names
 }
 
 // NewRows begins with a folder.
@@ -80,6 +81,7 @@ func (r *Rows) Take(row *join.Row) {
 	}
 	why := r.unknownAt(row)
 	r.noteOut(row)
+	r.links.take(row, len(r.All) == 0 && r.room >= r.cells())
 	switch {
 	case len(r.All) > 0:
 		r.Count[r.All[0].Why]++
@@ -238,6 +240,9 @@ func (r *Rows) World() forecast.World {
 		}
 		if r.cases.has(name.Name) {
 			r.Unknown[name.Name] = Case
+		} else if places := r.links.places(name.Name); places != 0 {
+			r.Unknown[name.Name] = Linked
+			r.Places[Linked] |= places
 		} else if r.mayDropCopies(name.Name) {
 			r.Unknown[name.Name] = Copies
 		}

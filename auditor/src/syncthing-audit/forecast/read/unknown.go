@@ -27,6 +27,7 @@ const (
 	Moving     Why = "in-motion"        // it changed while it was looked at
 	OddName    Why = "odd-name"         // it isn't in Unicode's form NFC: a scan renames it, or passes it over
 	Case       Why = "case"             // another name differs from it by upper and lower case alone, and a disk takes both for one
+	Linked     Why = "linked"           // it is one file with another name on a disk: what is set at one is set at both
 	Damaged    Why = "damaged"          // a disk fails to give what it has
 	NeverTold  Why = "never-told"       // a device may never tell a change of it
 	Copies     Why = "conflict-copies"  // it may come to have more conflict copies than are kept
@@ -37,7 +38,7 @@ const (
 )
 
 // AllWhys are all of them.
-var AllWhys = []Why{Absent, Unlinked, OverWire, Untried, Untold, Paused, Attributes, Writers, OtherIndex, Asked, LeftOut, Moving, OddName, Case, Damaged, NeverTold, Copies,
+var AllWhys = []Why{Absent, Unlinked, OverWire, Untried, Untold, Paused, Attributes, Writers, OtherIndex, Asked, LeftOut, Moving, OddName, Case, Linked, Damaged, NeverTold, Copies,
 	Twins, TooMany, Budget, Endless}
 
 // Unknown is why it isn't known what comes of all names of a folder, and of which devices that is.
