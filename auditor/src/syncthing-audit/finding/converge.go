@@ -46,7 +46,7 @@ func (a *Answer) HowConverging(folder *Folder) Converging {
 		return ""
 	case folder.Convergence.First != nil || folder.Unwon.Len() > 0 || folder.Damaged.Len() > 0:
 		return NotConverging
-	case folder.Convergence.Pairs == nil || !a.IsWhole(folder) || a.IsPart(folder) || folder.mayGetOtherRecords():
+	case folder.Convergence.Pairs == nil || !a.IsWhole(folder) || a.IsPart(folder) || folder.mayGetOtherRecords() || folder.hasBarred():
 		return ConvergeNotKnown
 	}
 	return Converges
@@ -59,6 +59,11 @@ func (f *Folder) mayGetOtherRecords() bool {
 	return f.hasOtherPermissions() || slices.IndexFunc(f.Members, func(member join.Member) bool {
 		return member.Device != nil && member.About != nil && (member.Head.ToRepair || member.About.ScansAttributes || len(member.About.Writers) > 0 || member.Links > 0)
 	}) >= 0
+}
+
+// hasBarred says whether a device's system can't have some name: it never takes what prevails of it.
+func (f *Folder) hasBarred() bool {
+	return slices.IndexFunc(f.Members, func(member join.Member) bool { return member.Barred > 0 }) >= 0
 }
 
 // hasOtherPermissions says whether a name has other permissions on a disk than its device recorded.

@@ -65,6 +65,7 @@ func TestHowAFolderConverges(t *testing.T) {
 	is(ConvergeNotKnown, "over the wire", func(_ *Answer, folder *Folder) { folder.Members[1].Head.Wire = part.NewWire("", false) })
 	is(ConvergeNotKnown, "a link elsewhere", func(_ *Answer, folder *Folder) { folder.Members[0].Linked = &part.Count{Names: 1} })
 	is(ConvergeNotKnown, "an index to be repaired", func(_ *Answer, folder *Folder) { folder.Members[1].Head.ToRepair = true })
+	is(ConvergeNotKnown, "a name that its system can't have", func(_ *Answer, folder *Folder) { folder.Members[1].Barred = 1 })
 	is(ConvergeNotKnown, "attributes that are scanned", func(_ *Answer, folder *Folder) { folder.Members[1].About.ScansAttributes = true })
 	is(ConvergeNotKnown, "a mode that a scan records", func(_ *Answer, folder *Folder) {
 		folder.Permissions.Add(Permissions{"b", []Bits{{}, {Has: true, OnDisk: true, Index: 0o644, Disk: 0o600}}})

@@ -92,7 +92,7 @@ type back struct {
 
 func (b *back) name(s *state, n int, names []Name) Name {
 	count := len(s.devices)
-	name := Name{Name: b.nameOf(n, names), Own: make([]*Record, count), Views: make([][]*Record, count), Disk: make([]*Node, count), Holds: b.names[n].holds, Ignored: b.ignored(s, n, names)}
+	name := Name{Name: b.nameOf(n, names), Own: make([]*Record, count), Views: make([][]*Record, count), Disk: make([]*Node, count), Holds: b.names[n].holds, Bars: b.names[n].bars, Ignored: b.ignored(s, n, names)}
 	for i := range s.devices {
 		name.Views[i] = make([]*Record, count)
 		name.Own[i] = b.record(s.own(i, n))

@@ -50,18 +50,21 @@ func (w *World) Put(device int, name string, what Node) {
 	found.Disk[device] = &what
 }
 
-// PutBelow has stand below a directory on a device's disk what stands below it on another one's.
+// PutBelow has stand below a directory on a device's disk what stands below it on another one's, as far as the device can have the names.
 func (w *World) PutBelow(device int, name string, from int) {
 	for place := range w.Names {
-		if below := &w.Names[place]; strings.HasPrefix(below.Name, name+"/") && below.Disk[from] != nil {
+		if below := &w.Names[place]; strings.HasPrefix(below.Name, name+"/") && below.Disk[from] != nil && !below.Bars.Has(device) {
 			what := *below.Disk[from]
 			below.Disk[device] = &what
 		}
 	}
 }
 
-// HasRoom says whether a device's disk has nothing but directories above a name.
+// HasRoom says whether a device can have a name: its system can, and its disk has nothing but directories above it.
 func (w *World) HasRoom(device int, name string) bool {
+	if found := w.find(name); found != nil && found.Bars.Has(device) {
+		return false
+	}
 	for above := path.Dir(name); above != "."; above = path.Dir(above) {
 		if what := w.At(device, above); what != nil && what.Type != Directory {
 			return false

@@ -67,7 +67,7 @@ func (l *loader) nameAll(names []Name) {
 		places[names[place].Name] = place
 	}
 	for place := range names {
-		added := name{parent: -1, root: place, isCopy: isConflictCopy(names[place].Name), holds: names[place].Holds, drops: names[place].ignores()}
+		added := name{parent: -1, root: place, isCopy: isConflictCopy(names[place].Name), holds: names[place].Holds, bars: names[place].Bars, drops: names[place].ignores()}
 		for above := path.Dir(names[place].Name); above != "."; above = path.Dir(above) {
 			if found, is := places[above]; is {
 				added.parent = found

@@ -34,6 +34,7 @@ type name struct {
 	node   int32
 	device int
 	holds  Places
+	bars   Places
 	drops  Places // devices on which something of it goes that .stignore keeps out with (?d)
 }
 

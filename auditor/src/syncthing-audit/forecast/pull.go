@@ -15,6 +15,7 @@ const (
 	BelowNoDirectory Why = "below-no-directory" // what is above isn't a directory
 	IsDirectory      Why = "is-directory"       // a file is to be deleted, and it is a directory
 	NotThere         Why = "not-there"          // another time or mode is to be set, and nothing is there
+	InvalidName      Why = "invalid-name"       // the device's system can't have such a name
 
 	// Why a device keeps a name, though it needs nothing of it.
 	KeepsLocalChange Why = "local-change"      // the folder only receives, and was changed there
@@ -23,8 +24,8 @@ const (
 )
 
 // AllWhys are all of them.
-var AllWhys = []Why{NoReason, OnlySends, NoSource, NotScanned, HasUnscanned, HasIgnored, HasLocalChanges, NotEmpty, BelowNoDirectory, IsDirectory, NotThere, KeepsLocalChange,
-	NotSeen, IgnoresDeletions}
+var AllWhys = []Why{NoReason, OnlySends, NoSource, NotScanned, HasUnscanned, HasIgnored, HasLocalChanges, NotEmpty, BelowNoDirectory, IsDirectory, NotThere, InvalidName,
+	KeepsLocalChange, NotSeen, IgnoresDeletions}
 
 // pull is one pull of one device. It works on the state, and reads what the device knew when the pull began: its index is written at the
 // end of a pull.
@@ -95,6 +96,10 @@ func (p *pull) takeOthers(needed []int) (files []int) {
 	for _, n := range needed {
 		entry, own := p.wanted(n), p.recorded(n)
 		switch {
+		case p.names[n].bars.Has(p.i) && entry.deleted:
+			p.done(n, *entry)
+		case p.names[n].bars.Has(p.i):
+			p.note(n, InvalidName)
 		case entry.deleted && entry.kind == Directory:
 			p.dirs = append(p.dirs, n)
 		case entry.deleted && entry.kind == File && own.isThere() && !own.deleted && own.kind == File && own.flag == Valid:

@@ -66,7 +66,7 @@ func (l *loader) shape(s *state) string {
 		put(int64(device.MaxConflicts), device.TimeWindow, int64(device.Apart), truth(device.Versions == VersionsKept))
 	}
 	for _, name := range l.names {
-		put(int64(name.parent), truth(name.isCopy), int64(name.root), int64(name.holds), int64(name.drops))
+		put(int64(name.parent), truth(name.isCopy), int64(name.root), int64(name.holds), int64(name.bars), int64(name.drops))
 	}
 	put(l.sizes...)
 	for _, vector := range l.vectors {

@@ -94,6 +94,7 @@ type Name struct {
 	Views [][]*Record // Views[i][j] is what device i knows of device j
 	Disk  []*Node
 	Holds Places `json:",omitempty"` // devices on whose disks the directory has something that .stignore keeps out, and that doesn't go with it
+	Bars  Places `json:",omitempty"` // devices whose system can't have such a name
 
 	Ignored []Ignored `json:",omitempty"` // of each device, if of any: what .stignore keeps out with (?d) in the directory on its disk
 }

@@ -31,9 +31,10 @@ func NewDevice(stream part.Stream, from string) *Device {
 // Member is a device that shares a folder.
 type Member struct {
 	*Device
-	About *part.Folder
-	Near  int64 // how many of its files have another time than recorded, which its Syncthing takes for the same
-	Links int64 // how many of its names are of files that have several
+	About  *part.Folder
+	Near   int64 // how many of its files have another time than recorded, which its Syncthing takes for the same
+	Links  int64 // how many of its names are of files that have several
+	Barred int64 // how many names its system can't have
 
 	Temporary *part.Count     // its names that Syncthing takes for its temporary files, as far as its part tells them
 	Linked    *part.Count     // its names of files that have links elsewhere, as far as its part tells them
@@ -231,6 +232,9 @@ func (f *Folder) next() (*Row, error) {
 		f.Members[place].isLine = false
 		f.Members[place].takeTime(next)
 		f.Members[place].countLink(next)
+	}
+	for place := range f.Members {
+		f.Members[place].countBarred(row)
 	}
 	f.fill(row)
 	f.addLater(row)

@@ -8,11 +8,12 @@ import (
 
 // savedMember is a member as JSON: without the rest of its part.
 type savedMember struct {
-	Head  *part.Head
-	From  string
-	About *part.Folder
-	Near  int64 `json:",omitempty"`
-	Links int64 `json:",omitempty"`
+	Head   *part.Head
+	From   string
+	About  *part.Folder
+	Near   int64 `json:",omitempty"`
+	Links  int64 `json:",omitempty"`
+	Barred int64 `json:",omitempty"`
 
 	Temporary *part.Count `json:",omitempty"`
 	Linked    *part.Count `json:",omitempty"`
@@ -21,7 +22,7 @@ type savedMember struct {
 }
 
 func (m Member) MarshalJSON() ([]byte, error) {
-	saved := savedMember{m.Head, m.From, m.About, m.Near, m.Links, m.Temporary, m.Linked, m.ToIgnore, nil}
+	saved := savedMember{m.Head, m.From, m.About, m.Near, m.Links, m.Barred, m.Temporary, m.Linked, m.ToIgnore, nil}
 	if m.Unseen != (Unseen{}) {
 		saved.Unseen = &m.Unseen
 	}
@@ -37,7 +38,8 @@ func (m *Member) UnmarshalJSON(text []byte) error {
 	if read.Head != nil {
 		m.Number = read.Head.Number()
 	}
-	m.About, m.Near, m.Links, m.Temporary, m.Linked, m.ToIgnore = read.About, read.Near, read.Links, read.Temporary, read.Linked, read.ToIgnore
+	m.About, m.Near, m.Links, m.Barred, m.Temporary = read.About, read.Near, read.Links, read.Barred, read.Temporary
+	m.Linked, m.ToIgnore = read.Linked, read.ToIgnore
 	if read.Unseen != nil {
 		m.Unseen = *read.Unseen
 	}

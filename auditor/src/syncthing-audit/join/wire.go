@@ -3,6 +3,7 @@ package join
 import (
 	"strings"
 
+	"github.com/syncthing/syncthing/lib/fs"
 	"golang.org/x/exp/slices"
 	"syncthing-audit/part"
 	"syncthing-audit/shell"
@@ -55,7 +56,22 @@ func (f *Folder) fillViews(row *Row, member int) {
 
 // dropsFromOthers says whether a member's Syncthing drops a name from others' indexes: on Windows one with a backslash has no path.
 func (m *Member) dropsFromOthers(name string) bool {
-	return m.Head.Half != nil && m.Head.Half.IsWindows() && strings.Contains(name, `\`)
+	return m.isWindows() && strings.Contains(name, `\`)
+}
+
+func (m *Member) isWindows() bool { return m.Head.Half != nil && m.Head.Half.IsWindows() }
+
+// CanHave says whether a member's system can have a name. Syncthing takes none from others that Windows can't have, as `a:b` or `aux.txt`.
+func (m *Member) CanHave(name string) bool {
+	return !m.isWindows() || !m.dropsFromOthers(name) && fs.WindowsInvalidFilename(strings.ReplaceAll(name, "/", `\`)) == nil
+}
+
+// countBarred counts a name that stands on others' disks, and that the member's system can't have.
+func (m *Member) countBarred(row *Row) {
+	isThere := func(at *part.Name) bool { return at != nil && at.Disk != nil }
+	if !m.CanHave(row.Name) && slices.IndexFunc(row.At, isThere) >= 0 {
+		m.Barred++
+	}
 }
 
 // namedByOthers gives a name that a member has in its views alone. Where the member's patterns are known, they may keep it out of the folder there.

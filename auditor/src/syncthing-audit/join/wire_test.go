@@ -86,6 +86,27 @@ func TestNamesThatWindowsDrops(t *testing.T) {
 	}
 }
 
+// Syncthing on Windows takes no name from others that Windows can't have: such names are counted where others have them.
+func TestNamesThatWindowsCannotHave(t *testing.T) {
+	disk := &part.Node{Size: 3, Contents: []part.Content{{Size: 3, BlockSize: protocol.MinBlockSize}}}
+	var names []part.Name
+	for place, name := range []string{"a:b", `a\b`, "ab", "aux.txt/b", "b.", "c.", "com.txt"} {
+		made := part.Name{Name: part.Bytes(name), Own: record(int64(place+1), 1), Disk: disk}
+		if name == "c." { // it is deleted
+			made.Own.Deleted, made.Disk = true, nil
+		}
+		names = append(names, made)
+	}
+	for system, barred := range map[string]int64{"windows": 4, "linux": 0} {
+		one := partOf(0, true, true, 9, 9)
+		one.Head.Half = part.NewHalf("walk", "look", system, nil)
+		folder, _ := rowsOf(t, one, partOf(1, true, true, 9, 9, names...))
+		if folder.Members[0].Barred != barred || folder.Members[1].Barred != 0 {
+			t.Errorf("%s: %d, %d", system, folder.Members[0].Barred, folder.Members[1].Barred)
+		}
+	}
+}
+
 // What a device has of another one's index is that index, up to the sequence that it names; what is behind isn't heard of. The observer isn't asked for.
 func TestViewsOverTheWire(t *testing.T) {
 	for _, isMixed := range []bool{false, true} {

@@ -156,6 +156,7 @@ var wordsOfKept = map[forecast.Why]string{
 	forecast.BelowNoDirectory: "what stands above is no directory",
 	forecast.IsDirectory:      "a directory stands where a file is to be deleted",
 	forecast.NotThere:         "nothing stands there to get the new time or mode",
+	forecast.InvalidName:      "Windows can't have such a name",
 	forecast.KeepsLocalChange: "it only receives, and keeps its own change",
 	forecast.NotSeen:          "it has other bytes than recorded, which no scan sees, and may send them to a device that is added",
 	forecast.IgnoresDeletions: "by the folder's option 'ignoreDelete' it takes no deletions",

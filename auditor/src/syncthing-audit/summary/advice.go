@@ -66,12 +66,19 @@ func (f *File) toLeave(named print.Names) string {
 		return "nothing, if " + named.All(on) + " is to keep what others delete. If " + f.say("it is", "they are") + " to go there, too, delete " + it + " there; or set the folder's " +
 			"option 'ignoreDelete' to false there, and Syncthing deletes there all that others have deleted. If all are to have " + it + " again, put " + it +
 			" on each of these devices, while Syncthing is stopped on all"
+	case f.isKept(forecast.InvalidName):
+		return "rename " + it + " on a device that has " + it + ", if all are to have " + it + ": Windows can't have a name with one of < > : \" | ? * \\ or a control character, one that ends with a space or a dot, or one such as CON or LPT1"
 	case f.hasChoice() && f.foretold.hasSteps:
 		return "leave " + it + " so, or choose something for the whole folder, as another audit says once the steps above are taken"
 	case f.hasChoice():
 		return "choose for the whole folder what stands above, behind 'to choose in', or leave " + it + " so"
 	}
 	return "copy elsewhere what is to stay. Then, while Syncthing is stopped on all of these devices, put what is wanted on each of them"
+}
+
+// isKept says whether a device keeps the name otherwise than others for this reason.
+func (f *File) isKept(why forecast.Why) bool {
+	return slices.IndexFunc(f.foretold.fate.Kept, func(kept outlook.Kept) bool { return kept.Why == why }) >= 0
 }
 
 // ignoringDeletions gives the devices that keep the name since their folder's option has them ignore deletions.

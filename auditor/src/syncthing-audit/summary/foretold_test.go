@@ -168,6 +168,16 @@ func TestWhatIsLostWithoutSteps(t *testing.T) {
 	}
 }
 
+// Who has a device on Windows is told that it can't have some names.
+func TestANameThatWindowsCannotHave(t *testing.T) {
+	state := &State{Type: "file", Size: 5}
+	file := &File{Faults: []*Fault{{Device: server, Cause: Missing, Recorded: state, sources: []string{laptop}}},
+		foretold: foretold{fate: &outlook.Name{Fate: outlook.Stays, Kept: []outlook.Kept{{Device: server, Why: forecast.InvalidName}}}}}
+	if is := adviceOf(file, unnamed); len(is) != 1 || !strings.HasPrefix(is[0], "rename it on a device that has it, if all are to have it: Windows can't have a name with one of < > ") {
+		t.Errorf("%q", is)
+	}
+}
+
 const sendOnly = "send-only"
 
 // putBack is what gives a device back what it recorded.

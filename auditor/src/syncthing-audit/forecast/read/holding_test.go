@@ -27,6 +27,25 @@ func TestDirectoriesThatHoldWhatIsIgnored(t *testing.T) {
 	}
 }
 
+// A world says which devices' systems can't have a name.
+func TestNamesThatWindowsCannotHave(t *testing.T) {
+	for system, bars := range map[string]forecast.Places{"windows": 1 << 1, "linux": 0} {
+		folder := folderOf(2)
+		folder.Members[1].Head.Half = part.NewHalf("walk", "look", system, nil)
+		rows := NewRows(folder)
+		for _, name := range []string{"a", "a:b"} {
+			rows.Take(calm(name, func(row *join.Row) { row.At[1] = nil }))
+		}
+		found := map[string]forecast.Places{}
+		for _, name := range rows.World().Names {
+			found[name.Name] = name.Bars
+		}
+		if len(found) != 2 || found["a"] != 0 || found["a:b"] != bars {
+			t.Errorf("%s: %v", system, found)
+		}
+	}
+}
+
 // deleted gives a directory that the first device deleted.
 func deleted(name string) *join.Row {
 	return calm(name, func(row *join.Row) {

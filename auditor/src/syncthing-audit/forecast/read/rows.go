@@ -234,6 +234,7 @@ func (r *Rows) World() forecast.World {
 	r.dropResting()
 	r.finish()
 	r.addHolding()
+	r.addBars()
 	for _, name := range r.world.Names {
 		if _, is := r.Unknown[name.Name]; is {
 			continue
@@ -248,6 +249,18 @@ func (r *Rows) World() forecast.World {
 		}
 	}
 	return r.world
+}
+
+// addBars adds which devices' systems can't have a name.
+func (r *Rows) addBars() {
+	for place := range r.world.Names {
+		name := &r.world.Names[place]
+		for member := range r.members {
+			if !r.members[member].CanHave(name.Name) {
+				name.Bars |= 1 << member
+			}
+		}
+	}
 }
 
 // addHolding adds on which disks directories hold what .stignore keeps out. Where a part doesn't list all of these, it isn't known of directories there.
