@@ -61,9 +61,12 @@ func (m *Member) dropsFromOthers(name string) bool {
 
 func (m *Member) isWindows() bool { return m.Head.Half != nil && m.Head.Half.IsWindows() }
 
-// CanHave says whether a member's system can have a name. Syncthing takes none from others that Windows can't have, as `a:b` or `aux.txt`.
-func (m *Member) CanHave(name string) bool {
-	return !m.isWindows() || !m.dropsFromOthers(name) && fs.WindowsInvalidFilename(strings.ReplaceAll(name, "/", `\`)) == nil
+// CanHave says whether a member's system can have a name.
+func (m *Member) CanHave(name string) bool { return !m.isWindows() || IsOfWindows(name) }
+
+// IsOfWindows says whether Windows can have a name: neither `a:b` nor `aux.txt`, say. Syncthing there takes no other names from others.
+func IsOfWindows(name string) bool {
+	return !strings.Contains(name, `\`) && fs.WindowsInvalidFilename(strings.ReplaceAll(name, "/", `\`)) == nil
 }
 
 // countBarred counts a name that stands on others' disks, and that the member's system can't have.

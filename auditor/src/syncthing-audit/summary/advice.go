@@ -67,13 +67,19 @@ func (f *File) toLeave(named print.Names) string {
 			"option 'ignoreDelete' to false there, and Syncthing deletes there all that others have deleted. If all are to have " + it + " again, put " + it +
 			" on each of these devices, while Syncthing is stopped on all"
 	case f.isKept(forecast.InvalidName):
-		return "rename " + it + " on a device that has " + it + ", if all are to have " + it + ": Windows can't have a name with one of < > : \" | ? * \\ or a control character, one that ends with a space or a dot, or one such as CON or LPT1"
+		return "if all are to have " + it + ", " + f.toRename()
 	case f.hasChoice() && f.foretold.hasSteps:
 		return "leave " + it + " so, or choose something for the whole folder, as another audit says once the steps above are taken"
 	case f.hasChoice():
 		return "choose for the whole folder what stands above, behind 'to choose in', or leave " + it + " so"
 	}
 	return "copy elsewhere what is to stay. Then, while Syncthing is stopped on all of these devices, put what is wanted on each of them"
+}
+
+// toRename says what to do about a name that Windows can't have.
+func (f *File) toRename() string {
+	it := f.say("it", "them")
+	return "rename " + it + " on a device that has " + it + ": Windows has no name with one of < > : \" | ? * \\ or a control character in it, none that ends with a space or a dot, and none such as CON or LPT1"
 }
 
 // isKept says whether a device keeps the name otherwise than others for this reason.
@@ -186,6 +192,8 @@ func (f *File) adviceOfFault(fault *Fault, named print.Names) string {
 		return f.say("audit it by itself: --names with this name tells more", "audit some of them by themselves: --names with how they begin tells more") + "; parts are made anew with it"
 	case fault.Cause == NotScanned && f.isOdd:
 		return "rename " + f.say("it", "them") + " on " + at + ": " + f.say("its name isn't", "their names aren't") + " in Unicode's form NFC, in which Syncthing has names"
+	case !f.isOfWindows && fault.isOverWire && fault.Cause == Behind && fault.Recorded == nil:
+		return "if " + at + " runs Windows, " + f.toRename()
 	case fault.isUntold:
 		return at + " has heard of later changes of those who have " + f.say("it, and not of this one", "them, and not of these") + ": stop Syncthing on " + at + ", and " + part.ResetDeltas
 	case len(fault.sources) > 0 && (fault.isHarm() || fault.Cause == Changed) && !fault.Damage.MayBeOfRecord() && !f.foretold.hasGoal() && (!f.foretold.isKnown() || f.foretold.is(outlook.Changed) || fault.Damage != damage.None):

@@ -35,6 +35,7 @@ type File struct {
 	isOfSum         bool           // whether 'sum' tells it
 	isOfAnotherTime bool           // whether those that have what is due have it with another time
 	isOdd           bool           // whether the name isn't in Unicode's form NFC
+	isOfWindows     bool           // whether Windows can have the name
 	isMany          bool           // whether it stands for many names, which are told as one
 	among           *Group         // all of which the very same is told
 }
@@ -62,7 +63,8 @@ type Mode struct {
 
 // fileOf gives what is to be told of a name.
 func fileOf(folder *finding.Folder, told *finding.Told) *File {
-	file := &File{Name: Text(told.Name), Faults: []*Fault{}, Have: []string{}, Follows: []Follow{}, Permissions: []Mode{}, isOdd: !norm.NFC.IsNormalString(told.Name)}
+	file := &File{Name: Text(told.Name), Faults: []*Fault{}, Have: []string{}, Follows: []Follow{}, Permissions: []Mode{}, isOdd: !norm.NFC.IsNormalString(told.Name),
+		isOfWindows: join.IsOfWindows(told.Name)}
 	r := &reader{folder: folder, row: folder.Rows[told.Name], file: file, reasons: map[int][]string{}}
 	switch {
 	case told.Unwon != nil:

@@ -173,8 +173,25 @@ func TestANameThatWindowsCannotHave(t *testing.T) {
 	state := &State{Type: "file", Size: 5}
 	file := &File{Faults: []*Fault{{Device: server, Cause: Missing, Recorded: state, sources: []string{laptop}}},
 		foretold: foretold{fate: &outlook.Name{Fate: outlook.Stays, Kept: []outlook.Kept{{Device: server, Why: forecast.InvalidName}}}}}
-	if is := adviceOf(file, unnamed); len(is) != 1 || !strings.HasPrefix(is[0], "rename it on a device that has it, if all are to have it: Windows can't have a name with one of < > ") {
+	if is := adviceOf(file, unnamed); len(is) != 1 || !strings.HasPrefix(is[0], "if all are to have it, rename it on a device that has it: Windows has no name with one of < > ") {
 		t.Errorf("%q", is)
+	}
+}
+
+// What a device may run isn't seen over the wire: a name that hasn't come there may be one that Windows can't have.
+func TestANameThatDoesNotComeOverTheWire(t *testing.T) {
+	state := &State{Type: "file", Size: 5}
+	for name, is := range map[string]bool{"a:b": true, "a": false} {
+		for _, isOverWire := range []bool{true, false} {
+			for _, recorded := range []*State{nil, state} {
+				fault := &Fault{Device: server, Cause: Behind, Due: state, Recorded: recorded, isOverWire: isOverWire}
+				file := &File{Faults: []*Fault{fault}, isOfWindows: join.IsOfWindows(name)}
+				told := strings.Join(adviceOf(file, unnamed), " ")
+				if strings.Contains(told, "runs Windows, rename it on a device that has it") != (is && isOverWire && recorded == nil) {
+					t.Errorf("%s, over the wire %v, recorded %v: %q", name, isOverWire, recorded, told)
+				}
+			}
+		}
 	}
 }
 
