@@ -1,5 +1,5 @@
--- What is left of a device's store, walked beside the known names, and what it says of how many of these are deleted.
-use Rattle.std.proofs.Common.{◌≡◌, ◌+◌, ◌<◌, true, if◌then◌else◌, arith, List, [], ◌∷◌, Option, Some, None, IsTrue, IfSome, IsSomeAnd, Contains, Bor, map, length, refl, sym, ap, subst}
+-- What is left of a device's store, walked beside the known names.
+use Rattle.std.proofs.Common.{◌≡◌, ◌<◌, arith, List, [], ◌∷◌, Option, Some, None, IsTrue, IfSome, Contains, Bor, map, length, refl, sym, subst}
 use Rattle.std.specs.Prelude.{⊤}
 use Rattle.std.specs.Cmp.Lexicographic.{nat_list_cmp_total}
 use Rattle.std.specs.FinMap.{entries}
@@ -12,6 +12,7 @@ use Rattle.bep_record.specs.declared.node.NodeParts.{NodeParts}
 use Rattle.bep_model.specs.Tables.{FileName}
 use Rattle.bep_tables.specs.declared.share.Share.{Share}
 use Rattle.bep_report.specs.Report.{is_stored, count_deleted}
+use Rattle.bep_report.specs.inner.Known.{names_lent}
 use Rattle.bep_report.specs.inner.Stored.{HoldsStored}
 
 -- ---- definitions
@@ -27,7 +28,7 @@ IsNextStored shares next = IfSome next (λ one. IsTrue (is_stored shares one.0.n
 
 -- ---- no store
 
-pub all_deleted : (shares : List Share) (names : List (FileName × Unit {0})) → length shares < 1 → count_deleted shares (map (λ e. e.0) names) ≡ length names
+pub all_deleted : (shares : List Share) (names : List (Bor FileName)) → length shares < 1 → count_deleted shares (names_lent names) ≡ length names
 all_deleted [] [] none = refl
 all_deleted [] (name ∷ more) none = let rest = all_deleted [] more none in omega arith
 all_deleted (first ∷ others) names none = absurd (omega arith)
@@ -48,16 +49,3 @@ entries_stored shares store holds = names_stored shares (entries store) (λ name
 pub after_next : (shares : List Share) (rest left : List (FileName × NodeParts)) (next : Option (Bor FileName × Bor NodeParts)) → AreStored shares rest → TakesFirst deref_pair rest next left → IsNextStored shares next × AreStored shares left
 after_next shares rest left None all took = (tt, subst (AreStored shares) (sym took.1) tt)
 after_next shares rest left (Some one) all took = subst (AreStored shares) took all
-
-pub next_is_stored : (shares : List Share) (next : Option (Bor FileName × Bor NodeParts)) (name : FileName) → IsNextStored shares next → IsSomeAnd next (λ one. one.0.now ≡ name) → is_stored shares name ≡ true
-next_is_stored shares None name stored same = absurd same
-next_is_stored shares (Some one) name stored same = subst (λ n. IsTrue (is_stored shares n)) same stored
-
--- ---- what it says of a count
-
-pub stored_counts_none : (shares : List Share) (names left : List (FileName × Unit {0})) (name : FileName) (known : Unit {0}) → is_stored shares name ≡ true → names ≡ (name, known) ∷ left → count_deleted shares (map (λ e. e.0) names) ≡ count_deleted shares (map (λ e. e.0) left)
-stored_counts_none shares names left name known stored took =
-    let more = count_deleted shares (map (λ e. e.0) left) in
-    let this : count_deleted shares (map (λ e. e.0) names) ≡ (if is_stored shares name then 0 else 1) + more = ap (λ es. count_deleted shares (map (λ e. e.0) es)) took in
-    let none : (if is_stored shares name then 0 else 1) + more ≡ 0 + more = ap (λ here. (if here then 0 else 1) + more) stored in
-    omega arith

@@ -1,7 +1,7 @@
 //! How many of a folder's known names are deleted: no device's store holds them.
 ghost use Rattle.std.specs.Prelude.{◌≡◌, IsSomeAnd, IsTrue};
-ghost use Rattle.std.specs.FinMap.{keys};
 ghost use Rattle.bep_report.specs.Report.{is_stored, count_deleted};
+ghost use Rattle.bep_report.specs.inner.Known.{names_lent};
 ghost use Rattle.bep_report.specs.inner.Stored.{HoldsStored};
 
 use bep_map::NameMap;
@@ -9,8 +9,8 @@ use bep_record::{Name, Node};
 use bep_tables::Share;
 
 // How many of the names no store holds.
-pub(crate) fn count_deleted(shares: &[Share], names: &NameMap<()>) -> usize
-    ensures { result ≡ count_deleted shares.now (keys names.now) }
+pub(crate) fn count_deleted(shares: &[Share], names: &[&Name]) -> usize
+    ensures { result ≡ count_deleted shares.now (names_lent names.now) }
 {
     match shares {
         [] => names.len(),
@@ -20,22 +20,20 @@ pub(crate) fn count_deleted(shares: &[Share], names: &NameMap<()>) -> usize
 
 // The same, along one of the stores. Mostly it holds the very names that are known, and then each name costs one comparison
 // and no search. A name that it lacks is searched for, and the walk along it waits for the name that comes next there.
-fn count_beside(shares: &[Share], store: &NameMap<Node>, names: &NameMap<()>) -> usize
+fn count_beside(shares: &[Share], store: &NameMap<Node>, names: &[&Name]) -> usize
     requires { HoldsStored shares.now store.now }
-    ensures { result ≡ count_deleted shares.now (keys names.now) }
+    ensures { result ≡ count_deleted shares.now (names_lent names.now) }
 {
-    let most = names.len();
     let mut rest = store.iter();
     let mut next = rest.next();
     let mut count = 0;
-    for (name, _known) in names.iter() {
+    for name in names {
         if is_of(next, name) {
             next = rest.next();
         } else if !is_stored(shares, name) {
             count += 1;
         }
     }
-    prove!(count <= most);
     count
 }
 

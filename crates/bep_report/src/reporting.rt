@@ -148,6 +148,6 @@ fn push_held(
 {
     let names = known_in(alloc, cut, table.entries(), &held.folder)?;
     let shares = held.shares.as_slice();
-    let deleted = count_deleted(shares, &names);
+    let deleted = count_deleted(shares, names.as_slice());
     push_folder(text, &held.folder, names.len(), deleted, shares.len())
 }

@@ -1,11 +1,8 @@
-use Rattle.std.proofs.Common.{◌≡◌, ◌≤◌, length, map, drop}
+use Rattle.std.proofs.Common.{◌≡◌, ◌++◌, map, drop}
 use Rattle.bep_tables.specs.Listed.{listed}
-use Rattle.bep_report.specs.inner.Known.{names_among}
+use Rattle.bep_report.specs.inner.Known.{names_in, names_lent}
 use Rattle.bep_report.proofs.known.known_in.Given as goal
 
--- the names of the entries from there on
+-- the names so far with those of the entries from there on are those of all
 abbrev pub invariant-loop-place : goal.invariant-loop-place
-invariant-loop-place l = (l.names ≡ names_among l.folder (map listed (drop l.place l.table))) × (l.place ≤ length l.table)
-
-abbrev pub decreases-loop-place : goal.decreases-loop-place
-decreases-loop-place l = l.place
+invariant-loop-place l = names_lent l.names.items ++ names_in l.folder (map listed (drop l.place l.table)) ≡ names_in l.folder (map listed l.table)
