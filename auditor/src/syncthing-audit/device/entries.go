@@ -9,12 +9,13 @@ import (
 	"syncthing-audit/part"
 )
 
-// viewedEntry reads another device's entry. Of what that device ignores, or is to scan anew, it tells neither size nor blocks.
+// viewedEntry reads another device's entry, without the hash of its list of blocks. Of what that device ignores, or is to scan anew, it tells neither size
+// nor blocks.
 func viewedEntry(entry *protocol.FileInfo) Entry {
 	if entry.IsInvalid() && !entry.Deleted && entry.Type == protocol.FileInfoTypeFile && len(entry.Blocks) == 0 {
 		return leftOut(entry, part.Ignored, part.WhyIgnoredElsewhere)
 	}
-	return entryOf(entry)
+	return entryWithoutHash(entry)
 }
 
 // entries reads what the index has of one device. Syncthing's own package makes each entry anew, several times over. So the entries are read here up to

@@ -60,11 +60,12 @@ func takeNumber(file *protocol.FileInfo, field message.Field) bool {
 	return true
 }
 
-// AddCounter adds a counter to a version, and says whether it is as Syncthing writes it.
-func AddCounter(to *protocol.Vector, text []byte) (isPlain bool, err error) {
+// AddCounter adds a counter to a version, and says whether it is as Syncthing writes it. What is wrong with its text is put where the caller has room for
+// that: an error of its own would take memory for each counter.
+func AddCounter(to *protocol.Vector, text []byte, wrong *error) (isPlain bool) {
 	var counter protocol.Counter
 	isPlain = true
-	for fields := message.FieldsOf(text, &err); fields.Next(); {
+	for fields := message.FieldsOf(text, wrong); fields.Next(); {
 		field := fields.Field
 		switch field.Number {
 		case message.CounterID:
@@ -77,14 +78,15 @@ func AddCounter(to *protocol.Vector, text []byte) (isPlain bool, err error) {
 		isPlain = isPlain && isNumber(field)
 	}
 	to.Counters = append(to.Counters, counter)
-	return isPlain, err
+	return isPlain
 }
 
-// AddBlock adds a block, and says whether it is as Syncthing writes it. Its hash stays a part of the text.
-func AddBlock(to *protocol.FileInfo, text []byte) (isPlain bool, err error) {
+// AddBlock adds a block, and says whether it is as Syncthing writes it. Its hash stays a part of the text. What is wrong with that is put where the caller
+// has room for it.
+func AddBlock(to *protocol.FileInfo, text []byte, wrong *error) (isPlain bool) {
 	var block protocol.BlockInfo
 	isPlain = true
-	for fields := message.FieldsOf(text, &err); fields.Next(); {
+	for fields := message.FieldsOf(text, wrong); fields.Next(); {
 		field := fields.Field
 		isDue := isNumber(field)
 		switch field.Number {
@@ -103,5 +105,5 @@ func AddBlock(to *protocol.FileInfo, text []byte) (isPlain bool, err error) {
 		isPlain = isPlain && isDue
 	}
 	to.Blocks = append(to.Blocks, block)
-	return isPlain, err
+	return isPlain
 }

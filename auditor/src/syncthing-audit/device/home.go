@@ -278,7 +278,10 @@ func (h *Home) openIndex() error {
 	if err := h.copyIndex(h.database()); err != nil {
 		return err
 	}
-	if err := checkWhole(h.copied); err != nil {
+	if err := settle(h.copied); err != nil {
+		if isFull(err) {
+			return notOpened(err)
+		}
 		return fmt.Errorf("refused: %s: %w", h.Dir, err)
 	}
 	return h.openCopy()

@@ -226,7 +226,8 @@ func (i *Index) Own(names choice.Names, take func(Entry) bool) error {
 	return i.entries(protocol.LocalDeviceID, names, i.Max(), ownEntry, take)
 }
 
-// View gives the entries that the device knows of another one, rising by name.
+// View gives the entries that the device knows of another one, rising by name. They lack the hash of their lists of blocks: who has the own record knows it
+// already, mostly.
 func (i *Index) View(of part.View, names choice.Names, take func(Entry) bool) error {
 	id, err := protocol.DeviceIDFromString(of.Device)
 	if err != nil {

@@ -69,7 +69,7 @@ func (r *plainReader) take(field message.Field) bool {
 // takeVersion takes a version. One of many counters stands elsewhere.
 func (r *plainReader) takeVersion(text []byte) bool {
 	for fields := message.FieldsOf(text, &r.err); fields.Next(); {
-		if isPlain, err := AddCounter(&r.file.Version, fields.Text); !isPlain || err != nil || fields.Number != message.VersionCounter || fields.Text == nil {
+		if !AddCounter(&r.file.Version, fields.Text, &r.err) || fields.Number != message.VersionCounter || fields.Text == nil {
 			return false
 		}
 	}
@@ -77,8 +77,7 @@ func (r *plainReader) takeVersion(text []byte) bool {
 }
 
 func (r *plainReader) takeBlock(text []byte) bool {
-	isPlain, err := AddBlock(&r.file, text)
-	return isPlain && err == nil
+	return AddBlock(&r.file, text, &r.err) && r.err == nil
 }
 
 // readBlocks reads blocks that stand elsewhere.

@@ -60,6 +60,15 @@ func leftOut(entry *protocol.FileInfo, kind, why string) Entry {
 
 // entryOf reads an entry, and says why a document has no such record.
 func entryOf(entry *protocol.FileInfo) Entry {
+	read := entryWithoutHash(entry)
+	if read.Record != nil && read.Record.Content != nil {
+		read.Record.Content.Hash = disk.HashOf(read.Blocks)
+	}
+	return read
+}
+
+// entryWithoutHash reads an entry, but for the hash of its list of blocks.
+func entryWithoutHash(entry *protocol.FileInfo) Entry {
 	if err := limits.CheckName(entry.Name); err != nil {
 		return leftOut(entry, part.OddName, err.Error())
 	}
@@ -75,7 +84,7 @@ func entryOf(entry *protocol.FileInfo) Entry {
 	return Entry{Name: entry.Name, Record: record, Blocks: blocks}
 }
 
-// recordOf gives the record of an entry, with its block hashes.
+// recordOf gives the record of an entry without the hash of its list of blocks, and its block hashes.
 func recordOf(entry *protocol.FileInfo) (*part.Record, [][32]byte, error) {
 	if err := checkHead(entry); err != nil {
 		return nil, nil, err
@@ -103,7 +112,7 @@ func recordOf(entry *protocol.FileInfo) (*part.Record, [][32]byte, error) {
 	if err != nil {
 		return nil, nil, err
 	}
-	made.content = part.Content{Size: entry.Size, BlockSize: int64(entry.BlockSize()), Hash: disk.HashOf(blocks)}
+	made.content = part.Content{Size: entry.Size, BlockSize: int64(entry.BlockSize())}
 	record.Content = &made.content
 	return record, blocks, nil
 }

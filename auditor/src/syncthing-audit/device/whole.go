@@ -4,24 +4,27 @@ import (
 	"bytes"
 	"errors"
 	"fmt"
+	"math"
 	"os"
 	"path/filepath"
 	"strings"
 
+	"github.com/syncthing/syncthing/lib/db/backend"
 	"github.com/syndtr/goleveldb/leveldb"
 	"github.com/syndtr/goleveldb/leveldb/opt"
 	"syncthing-audit/regular"
 )
 
-// checkWhole says why an index's files don't belong together, as those of a home that was copied while Syncthing ran
-// mostly don't. Syncthing's own package would mend such an index on opening it, or make an empty one in its place.
-func checkWhole(database string) error {
-	read, err := readManifest(database)
+// settle puts what stands in the log of an index's copy into tables, so that whoever opens the copy then reads no log. It says why the files don't
+// belong together, as those of a home that was copied while Syncthing ran mostly don't. Syncthing's own package would mend such an index on opening it,
+// or make an empty one in its place.
+func settle(copied string) error {
+	read, err := readManifest(copied)
 	if err == nil {
-		err = read.check(database)
+		err = read.check(copied)
 	}
 	if err == nil {
-		err = tryOpening(database)
+		err = putLogIntoTables(copied)
 	}
 	if err != nil {
 		return fmt.Errorf("its index isn't whole: %w. A home that was copied while Syncthing ran looks so, and one on which it "+
@@ -81,9 +84,15 @@ func fileNumber(name string) (int64, string) {
 	return number, kind
 }
 
-// tryOpening opens the index without mending anything, and so finds logs that end in the middle.
-func tryOpening(database string) error {
-	opened, err := openStrictly(database)
+// putLogIntoTables opens a copy and mends nothing, and so finds logs that end in the middle: LevelDB puts a whole one into as few tables as Syncthing would.
+// It joins no tables, which would take long, and waits for no disk, since nobody needs the copy after a crash.
+func putLogIntoTables(copied string) error {
+	buffer := 16 << 20
+	if tuningFor(copied) == backend.TuningLarge {
+		buffer = 64 << 20
+	}
+	opened, err := leveldb.OpenFile(copied, &opt.Options{ErrorIfMissing: true, Strict: opt.StrictAll, NoSync: true, WriteBuffer: buffer,
+		CompactionL0Trigger: math.MaxInt32, CompactionTotalSize: math.MaxInt32})
 	if err != nil {
 		return err
 	}

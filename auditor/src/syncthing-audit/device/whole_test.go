@@ -60,6 +60,20 @@ func cut(t *testing.T, path string, bytes int64) {
 	}
 }
 
+// What stands in a log is in a table once a copy is settled: who opens the copy then reads no log, and has all of it.
+func TestASettledCopyHasNothingInItsLog(t *testing.T) {
+	directory := t.TempDir()
+	fill(t, directory)
+	before := len(tablesIn(directory))
+	if err := settle(directory); err != nil {
+		t.Fatal(err)
+	}
+	about, err := os.Stat(theOne(t, directory, "*.log"))
+	if err != nil || about.Size() != 0 || len(tablesIn(directory)) != before+1 || keysOf(t, directory) != 200 {
+		t.Errorf("%v: the log has %d bytes, there are %d tables, and %d keys", err, about.Size(), len(tablesIn(directory)), keysOf(t, directory))
+	}
+}
+
 func TestWholeIndexes(t *testing.T) {
 	cases := []struct {
 		why    string
@@ -81,7 +95,7 @@ func TestWholeIndexes(t *testing.T) {
 		if err := one.change(directory); err != nil {
 			t.Fatal(err)
 		}
-		if err := checkWhole(directory); (err == nil) != one.whole {
+		if err := settle(directory); (err == nil) != one.whole {
 			t.Errorf("%s: %v", one.why, err)
 		}
 	}

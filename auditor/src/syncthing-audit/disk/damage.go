@@ -9,6 +9,9 @@ import (
 // IsDamage says whether the disk itself, or the file system on it, fails to give what it has: a bad sector, say. That is more
 // than a want of permission, since the bytes may be lost.
 func IsDamage(err error) bool {
+	if err == nil { // as of nearly all files, each of which is asked about
+		return false
+	}
 	for _, error := range damages {
 		if errors.Is(err, error) {
 			return true

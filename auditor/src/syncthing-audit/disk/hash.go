@@ -166,7 +166,7 @@ func (f *File) open() (file directory.File, err error) {
 func unread(err error) error { return fmt.Errorf("it can't be read: %w", err) }
 
 // readAt reads as many bytes of a file. One that ends before them has changed.
-func readAt(file io.ReaderAt, to []byte, offset int64) error {
+func readAt(file directory.File, to []byte, offset int64) error {
 	_, err := file.ReadAt(to, offset)
 	switch {
 	case errors.Is(err, io.EOF):
@@ -178,7 +178,7 @@ func readAt(file io.ReaderAt, to []byte, offset int64) error {
 }
 
 // read reads a piece of a file, and gives its bytes to all cutters.
-func (p *Pool) read(file io.ReaderAt, job *Job, offset, length int64, cuts []*cutter) error {
+func (p *Pool) read(file directory.File, job *Job, offset, length int64, cuts []*cutter) error {
 	buffer := buffers.Get().(*[readBytes]byte)
 	defer buffers.Put(buffer)
 	for done := int64(0); done < length; {

@@ -47,18 +47,32 @@ func (r *reader) do(jobs []*Job) {
 		r.begun = append(r.begun, begun{job, file, err})
 	}
 	r.readAhead()
+	r.hashAll()
 	for place, next := range r.begun {
+		next.job.pieces.Done()
+		r.begun[place] = begun{}
+	}
+	r.begun = r.begun[:0]
+}
+
+// hashAll takes the bytes of the files that were begun, and closes these. It counts among those that hash for all of them at once, and whoever waits is
+// told behind the last one: each word between workers takes longer than the hash of a small file's block.
+func (r *reader) hashAll() {
+	r.pool.hashing <- struct{}{}
+	hashed := int64(0)
+	for _, next := range r.begun {
 		if next.err == nil {
 			next.err = r.hash(next.job, next.file)
 			next.file.Close()
 		}
 		if next.err != nil {
 			next.job.fail(next.err)
+		} else {
+			hashed += next.job.file.Node.Size
 		}
-		next.job.pieces.Done()
-		r.begun[place] = begun{}
 	}
-	r.begun = r.begun[:0]
+	<-r.pool.hashing
+	r.pool.hashed.Add(hashed)
 }
 
 // readAhead has the system read the files that were begun. All of them were let go of by then: Linux gathers what it reads, and settles that each time
@@ -97,13 +111,10 @@ func (r *reader) hash(job *Job, file directory.File) error {
 	if err := readAt(file, data, 0); err != nil {
 		return err
 	}
-	r.pool.hashing <- struct{}{}
 	r.sum.Reset()
 	r.sum.Write(data)
 	r.sum.Sum(job.block[0][:0])
 	job.list = job.file.listOf(job.block[:])
-	<-r.pool.hashing
 	copy(job.data, data)
-	r.pool.hashed.Add(int64(len(data)))
 	return nil
 }

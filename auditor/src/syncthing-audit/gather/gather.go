@@ -20,6 +20,7 @@ type Folder interface {
 	Disk() fs.Filesystem
 	Patterns() (*ignore.Matcher, error)
 	Own(names choice.Names, take func(device.Entry) bool) error
+	// View gives entries without the hashes of their lists of blocks.
 	View(of part.View, names choice.Names, take func(device.Entry) bool) error
 	Max() int64   // the greatest sequence of the device's own index, now
 	Check() error // whether the index is still the one that is read

@@ -39,7 +39,17 @@ func (m *madeUp) Own(names choice.Names, take func(device.Entry) bool) error {
 }
 
 func (m *madeUp) View(of part.View, names choice.Names, take func(device.Entry) bool) error {
-	return m.give(of.Device, m.views[of.Device[0]-'0'], names, take)
+	return m.give(of.Device, m.views[of.Device[0]-'0'], names, func(entry device.Entry) bool { return take(withoutHash(entry)) })
+}
+
+// withoutHash gives an entry without the hash of its list of blocks, as a view has it.
+func withoutHash(entry device.Entry) device.Entry {
+	if entry.Record == nil || entry.Record.Content == nil {
+		return entry
+	}
+	record, content := *entry.Record, *entry.Record.Content
+	content.Hash, record.Content, entry.Record = part.Hash{}, &content, &record
+	return entry
 }
 
 func (m *madeUp) Max() int64 { return 77 }

@@ -170,12 +170,27 @@ func (m *merge) takeEntries(line *part.Name) [][32]byte {
 			line.Out = append(line.Out, *entry.Out)
 			continue
 		}
+		if place > 0 {
+			hashList(entry, line.Own, recorded)
+		}
 		m.addRecord(line, place, entry)
 		if place == 0 && entry.Record.Content != nil {
 			recorded = entry.Blocks
 		}
 	}
 	return recorded
+}
+
+// hashList gives an entry of a view the hash of its list of blocks. Where the own record has the same list, it has the hash, too.
+func hashList(entry *device.Entry, own *part.Record, recorded [][32]byte) {
+	content := entry.Record.Content
+	switch {
+	case content == nil:
+	case recorded != nil && slices.Equal(recorded, entry.Blocks):
+		content.Hash = own.Content.Hash
+	default:
+		content.Hash = disk.HashOf(entry.Blocks)
+	}
 }
 
 // takeNode adds what stands on the disk under a name. It gives the stamp that it had when it was found.

@@ -31,8 +31,9 @@ func entryIn(text []byte, longestName int) (protocol.FileInfo, error) {
 			if len(file.Blocks) > len(text)/leastBlockText {
 				return fmt.Errorf("%w: a record with blocks without hashes", BadMessage)
 			}
-			_, err := device.AddBlock(&file, field.Text) // the hash stays a part of the message, which is read no longer than the record is
-			return err
+			var wrong error
+			device.AddBlock(&file, field.Text, &wrong) // the hash stays a part of the message, which is read no longer than the record is
+			return wrong
 		default:
 			device.TakeField(&file, field)
 		}
@@ -50,7 +51,8 @@ func addCounters(to *protocol.Vector, text []byte) error {
 		if len(to.Counters) == mostCounters {
 			return fmt.Errorf("%w: a version of over %d counters", BadMessage, mostCounters)
 		}
-		_, err := device.AddCounter(to, field.Text)
-		return err
+		var wrong error
+		device.AddCounter(to, field.Text, &wrong)
+		return wrong
 	})
 }
