@@ -172,7 +172,7 @@ func (i *Index) names() int64 {
 // Folder gives what a part's head says of the folder. A view that was never filled isn't told.
 func (i *Index) Folder() part.Folder {
 	folder := part.Folder{ID: i.Config.ID, Label: limits.Cut(i.Config.Label), Kind: kindOf(i.Config.Type), Path: adapt.Filesystem(i.Config.Filesystem, nil).URI(),
-		Directory: i.directory, IndexID: uint64(i.files.IndexID(protocol.LocalDeviceID)), Max: i.Max(),
+		Directory: i.directory, Marker: part.MarkerOf(i.Config.MarkerName), IndexID: uint64(i.files.IndexID(protocol.LocalDeviceID)), Max: i.Max(),
 		IgnoresPermissions: i.Config.IgnorePerms, TimeWindow: timeWindowOf(i.Config), ScansAttributes: i.home.attributes[i.Config.ID], Sharing: i.home.Sharing(i.Config), Views: []part.View{},
 		Paused: i.Config.Paused, PausedDevices: i.home.pausedOf(i.Config), Writers: i.home.writersOf(i.Config.ID),
 		Indexed: i.names(), Options: i.home.optionsOf(i.Config)}

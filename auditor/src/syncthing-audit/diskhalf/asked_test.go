@@ -216,7 +216,7 @@ func TestFoldersOfAConfiguration(t *testing.T) {
 	if err != nil {
 		t.Fatal(err)
 	}
-	if err := read.tell(&part.Folder{ID: "none"}); err == nil || !strings.HasSuffix(err.Error(), "has no folder of this id") {
+	if err := read.tell(&part.Folder{ID: "none"}, part.UsualMarker); err == nil || !strings.HasSuffix(err.Error(), "has no folder of this id") {
 		t.Error(err)
 	}
 }

@@ -16,11 +16,9 @@ import (
 	"syncthing-audit/bep"
 	"syncthing-audit/choice"
 	"syncthing-audit/limits"
+	"syncthing-audit/part"
 	"syncthing-audit/shell"
 )
-
-// usualMarker is how Syncthing calls a folder's marker, if nothing else is configured.
-const usualMarker = ".stfolder"
 
 // Command is what a command line asks for.
 type Command struct {
@@ -37,7 +35,7 @@ func (u *Usage) Error() string { return u.Reason }
 
 // ReadCommand reads the words of a command line. More adds flags that only some program has.
 func ReadCommand(words []string, more func(*flag.FlagSet, *Command)) (*Command, error) {
-	command := &Command{Asked: Asked{Marker: usualMarker}}
+	command := &Command{Asked: Asked{Marker: part.UsualMarker}}
 	flags := flag.NewFlagSet("disk", flag.ContinueOnError)
 	flags.SetOutput(io.Discard)
 	flags.Var((*after)(&command.Asked), "after", "")

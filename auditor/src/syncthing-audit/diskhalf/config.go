@@ -52,7 +52,7 @@ func readConfiguration(path string) (*configuration, error) {
 }
 
 // tell has a part say what is configured of a folder. Another directory than that which is walked isn't the folder's.
-func (c *configuration) tell(of *part.Folder) error {
+func (c *configuration) tell(of *part.Folder, marker string) error {
 	for place := range c.Folders {
 		folder := &c.Folders[place]
 		if folder.ID != of.ID {
@@ -64,7 +64,7 @@ func (c *configuration) tell(of *part.Folder) error {
 		if err := folder.Tell(of, c.Devices); err != nil {
 			return fmt.Errorf("%s: %w", shell.Quoted(c.path), err)
 		}
-		of.Options.IgnoresCase = directory.IgnoresCase(withHome(folder.Path), usualMarker)
+		of.Options.IgnoresCase = directory.IgnoresCase(withHome(folder.Path), marker)
 		return nil
 	}
 	return fmt.Errorf("%s has no folder of this id", shell.Quoted(c.path))

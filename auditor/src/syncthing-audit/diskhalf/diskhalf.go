@@ -116,13 +116,13 @@ func (m *maker) open(asked Folder) (*folder, error) {
 	if err != nil {
 		return nil, err
 	}
-	opened.about = part.Folder{ID: asked.ID, Directory: place, Sharing: []part.Sharing{}, Views: []part.View{},
+	opened.about = part.Folder{ID: asked.ID, Directory: place, Marker: part.MarkerOf(m.asked.Marker), Sharing: []part.Sharing{}, Views: []part.View{},
 		Ignores: &part.Ignores{Lines: []string{}, FoldCase: stignore.FoldsCase(runtime.GOOS)}}
 	if m.asked.Paths {
 		opened.about.Path = files.URI()
 	}
 	if m.config != nil {
-		if err := m.config.tell(&opened.about); err != nil {
+		if err := m.config.tell(&opened.about, m.asked.Marker); err != nil {
 			return nil, err
 		}
 	}

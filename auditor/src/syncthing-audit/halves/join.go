@@ -54,7 +54,7 @@ func joinHeads(records, half *part.Head) (*part.Head, error) {
 		if from == nil {
 			return nil, fmt.Errorf("the observer looked at folder %s, whose directory wasn't walked: walk it, too", shell.Folder(to.ID, to.Label))
 		}
-		to.Path, to.Directory, to.Ignores = from.Path, from.Directory, from.Ignores
+		to.Path, to.Directory, to.Marker, to.Ignores = from.Path, from.Directory, from.Marker, from.Ignores
 		if from.Kind == "" { // its configuration wasn't read
 			continue
 		}

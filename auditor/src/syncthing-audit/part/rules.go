@@ -79,6 +79,9 @@ func checkFolder(folder *Folder, isOverWire bool) error {
 	if folder.TimeWindow < 0 || folder.TimeWindow > math.MaxInt32 {
 		return errors.New("its window for times is none")
 	}
+	if folder.Marker != "" && limits.CheckName(folder.Marker) != nil {
+		return fmt.Errorf("its marker is %q", folder.Marker)
+	}
 	if isOverWire && (folder.Rest == nil) != (folder.Options == nil) {
 		return errors.New("what Syncthing itself was asked of it is told in part")
 	}

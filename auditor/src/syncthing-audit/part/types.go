@@ -10,6 +10,7 @@ import (
 
 	"syncthing-audit/bep"
 	"syncthing-audit/choice"
+	"syncthing-audit/limits"
 	"syncthing-audit/shell"
 )
 
@@ -123,13 +124,25 @@ func (o *Other) WhatToDo() string {
 // ResetDeltas has a device and the others tell each other all changes anew.
 const ResetDeltas = "start it there once by 'syncthing serve --reset-deltas', as the same user and with the same --home, --config and --data as ever"
 
+// UsualMarker is the name in a folder's directory by which Syncthing knows that the disk is there, if nothing else is configured.
+const UsualMarker = ".stfolder"
+
+// MarkerOf gives what a part says of a marker: nothing of the usual one, and of one that no name has.
+func MarkerOf(configured string) string {
+	if configured == UsualMarker || limits.CheckName(configured) != nil {
+		return ""
+	}
+	return configured
+}
+
 // Folder is a folder at the device.
 type Folder struct {
 	ID                 string    `json:"id"`
 	Label              string    `json:"label,omitempty"`
-	Kind               string    `json:"kind"`           // as in a check document, or 'encrypted'
-	Path               string    `json:"path,omitempty"` // nothing where the part tells no paths
-	Directory          string    `json:"directory"`      // the same for one directory of one machine alone
+	Kind               string    `json:"kind"`             // as in a check document, or 'encrypted'
+	Path               string    `json:"path,omitempty"`   // nothing where the part tells no paths
+	Directory          string    `json:"directory"`        // the same for one directory of one machine alone
+	Marker             string    `json:"marker,omitempty"` // the name in the directory by which Syncthing knows it, where that isn't UsualMarker
 	IndexID            uint64    `json:"index_id,string"`
 	Max                int64     `json:"max"`
 	IgnoresPermissions bool      `json:"ignores_permissions,omitempty"`

@@ -120,6 +120,32 @@ func TestWhatScriptsRefuse(t *testing.T) {
 	}
 }
 
+// A folder's directory is known by the marker that is configured on its device, whatever characters it has.
+func TestScriptsOfAFolderWithAnotherMarker(t *testing.T) {
+	deletes := []*outlook.Plan{{Names: []part.Bytes{"a"}, Count: 1, Steps: []outlook.Step{{Act: outlook.Delete, Device: ids[0]}}}}
+	for _, marker := range []string{"my marker", "it's", "a/b", "\x1b[2J", ""} {
+		told := summaryOf(deletes)
+		told.Folders[0].Devices = []summary.Member{{Device: ids[1], Marker: "another"}, {Device: ids[0], Marker: marker}}
+		one := Of(told, time.Now())[0]
+		if strings.Contains(one.Text, "\x1b") {
+			t.Errorf("%q stands there raw", marker)
+		}
+		if marker == "" {
+			marker = ".stfolder"
+		}
+		here := &disks{t, t.TempDir()}
+		run(t, "mkdir", "-p", here.at(ids[0], "a"), here.at(ids[0], "another"))
+		path := here.filled(t, one, here.folder)
+		if said, err := exec.Command("sh", path).CombinedOutput(); err == nil || !strings.Contains(string(said), "has no "+marker+",") {
+			t.Errorf("%q: %v: %s", marker, err, said)
+		}
+		run(t, "mkdir", "-p", here.at(ids[0], marker))
+		if run(t, "sh", path); isThere(here.at(ids[0], "a")) {
+			t.Errorf("%q: nothing was done", marker)
+		}
+	}
+}
+
 // What stands on another machine comes by rsync, which is handed each name as one word.
 func TestScriptsThatCopyFromAMachine(t *testing.T) {
 	here := &disks{t, t.TempDir()}

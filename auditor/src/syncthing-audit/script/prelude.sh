@@ -6,7 +6,7 @@ is_there() { [ -e "$1" ] || [ -L "$1" ]; }
 # What is asked above.
 check_folder() {
   case $1 in /*) ;; *) fail "say at the top where $2 is, by a path from /" ;; esac
-  [ -e "$1/.stfolder" ] || fail "$1 has no .stfolder, so it isn't a folder of Syncthing"
+  [ -e "$1/$3" ] || fail "$1 has no $3, so it isn't that folder of Syncthing"
   case $aside/ in "$1"/*) fail "'aside' is within $1: name a directory outside" ;; esac
 }
 check_source() {

@@ -140,11 +140,7 @@ func (s *script) wordOf(name string, number int) string {
 	if shell.CanBeTyped(name) {
 		return shell.Exact(name)
 	}
-	var octal strings.Builder
-	for place := 0; place < len(name); place++ {
-		fmt.Fprintf(&octal, `\0%03o`, name[place])
-	}
-	fmt.Fprintf(&s.steps, "name_%d=$(printf '%%b.' '%s') # %s\nname_%d=${name_%d%%.}\n", number, octal.String(), shell.Quoted(name), number, number)
+	fmt.Fprintf(&s.steps, "name_%d=$(printf '%%b.' '%s') # %s\nname_%d=${name_%d%%.}\n", number, octal(name), shell.Quoted(name), number, number)
 	return fmt.Sprintf(`"$name_%d"`, number)
 }
 
@@ -184,4 +180,13 @@ func (w *writing) nameOf(at of) string {
 		name = w.called(at.device)
 	}
 	return fmt.Sprintf("%d-%.40s-%.7s.sh", at.round, strings.Map(isOther, name), at.device)
+}
+
+// octal gives a text byte by byte, as printf reads it.
+func octal(text string) string {
+	var made strings.Builder
+	for place := 0; place < len(text); place++ {
+		fmt.Fprintf(&made, `\0%03o`, text[place])
+	}
+	return made.String()
 }

@@ -4,6 +4,7 @@ import (
 	"fmt"
 	"strings"
 
+	"syncthing-audit/part"
 	"syncthing-audit/print"
 	"syncthing-audit/shell"
 	"syncthing-audit/summary"
@@ -37,7 +38,7 @@ func (w *writing) text(at of) string {
 	line("")
 	line("check_all")
 	for place, folder := range script.folders {
-		line("check_folder \"$folder_%d\" %s", place+1, shell.Exact(folderOf(folder)))
+		line("check_folder \"$folder_%d\" %s %s", place+1, shell.Exact(folderOf(folder)), markerOf(folder, at.device))
 	}
 	for place, source := range script.sources {
 		line("check_source \"$source_%d\" %s", place+1, shell.Exact(w.sourceOf(source)))
@@ -47,6 +48,20 @@ func (w *writing) text(at of) string {
 	line("")
 	line("printf '%%s\\n' %s", shell.Exact(w.next(at)))
 	return text.String()
+}
+
+// markerOf gives a word for the name in the folder's directory on a device by which Syncthing knows it.
+func markerOf(folder *summary.Folder, device string) string {
+	marker := part.UsualMarker
+	for _, member := range folder.Devices {
+		if member.Device == device && member.Marker != "" {
+			marker = member.Marker
+		}
+	}
+	if shell.CanBeTyped(marker) {
+		return shell.Exact(marker)
+	}
+	return `"$(printf '%b' '` + octal(marker) + `')"`
 }
 
 func folderOf(folder *summary.Folder) string { return shell.Folder(folder.ID, folder.Label) }

@@ -30,8 +30,8 @@ audit=20261130T020405Z
 PRELUDE
 
 check_all
-check_folder "$folder_1" 'docs (Papers)'
-check_folder "$folder_2" 'more'
+check_folder "$folder_1" 'docs (Papers)' '.stfolder'
+check_folder "$folder_2" 'more' '.stfolder'
 check_source "$source_1" 'docs (Papers) of pc'
 check_source "$source_2" 'more of phone'
 prepare
@@ -62,7 +62,7 @@ audit=20261130T020405Z
 PRELUDE
 
 check_all
-check_folder "$folder_1" 'docs (Papers)'
+check_folder "$folder_1" 'docs (Papers)' '.stfolder'
 check_source "$source_1" 'docs (Papers) of nas'
 prepare
 

@@ -125,7 +125,8 @@ type Folder struct {
 type Member struct {
 	Device string `json:"device"`
 	Kind   string `json:"kind"`
-	Path   string `json:"path,omitempty"` // where the part tells it
+	Path   string `json:"path,omitempty"`   // where the part tells it
+	Marker string `json:"marker,omitempty"` // by which Syncthing knows the directory, where that isn't the usual one
 
 	Indexed       int64    `json:"names_in_index,omitempty"` // whichever were asked for
 	Paused        bool     `json:"paused,omitempty"`
@@ -146,7 +147,7 @@ func memberOf(member join.Member) Member {
 	told := Member{Device: member.Head.Device, Kind: kindOf(member), OverWire: overWireOf(member)}
 	if member.About != nil {
 		told.Path, told.Indexed, told.Paused, told.PausedDevices = member.About.Path, member.About.Indexed, member.About.Paused, member.About.PausedDevices
-		told.Writers, told.Window, told.Near = member.About.Writers, member.About.TimeWindow, member.Near
+		told.Marker, told.Writers, told.Window, told.Near = member.About.Marker, member.About.Writers, member.About.TimeWindow, member.Near
 		if member.About.Options != nil {
 			told.Versions = member.About.Options.Versions
 		}
