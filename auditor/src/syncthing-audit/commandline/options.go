@@ -163,7 +163,7 @@ func checkFlags(command string, given *flag.FlagSet) error {
 }
 
 // flagOfGo is a flag as Go's package names it: with one dash, however it was written.
-var flagOfGo = regexp.MustCompile(`(^|\s)-([a-z][a-z-]+)`)
+var flagOfGo = regexp.MustCompile(`(^|\s)-([A-Za-z][A-Za-z-]+)`)
 
 // WrongFlag says what is wrong with a flag of a command, which is named as the help does.
 func WrongFlag(command string, err error) error {

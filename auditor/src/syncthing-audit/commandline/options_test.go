@@ -85,6 +85,8 @@ func TestWrongWords(t *testing.T) {
 		"check --jobs":              "--jobs needs a word behind it",
 		"check -folder":             "--folder needs a word behind it",
 		"check --odd":               "there is no flag --odd",
+		"check --Home x":            "there is no flag --Home",
+		"check -X":                  "there is no flag -X",
 		"check --after x":           "check has no flag --after",
 		"check --into x":            "check has no flag --into",
 		"check --still 1":           "check has no flag --still",
