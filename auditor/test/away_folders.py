@@ -79,7 +79,8 @@ class AwayFolders(Exporting):
             part = run([self.program, "part", "--strict", "--home", self.two.home, "-o", self.room / "none.part"])
         finally:
             self.pause(self.two, True)
-        why = f"{OTHER} ({LABEL}) of {self.two.id}: there is no {self.files}: mount its disk, and audit again. Syncthing has stopped the folder there\n"
+        why = (f"{OTHER} ({LABEL}) of {self.two.id}: there is no {self.files}: mount its disk, and audit again. Syncthing has stopped the folder there, "
+               "unless it runs in a container: then --map says where its directory is\n")
         self.assertEqual((ran.returncode, ran.stdout.count(f"left out: {why}")), (6, 1), ran.stdout)
         self.assertRegex(ran.stdout, rf"(?m)^{FOLDER}: .*{IN_STEP}[;,] ")
         self.assertEqual((strict.returncode, strict.stdout), (2, ""))

@@ -119,7 +119,7 @@ class OwnData(Unsure):
         self.two.scan()
         self.two.stop()
         before = (self.two.home / "config.xml").read_bytes()
-        self.assertRegex(self.told("--leave-out", "changing")[1], f"written by others: {FOLDER} by Syncthing's own config.xml, .* on {self.two.id[:7]}: ")
+        self.assertRegex(self.told("--leave-out", "changing")[1], f"not known to be firm: {FOLDER} on {self.two.id[:7]}: Syncthing writes and deletes in its directory for Syncthing's own config.xml, .*, too")
         self.start()
         self.two.api("PATCH", "config/options", {"reconnectionIntervalS": 7})
         wait_until("the configuration is written", lambda: (self.two.home / "config.xml").read_bytes() != before)

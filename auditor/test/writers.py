@@ -24,22 +24,21 @@ class OldVersionsInside(Exporting):
         cls.scan_and_wait()
 
     def test_what_is_cleaned_is_deleted_everywhere(self):
-        """Nobody touches a file of a firm folder, and real Syncthing deletes one on all devices. The answer says that it may."""
-        self.assertNotIn("written by others", self.told())
+        """Nobody touches a file of a firm folder, and real Syncthing deletes one on all devices. So the folder isn't known to be firm."""
+        self.assertIn(IN_STEP, self.told(0))
         self.two.keep_versions("trashcan", "old", seconds=5, cleanoutDays="1")
-        self.assertIn(f"written by others: docs by the old versions of docs on {self.two.id[:7]}: Syncthing writes and deletes in its directory",
-                      self.told())
-        self.assertIn(IN_STEP, self.told())
+        self.assertIn(f"not known to be firm: docs on {self.two.id[:7]}: Syncthing writes and deletes in its directory for the old versions of docs, too. ",
+                      self.told(6))
         self.start()
         wait_until("old versions are cleaned", lambda: not (self.two.files / "old" / "letter").exists())
         self.two.scan()
         wait_until("the other device has deleted it, too", lambda: not (self.one.files / "old" / "letter").exists())
         self.stop()
 
-    def told(self):
-        """What a person reads, in one line."""
+    def told(self, status):
+        """What a person reads with this status, in one line."""
         ran = self.on_homes("check", [device.home for device in self.devices], "--syncaudit", self.auditor)
-        self.assertEqual(ran.returncode, 0, ran.stdout + ran.stderr)
+        self.assertEqual(ran.returncode, status, ran.stdout + ran.stderr)
         return " ".join(ran.stdout.split())
 
 

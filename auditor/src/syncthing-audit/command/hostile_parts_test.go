@@ -16,7 +16,7 @@ func headOfHostile(device byte) *part.Head {
 	return &part.Head{Version: part.FirstVersion, Device: idOf(device), Name: "laptop", Runs: "v9.9.9", Made: time.Unix(0, 0).UTC(),
 		Index: &part.Index{Written: time.Unix(1, 0), Configured: time.Unix(2, 0)},
 		Newer: &part.Newer{Path: "/srv/data", Read: time.Unix(1, 0), Written: time.Unix(2, 0)},
-		Folders: []part.Folder{{ID: "docs", Label: "Documents", Kind: "send-receive", Path: "/srv/docs", Directory: idOf(device) + "docs", IndexID: uint64(device), Max: 99,
+		Folders: []part.Folder{{ID: "docs", Label: "Documents", Kind: "send-receive", Path: "/srv/docs", Directory: idOf(device) + "docs", Marker: ".mark", IndexID: uint64(device), Max: 99,
 			Sharing: []part.Sharing{{Device: other, Name: "server"}}, Views: []part.View{{Device: other, IndexID: uint64(3 - device), Max: 99}},
 			Paused: true, PausedDevices: []string{other}, Writers: []string{"versions of pics"},
 			Options: &part.Options{MaxConflicts: 10, Versions: &part.Versions{Kind: part.VersionsStaggered, Place: "/srv/old"}}}},

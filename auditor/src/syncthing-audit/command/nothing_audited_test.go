@@ -57,6 +57,7 @@ func partsOf(t *testing.T, isOfLooks bool, names choice.Names, all [][2]*part.Na
 				own = append(own, &name)
 			}
 			written.Head.Names, written.Head.Folders[0].Paused, written.Head.Folders[0].PausedDevices = names, false, nil
+			written.Head.Folders[0].Writers = nil
 			written.Head.Others, written.Head.Version = []part.Other{}, written.Head.DueVersion()
 			written.Lines = linesOf(own...)
 		}

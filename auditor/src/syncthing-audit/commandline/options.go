@@ -13,6 +13,7 @@ import (
 	"syncthing-audit/choice"
 	"syncthing-audit/device"
 	"syncthing-audit/process"
+	"syncthing-audit/shell"
 	"syncthing-audit/summary"
 )
 
@@ -100,7 +101,10 @@ func Read(name string, words []string, flagsOf func(*flag.FlagSet, *Options)) (O
 	flags.SetOutput(io.Discard)
 	flags.Var((*List)(&read.Homes), "home", "")
 	flags.Var((*List)(&read.Folders), "folder", "")
-	flags.StringVar(&read.Names.Prefix, "names", "", "")
+	flags.Func("names", "", func(word string) error {
+		read.Names.Prefix = shell.Named(word)
+		return nil
+	})
 	flags.Var(choice.SliceFlag{Names: &read.Names}, "slice", "")
 	flags.IntVar(&read.Jobs, "jobs", runtime.NumCPU(), "")
 	flagsOf(flags, &read)
@@ -159,7 +163,7 @@ func checkFlags(command string, given *flag.FlagSet) error {
 }
 
 // flagOfGo is a flag as Go's package names it: with one dash, however it was written.
-var flagOfGo = regexp.MustCompile(`(^|\s)-([a-z][a-z-]+)`)
+var flagOfGo = regexp.MustCompile(`(^|\s)-([A-Za-z][A-Za-z-]+)`)
 
 // WrongFlag says what is wrong with a flag of a command, which is named as the help does.
 func WrongFlag(command string, err error) error {

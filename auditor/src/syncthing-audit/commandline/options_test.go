@@ -70,6 +70,14 @@ func TestDefaults(t *testing.T) {
 	}
 }
 
+// Names that begin with a dash are asked for as an answer gives them.
+func TestNamesThatBeginWithADash(t *testing.T) {
+	read, err := Read("check", []string{"--names", "./-a", "x.part"}, allFlags)
+	if err != nil || read.Names.Prefix != "-a" {
+		t.Errorf("%+v, %v", read.Names, err)
+	}
+}
+
 // What is wrong with words is told in the words of the help, with two dashes, and nothing of them is taken.
 func TestWrongWords(t *testing.T) {
 	for words, told := range map[string]string{
@@ -77,6 +85,8 @@ func TestWrongWords(t *testing.T) {
 		"check --jobs":              "--jobs needs a word behind it",
 		"check -folder":             "--folder needs a word behind it",
 		"check --odd":               "there is no flag --odd",
+		"check --Home x":            "there is no flag --Home",
+		"check -X":                  "there is no flag -X",
 		"check --after x":           "check has no flag --after",
 		"check --into x":            "check has no flag --into",
 		"check --still 1":           "check has no flag --still",

@@ -25,7 +25,7 @@ func TestFoldersThatAreAway(t *testing.T) {
 		{"empty", "/empty has no .stfolder, by which Syncthing knows the folder", "is its disk mounted? Without the marker Syncthing stops the folder, too", false},
 		{"unmarked", "/unmarked has no .stfolder, by which Syncthing knows the folder",
 			"other things are there. If its disk is mounted, pause the folder, put the marker back, and audit again before the folder goes on", true},
-		{"nowhere", "there is no " + room + "/nowhere", "is its disk mounted? --folder chooses other folders", false},
+		{"nowhere", "there is no " + room + "/nowhere", "is its disk mounted? If Syncthing runs in a container, --map says where its directory is. --folder chooses other folders", false},
 	} {
 		folder := config.FolderConfiguration{ID: "docs", Path: filepath.Join(room, one.name), MarkerName: ".stfolder"}
 		err := CheckPath(folder)

@@ -57,7 +57,7 @@ func TestAFolderThatIsNotThere(t *testing.T) {
 	for path, told := range map[string]string{
 		empty:                           empty + " has no .stfolder, by which Syncthing knows the folder: is its disk mounted?",
 		"~/nowhere":                     "there is no " + empty + "/nowhere (~/nowhere in config.xml, and ~ is that of the user who runs this): is its",
-		filepath.Join(empty, "nowhere"): "there is no " + empty + "/nowhere: is its disk mounted? --folder chooses other folders",
+		filepath.Join(empty, "nowhere"): "there is no " + empty + "/nowhere: is its disk mounted? If Syncthing runs in a container, --map says where its directory is. --folder chooses other folders",
 	} {
 		folder := config.FolderConfiguration{ID: "docs", Path: path, MarkerName: ".stfolder"}
 		_, err := (&Home{}).Index(folder)

@@ -107,6 +107,9 @@ func pathFault(folder config.FolderConfiguration, err error) error {
 		return fmt.Errorf("folder %s: %s: %w", folder.ID, adapt.Filesystem(folder.Filesystem, nil).URI(), err)
 	}
 	toDo := "is its disk mounted?"
+	if errors.Is(err, config.ErrPathMissing) {
+		toDo += " If Syncthing runs in a container, " + part.MapIt + "."
+	}
 	if IsUnmarked(folder) {
 		toDo = part.MarkAgain + "."
 	}

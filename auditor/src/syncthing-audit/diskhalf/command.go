@@ -40,7 +40,10 @@ func ReadCommand(words []string, more func(*flag.FlagSet, *Command)) (*Command, 
 	flags.SetOutput(io.Discard)
 	flags.Var((*after)(&command.Asked), "after", "")
 	flags.Var((*blockSizes)(&command.BlockSizes), "block-size", "")
-	flags.StringVar(&command.Names.Prefix, "names", "", "")
+	flags.Func("names", "", func(word string) error {
+		command.Names.Prefix = shell.Named(word)
+		return nil
+	})
 	flags.Var(choice.SliceFlag{Names: &command.Names}, "slice", "")
 	flags.StringVar(&command.Marker, "marker", command.Marker, "")
 	flags.BoolVar(&command.Paths, "paths", false, "")

@@ -60,6 +60,7 @@ func TestEachThingThatMakesAnAnswerPartial(t *testing.T) {
 		{"a busy device", func(a *Answer) { busy(a) }, true, true, true, NotKnown, "1 busy: Syncthing was never seen idle between the looks: it was 'scanning'"},
 		{"what is to be ignored", func(a *Answer) { a.Folders[0].Members[1].ToIgnore = 1 }, true, true, true, NotKnown, "2 to-ignore: 1 names"},
 		{"links elsewhere", func(a *Answer) { a.Folders[0].Members[0].Linked.Names = 1 }, true, true, true, NotKnown, "1 linked: 1 names"},
+		{"what else writes", func(a *Answer) { a.Folders[0].Members[1].About.Writers = []string{"folder x", "folder y"} }, true, true, true, NotKnown, "2 writers: folder x, folder y"},
 		{"an older program that counts no links", func(a *Answer) { a.Folders[0].Members[0].Linked = nil }, false, false, true, IsFirm, ""},
 		{"a device over the wire", func(a *Answer) {
 			a.Folders[0].Members[1].Head.Wire, a.Folders[0].Members[1].Unseen = &part.Wire{}, join.Unseen{Standing: 3, Unread: 4}

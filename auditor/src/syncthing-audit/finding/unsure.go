@@ -1,13 +1,16 @@
 package finding
 
-import "fmt"
+import (
+	"fmt"
+	"strings"
+)
 
 // Unsure is something at a device that may change a folder which is in step under one version, and that no row says. So the folder isn't known
 // to be firm.
 type Unsure struct {
 	Device string   `json:"device"`
 	Kind   string   `json:"kind"`
-	Why    string   `json:"why"`             // in words, of Busy and Wanted
+	Why    string   `json:"why"`             // in words, of Busy, Wanted and Writers
 	Names  int64    `json:"names,omitempty"` // of the others: at how many names
 	Unread int64    `json:"-"`               // of OverWire: how many files' bytes weren't asked for
 	Asked  bool     `json:"-"`               // of OverWire: whether Syncthing itself said what kind of folder it is, and what it does there
@@ -20,16 +23,17 @@ const (
 	Busy     = "busy"          // what a scan has found may wait in Syncthing's memory
 	Wanted   = "wanted"        // Syncthing says that it still needs names, or fails at some
 	ToIgnore = "to-ignore"     // .stignore has come to ignore directories that the index has
+	Writers  = "writers"       // something else of Syncthing writes into the directory
 	Linked   = "linked"        // files have links elsewhere: another folder may change their times and modes
 	OverWire = "over-the-wire" // the device was asked over the wire, where not all is seen
 )
 
 // KindsOfUnsure are all of these, in the order in which they are told.
-var KindsOfUnsure = []string{Waits, Busy, Wanted, ToIgnore, Linked, OverWire}
+var KindsOfUnsure = []string{Waits, Busy, Wanted, ToIgnore, Writers, Linked, OverWire}
 
 // Words says in words what it is.
 func (u *Unsure) Words() string {
-	if u.Kind == Busy || u.Kind == Wanted {
+	if u.Kind == Busy || u.Kind == Wanted || u.Kind == Writers {
 		return u.Kind + ": " + u.Why
 	}
 	if u.Kind == OverWire {
@@ -65,6 +69,9 @@ func (f *Folder) Unsure() []Unsure {
 		}
 		if at.ToIgnore > 0 {
 			unsure = append(unsure, Unsure{Device: device, Kind: ToIgnore, Names: at.ToIgnore})
+		}
+		if len(at.About.Writers) > 0 {
+			unsure = append(unsure, Unsure{Device: device, Kind: Writers, Why: strings.Join(at.About.Writers, ", ")})
 		}
 		if at.Linked != nil && at.Linked.Names > 0 {
 			unsure = append(unsure, Unsure{Device: device, Kind: Linked, Names: at.Linked.Names})

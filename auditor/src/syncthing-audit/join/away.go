@@ -38,8 +38,11 @@ func WhyAway(other part.Other) string {
 		return other.Apart
 	}
 	why := shell.Printable(other.Away) + ": " + other.WhatToDo()
-	if other.IsStopped {
+	switch {
+	case !other.IsStopped:
+		return "it is paused there, and " + why
+	case other.IsUnmarked:
 		return why + ". Syncthing has stopped the folder there"
 	}
-	return "it is paused there, and " + why
+	return why + ". Syncthing has stopped the folder there, unless it runs in a container: then " + part.MapIt
 }

@@ -71,10 +71,10 @@ func TestWhatToDoAboutAFolderThatIsAway(t *testing.T) {
 	const again = "other things are there. If its disk is mounted, pause the folder, put the marker back, and audit again before the folder goes on: " +
 		"what is missing there, Syncthing then deletes elsewhere. If it isn't mounted, mount it, and audit again"
 	for told, other := range map[string]part.Other{
-		"it is paused there, and " + gone + ": mount its disk, and audit again":            {Away: gone},
-		gone + ": mount its disk, and audit again. Syncthing has stopped the folder there": {Away: gone, IsStopped: true},
-		"it is paused there, and " + marked + ": " + again:                                 {Away: marked, IsUnmarked: true},
-		marked + ": " + again + ". Syncthing has stopped the folder there":                 {Away: marked, IsStopped: true, IsUnmarked: true},
+		"it is paused there, and " + gone + ": mount its disk, and audit again":                                                                                   {Away: gone},
+		gone + ": mount its disk, and audit again. Syncthing has stopped the folder there, unless it runs in a container: then --map says where its directory is": {Away: gone, IsStopped: true},
+		"it is paused there, and " + marked + ": " + again:                                                                                                        {Away: marked, IsUnmarked: true},
+		marked + ": " + again + ". Syncthing has stopped the folder there":                                                                                        {Away: marked, IsStopped: true, IsUnmarked: true},
 		"it changed meanwhile": {Away: marked, IsUnmarked: true, Apart: "it changed meanwhile"},
 	} {
 		if is := WhyAway(other); is != told {

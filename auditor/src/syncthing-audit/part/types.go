@@ -113,6 +113,9 @@ type Other struct {
 const MarkAgain = "other things are there. If its disk is mounted, pause the folder, put the marker back, and audit again before the folder goes on: " +
 	"what is missing there, Syncthing then deletes elsewhere. If it isn't mounted, mount it"
 
+// MapIt says how a folder's directory is found that Syncthing has at another path than this machine.
+const MapIt = "--map says where its directory is"
+
 // WhatToDo says what to do about a folder that is away.
 func (o *Other) WhatToDo() string {
 	if o.IsUnmarked {

@@ -24,9 +24,9 @@ func wantedOf(asked commandline.Options) ([]history.Reading, error) {
 		return nil, err
 	}
 	defer kept.Close()
-	wanted, err := kept.Wanted(asked.Folders[0], asked.Parts[0])
+	wanted, err := kept.Wanted(asked.Folders[0], shell.Named(asked.Parts[0]))
 	if err == nil && len(wanted) == 0 {
-		err = fmt.Errorf("refused: the history has no bytes of %s in %s", shell.Quoted(asked.Parts[0]), asked.Folders[0])
+		err = fmt.Errorf("refused: the history has no bytes of %s in %s", shell.Path(shell.Named(asked.Parts[0])), asked.Folders[0])
 	}
 	return wanted, err
 }
@@ -45,7 +45,7 @@ func find(asked commandline.Options, wanted []history.Reading, output, log io.Wr
 		}
 	}
 	outside.Printf(log, "syncthing-audit: %s of %s in %s: %s of that size read, %d not looked at\n", amount.Of(search.found, "file"),
-		"the bytes that were read of "+shell.Quoted(asked.Parts[0]), asked.Folders[0], amount.Of(search.read, "file"), search.unread)
+		"the bytes that were read of "+shell.Path(shell.Named(asked.Parts[0])), asked.Folders[0], amount.Of(search.read, "file"), search.unread)
 	switch {
 	case search.found > 0:
 		return exit.Done, nil

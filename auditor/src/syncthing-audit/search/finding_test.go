@@ -66,6 +66,7 @@ func TestTheBytesOfAHistoryAreFound(t *testing.T) {
 			refusal               string
 		}{
 			{"f", "docs", directory, filepath.Join(room, "old/f.bak") + "\n", ""},
+			{"./f", "docs", directory, filepath.Join(room, "old/f.bak") + "\n", ""},
 			{"g", "docs", directory, "", "refused: the history has no bytes of g in docs"},
 			{"f", "photos", directory, "", "refused: the history has no bytes of f in photos"},
 			{"f", "docs", filepath.Join(room, "none"), "", "refused: there is no history"},

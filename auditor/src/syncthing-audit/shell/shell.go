@@ -30,6 +30,14 @@ func Path(name string) string {
 	return Quoted(name)
 }
 
+// Named gives the name of a file that a word of a command stands for: none begins with a dot and a slash but one that Path gave these.
+func Named(word string) string {
+	if rest := strings.TrimPrefix(word, "./"); rest != "" {
+		return rest
+	}
+	return word
+}
+
 // Quoted gives a text as one word that moves no terminal's cursor.
 func Quoted(name string) string {
 	switch {

@@ -17,6 +17,15 @@ func TestPrintable(t *testing.T) {
 	}
 }
 
+// A name is read as an answer gives it.
+func TestNamed(t *testing.T) {
+	for word, name := range map[string]string{"./-a": "-a", "-a": "-a", "a/b": "a/b", ".": ".", "./": "./", ".a": ".a", "./a": "a"} {
+		if read := Named(word); read != name {
+			t.Errorf("%s: %s", word, read)
+		}
+	}
+}
+
 func TestPath(t *testing.T) {
 	for name, quoted := range map[string]string{"-rf": "./-rf", "-r f": "'./-r f'", "a/-rf": "a/-rf", "-\n": `'[not-for-typing:./-\x0a]'`, "`a`$b": "'`a`$b'"} {
 		if Path(name) != quoted {

@@ -72,8 +72,8 @@ func folderIf(is bool, folder *Folder, more string) []string {
 }
 
 // members prints what is so of folders on devices: how many names Syncthing takes for its temporary files, some of which may be a user's own. Which folders are
-// shared with nobody: no other device was asked about these. Which folders and devices are paused where, what Syncthing says there, and where Syncthing itself
-// writes into a folder's directory, so that a scan finds changes that nobody made. And of how many files it takes another time for the recorded one.
+// shared with nobody: no other device was asked about these. Which folders and devices are paused where, and what Syncthing says there. And of how many files
+// it takes another time for the recorded one.
 func (p *printer) members(s *Summary) {
 	p.ofMembers(s, "outside %s on %s, which Syncthing takes for its temporary files ('.syncthing.*', '~syncthing~*'): it never sends such names, "+
 		"and its scans delete such files once they are a day old, or as 'keepTemporariesH' says", func(folder *Folder, member *Member) []string {
@@ -91,10 +91,6 @@ func (p *printer) members(s *Summary) {
 	p.ofMembers(s, "paused: device %s on %s", func(_ *Folder, member *Member) []string { return p.Called.Each(member.PausedDevices) })
 	p.stopped(s)
 	p.asked(s)
-	p.ofMembers(s, "written by others: %s on %s: Syncthing writes and deletes in its directory for these, too. So it may not stay in step, nor firm",
-		func(folder *Folder, member *Member) []string {
-			return folderIf(len(member.Writers) > 0, folder, " by "+strings.Join(member.Writers, ", "))
-		})
 	p.ofMembers(s, "times taken for the same: in %s on %s: the time on the disk isn't the recorded one, and no scan there sees that (modTimeWindowS)",
 		func(folder *Folder, member *Member) []string {
 			return folderIf(member.Near > 0, folder, " "+counted(member.Near, "file", "files")+", by less than "+counted(member.Window, "second", "seconds")+",")

@@ -22,6 +22,8 @@ func whyUnsure(unsure finding.Unsure) string {
 		return "no scan has seen what stands there: " + countsOfWaiting(unsure.Waits.Names)
 	case finding.ToIgnore:
 		return counted(unsure.Names, "directory", "directories") + " in its index that .stignore ignores by now"
+	case finding.Writers:
+		return "Syncthing writes and deletes in its directory for " + unsure.Why + ", too"
 	case finding.Linked:
 		return counted(unsure.Names, "name stands for a file that has a name elsewhere, too (a hard link)",
 			"names stand for files that have names elsewhere, too (hard links)") + ": whoever sets time or mode there sets them here, as " +
@@ -38,6 +40,7 @@ var whatToDo = map[string]string{
 	finding.Busy:     "What a scan found may wait in its memory. Audit again once it is idle, or with a longer --still",
 	finding.Wanted:   "See its page there, and audit again once that is mended",
 	finding.ToIgnore: "Have Syncthing scan the folder, and audit again",
+	finding.Writers:  "A place elsewhere for these, or a line of .stignore that keeps them out, ends that",
 	finding.Linked:   "What the times and modes become isn't known. A copy in place of the link ends that",
 	finding.OverWire: "A walk of its disks (--disk) sees most of that, and an audit of the device itself all: its part, made while Syncthing is stopped there, or 'run'",
 }

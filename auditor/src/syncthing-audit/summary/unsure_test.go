@@ -29,6 +29,10 @@ func TestWhatMayChangeAFirmFolder(t *testing.T) {
 		}, "docs (Documents) on server: no scan has seen what stands there: 1 is MISSING, 1 is EMPTY. A scan may send that to all devices. Do first what"},
 		finding.ToIgnore: {func(folder *finding.Folder) { folder.Members[1].ToIgnore = 2 },
 			"docs (Documents) on server: 2 directories in its index that .stignore ignores by now. Have Syncthing scan"},
+		finding.Writers: {func(folder *finding.Folder) {
+			folder.Members[1].About.Writers = []string{"the old versions of docs", "folder photos"}
+		},
+			"docs (Documents) on server: Syncthing writes and deletes in its directory for the old versions of docs, folder photos, too. A place elsewhere"},
 		finding.Linked: {func(folder *finding.Folder) { folder.Members[1].Linked = &part.Count{Names: 1, Bytes: 5} },
 			"docs (Documents) on server: 1 name stands for a file that has a name elsewhere, too (a hard link): whoever"},
 	} {

@@ -159,7 +159,7 @@ func parse(text []byte) (*Config, error) {
 	config := &Config{}
 	decoder := xml.NewDecoder(bytes.NewReader(text))
 	if err := decoder.Decode(config); err != nil {
-		return config, err
+		return config, fmt.Errorf("this is no configuration of 'watch', which begins with <watch> and ends with </watch>: %w", err)
 	}
 	for {
 		token, err := decoder.Token()

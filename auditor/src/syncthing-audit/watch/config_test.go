@@ -36,6 +36,15 @@ func TestAConfigurationIsRead(t *testing.T) {
 	}
 }
 
+// A file that is no configuration at all is refused in words that say so.
+func TestWhatIsNoConfiguration(t *testing.T) {
+	for _, text := range []string{"", "junk", "<!-- nothing -->", "<watch>", "<other/>"} {
+		if _, err := parse([]byte(text)); err == nil || !strings.HasPrefix(err.Error(), "this is no configuration of 'watch', which begins with <watch> and ends with </watch>: ") {
+			t.Errorf("%q: %v", text, err)
+		}
+	}
+}
+
 // Each word that isn't known is refused, wherever it stands: a word that is passed over leaves a device out.
 func TestNoWordIsPassedOver(t *testing.T) {
 	for _, name := range []string{"watch", "device", "map", "parts", "observed", "folder", "slices", "budget", "state", "metrics", "page", "mail", "notify", "ping"} {
