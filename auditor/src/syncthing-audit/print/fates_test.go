@@ -72,7 +72,7 @@ func TestWhatBecomesOfAName(t *testing.T) {
 // Of a device that isn't audited it is told who shares the folder with it.
 func TestWhoSharesWithADeviceThatIsNotAudited(t *testing.T) {
 	of := &outlook.Outlook{Unknown: []outlook.Group{{Why: "device-left-out", Devices: at(2, 0)}}}
-	if told := WhyUnknown(of, nil, strings.ToLower); told != "a device that isn't audited shares the folder with laptop, phone; to know it, audit that device, too" {
+	if told := WhyUnknown(of, nil, strings.ToLower); told != "a device that isn't audited shares the folder with laptop, phone; to know it, audit that device, too, or unshare the folder with it if it is gone for good" {
 		t.Error(told)
 	}
 }

@@ -191,7 +191,7 @@ func whyUnknown(of *outlook.Group, devices string) string {
 
 // unknowns say why it isn't known what becomes of a name, and what is to be done for it to be known. Of what is left out nobody can say that.
 var unknowns = map[string]struct{ why, toKnow string }{
-	"device-left-out":  {"a device that isn't audited shares the folder", "audit that device, too"},
+	"device-left-out":  {"a device that isn't audited shares the folder", "audit that device, too, or unshare the folder with it if it is gone for good"},
 	"not-linked":       {"no way leads from one device to all others by those who share the folder with one another", "audit those who share the folder with both"},
 	"over-the-wire":    {"a device was seen over the wire, which doesn't show the times, modes and directories of its disk", "make a part on the device"},
 	"untried-version":  {"this version of Syncthing wasn't compared with the forecast", ""},
