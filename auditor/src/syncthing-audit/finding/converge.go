@@ -52,9 +52,9 @@ func (a *Answer) HowConverging(folder *Folder) Converging {
 	return Converges
 }
 
-// mayGetOtherRecords says whether something that no row tells may bring records to the folder beside those that it has: an index
-// that is to be repaired, a scan that records owners or attributes, other permissions on a disk, which a scan records as a change,
-// something else of Syncthing that writes into the folder's directory, or a file with several names: a time that is set at one of them is set at all.
+// mayGetOtherRecords says whether something that no row tells may bring records to the folder beside those that it has. An index that is to be repaired
+// does, and a scan that records owners, attributes or other permissions. So does something else of Syncthing that writes into the folder's directory, and
+// a file with several names: a time that is set at one of them is set at all.
 func (f *Folder) mayGetOtherRecords() bool {
 	return f.hasOtherPermissions() || slices.IndexFunc(f.Members, func(member join.Member) bool {
 		return member.Device != nil && member.About != nil && (member.Head.ToRepair || member.About.ScansAttributes || len(member.About.Writers) > 0 || member.Links > 0)

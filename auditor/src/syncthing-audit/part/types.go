@@ -10,7 +10,6 @@ import (
 
 	"syncthing-audit/bep"
 	"syncthing-audit/choice"
-	"syncthing-audit/limits"
 	"syncthing-audit/shell"
 )
 
@@ -126,17 +125,6 @@ func (o *Other) WhatToDo() string {
 
 // ResetDeltas has a device and the others tell each other all changes anew.
 const ResetDeltas = "start it there once by 'syncthing serve --reset-deltas', as the same user and with the same --home, --config and --data as ever"
-
-// UsualMarker is the name in a folder's directory by which Syncthing knows that the disk is there, if nothing else is configured.
-const UsualMarker = ".stfolder"
-
-// MarkerOf gives what a part says of a marker: nothing of the usual one, and of one that no name has.
-func MarkerOf(configured string) string {
-	if configured == UsualMarker || limits.CheckName(configured) != nil {
-		return ""
-	}
-	return configured
-}
 
 // Folder is a folder at the device.
 type Folder struct {
